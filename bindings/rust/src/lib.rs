@@ -1,0 +1,4 @@
+//! Safe bindings to Kajurnat.
+#![deny(missing_docs)]
+
+pub mod raw;

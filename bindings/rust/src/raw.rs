@@ -1,0 +1,152 @@
+//! The exported functions of the archive, one for one, on slices.
+//!
+//! Every function here is safe and total: it passes each slice as a pointer
+//! and a length and returns the number that the archive answers. The only
+//! `unsafe` code of this package is in this module. Most users want
+//! [`Card`](crate::Card) instead.
+
+/// The functions as the archive exports them. A slice is a pointer and a
+/// length.
+mod abi {
+    extern "C" {
+        pub fn kajurnat_card_bytes(members: u64) -> usize;
+
+        pub fn kajurnat_setup(
+            card: *mut u8,
+            card_len: usize,
+            members: u64,
+            queues: u64,
+            gets: u64,
+            sets: u64,
+            features: *const u8,
+            features_len: usize,
+        ) -> u8;
+
+        pub fn kajurnat_command(
+            card: *mut u8,
+            card_len: usize,
+            request: *const u8,
+            request_len: usize,
+            reply: *mut u8,
+            reply_len: usize,
+        ) -> usize;
+
+        pub fn kajurnat_reset_member(card: *mut u8, card_len: usize, member: u64) -> u8;
+
+        pub fn kajurnat_reset_card(card: *mut u8, card_len: usize) -> u8;
+
+        pub fn kajurnat_store(
+            card: *mut u8,
+            card_len: usize,
+            member: u64,
+            part_type: u16,
+            selector: u64,
+            value: *const u8,
+            value_len: usize,
+        ) -> u8;
+    }
+}
+
+/// The exact length of a card with this many members; 0 if `members` is not
+/// 1 to 16.
+#[must_use]
+pub fn card_bytes(members: u64) -> usize {
+    // SAFETY: the function takes a number only and reads no memory.
+    unsafe { abi::kajurnat_card_bytes(members) }
+}
+
+/// Makes `card` a fresh card and answers 0.
+///
+/// Answers 4 and fills `card` with zeros if a number is out of range, if
+/// `features` is not 16 bytes, or if `card` is not [`card_bytes`] long.
+#[must_use]
+pub fn setup(
+    card: &mut [u8],
+    members: u64,
+    queues: u64,
+    gets: u64,
+    sets: u64,
+    features: &[u8],
+) -> u8 {
+    // SAFETY: each pointer comes with the length of its slice, so it is
+    // non-null and valid for that many bytes (`card` for writes too). The
+    // borrow rules keep `card` apart from `features`. The archive keeps no
+    // pointer after the call.
+    unsafe {
+        abi::kajurnat_setup(
+            card.as_mut_ptr(),
+            card.len(),
+            members,
+            queues,
+            gets,
+            sets,
+            features.as_ptr(),
+            features.len(),
+        )
+    }
+}
+
+/// Carries out one command and returns the number of reply bytes written.
+///
+/// The bytes of `reply` past that number keep their values. Returns 0, with
+/// nothing written, if `card` is not sound or `reply` is under 8 bytes.
+#[must_use]
+pub fn command(card: &mut [u8], request: &[u8], reply: &mut [u8]) -> usize {
+    // SAFETY: each pointer comes with the length of its slice, so it is
+    // non-null and valid for that many bytes (`card` and `reply` for writes
+    // too). The borrow rules keep the three slices apart. The archive keeps
+    // no pointer after the call.
+    unsafe {
+        abi::kajurnat_command(
+            card.as_mut_ptr(),
+            card.len(),
+            request.as_ptr(),
+            request.len(),
+            reply.as_mut_ptr(),
+            reply.len(),
+        )
+    }
+}
+
+/// Makes one member fresh. Answers 0 done, 9 card not sound, 1 no such
+/// member.
+#[must_use]
+pub fn reset_member(card: &mut [u8], member: u64) -> u8 {
+    // SAFETY: the pointer comes with the length of its slice, so it is
+    // non-null and valid for reads and writes of that many bytes. The archive
+    // keeps no pointer after the call.
+    unsafe { abi::kajurnat_reset_member(card.as_mut_ptr(), card.len(), member) }
+}
+
+/// Makes the whole card fresh. Answers 0 done, 9 card not sound.
+#[must_use]
+pub fn reset_card(card: &mut [u8]) -> u8 {
+    // SAFETY: the pointer comes with the length of its slice, so it is
+    // non-null and valid for reads and writes of that many bytes. The archive
+    // keeps no pointer after the call.
+    unsafe { abi::kajurnat_reset_card(card.as_mut_ptr(), card.len()) }
+}
+
+/// Sets one part of one member, as the data path does.
+///
+/// `selector` is the eight selector bytes as a little-endian number. Answers
+/// 0 done, 9 card not sound, 1 no such member, 2 no such part (device
+/// features count so), 3 wrong length; refused, nothing is changed.
+#[must_use]
+pub fn store(card: &mut [u8], member: u64, part_type: u16, selector: u64, value: &[u8]) -> u8 {
+    // SAFETY: each pointer comes with the length of its slice, so it is
+    // non-null and valid for that many bytes (`card` for writes too). The
+    // borrow rules keep `card` apart from `value`. The archive keeps no
+    // pointer after the call.
+    unsafe {
+        abi::kajurnat_store(
+            card.as_mut_ptr(),
+            card.len(),
+            member,
+            part_type,
+            selector,
+            value.as_ptr(),
+            value.len(),
+        )
+    }
+}
