@@ -1,0 +1,51 @@
+-- The numbers of the answers: document 01, "Statuses, and which comes first". Assumes nothing.
+use mathlib.Core.Bool.{Bool}
+use Prim.Native.Nat.{ℕ}
+use lib.Dec.{eqb}
+use Rattle.protocol.specs.declared.Answer.{Answer}
+use Rattle.protocol.specs.declared.Answer.the-variants.{Done, BadLength, BadGroup, BadOpcode, NoMember, BadField, Exists, NotLive, NoRoom, WrongKind, Running, BadList, ShortReply}
+use Rattle.protocol.specs.declared.EventAnswer.{EventAnswer}
+use Rattle.protocol.specs.declared.EventAnswer.the-variants as event
+
+abbrev pub statusOf : Answer → ℕ
+statusOf Done = 0
+statusOf BadLength = 22
+statusOf BadGroup = 22
+statusOf BadOpcode = 22
+statusOf NoMember = 22
+statusOf BadField = 22
+statusOf Exists = 17
+statusOf NotLive = 6
+statusOf NoRoom = 28
+statusOf WrongKind = 22
+statusOf Running = 11
+statusOf BadList = 22
+statusOf ShortReply = 12
+
+abbrev pub qualifierOf : Answer → ℕ
+qualifierOf Done = 0
+qualifierOf BadLength = 1
+qualifierOf BadGroup = 4
+qualifierOf BadOpcode = 2
+qualifierOf NoMember = 5
+qualifierOf BadField = 3
+qualifierOf Exists = 1
+qualifierOf NotLive = 1
+qualifierOf NoRoom = 1
+qualifierOf WrongKind = 3
+qualifierOf Running = 7
+qualifierOf BadList = 3
+qualifierOf ShortReply = 6
+
+-- success is status 0
+abbrev pub isDone : Answer → Bool
+isDone a = eqb (statusOf a) 0
+
+-- "Card events and setup answer"
+abbrev pub eventNumber : EventAnswer → ℕ
+eventNumber event.Done = 0
+eventNumber event.NotSound = 9
+eventNumber event.NoMember = 1
+eventNumber event.NoPart = 2
+eventNumber event.WrongLength = 3
+eventNumber event.BadSetup = 4
