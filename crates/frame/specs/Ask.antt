@@ -1,0 +1,37 @@
+-- What a request asks: document 01, "Statuses, and which comes first", steps 2 to 7. It depends on the setup and the
+-- list in use, and on no member's record. Assumes nothing.
+use mathlib.Core.Bool.{Bool, not}
+use mathlib.Core.List.{List}
+use Prim.Native.Nat.{ℕ}
+use lib.Dec.{eqb}
+use lib.ListN.{length}
+use Rattle.theory.specs.Logic.{unless_answer_then_, _and_, _or_, within}
+use Rattle.protocol.specs.declared.Answer.the-variants.{BadLength, BadGroup, BadOpcode, NoMember}
+use Rattle.protocol.specs.Opcodes.{supported, bit, namesMember, lengthFits}
+use Rattle.frame.specs.declared.Ask.{Ask}
+use Rattle.frame.specs.declared.Ask.the-variants.{Refused}
+use Rattle.frame.specs.Frame.{opcodeOf, groupOf, targetOf, dataOf}
+use Rattle.frame.specs.Fields.{fieldsOf}
+
+-- step 4: supported and in use
+unfoldable pub usable : ℕ → ℕ → Bool
+usable inUse op = supported op and bit inUse op
+
+-- step 5: a command that names a member names one of 1 to N
+unfoldable pub reaches : ℕ → ℕ → ℕ → Bool
+reaches members op m = not (namesMember op) or within 1 members m
+
+-- steps 3 to 7, on the fields of the frame: the first that applies
+unfoldable pub framedOf : ℕ → ℕ → ℕ → ℕ → ℕ → ℕ → List ℕ → Ask
+framedOf members ids inUse group op m d =
+    unless eqb group 1 answer Refused BadGroup then  -- 3
+    unless usable inUse op answer Refused BadOpcode then  -- 4
+    unless reaches members op m answer Refused NoMember then  -- 5
+    unless lengthFits op (length d) answer Refused BadLength then  -- 6
+    fieldsOf ids m op d  -- 7
+
+-- steps 2 to 7, on the bytes of a request; ids is G + S
+unfoldable pub askOf : ℕ → ℕ → ℕ → List ℕ → Ask
+askOf members ids inUse r =
+    unless within 24 4096 (length r) answer Refused BadLength then  -- 2
+    framedOf members ids inUse (groupOf r) (opcodeOf r) (targetOf r) (dataOf r)
