@@ -1,0 +1,18 @@
+-- The header of a part: document 01, "The parts of a member". Assumes nothing.
+use mathlib.Core.List.{List, _∷_, _++_}
+use Prim.Native.Nat.{ℕ}
+use lib.Dec.{eqb}
+use Rattle.theory.specs.Logic.{one}
+use Rattle.wire.specs.Le.{bytes}
+use Rattle.inventory.specs.Inventory.{Row, deviceFeatures}
+
+abbrev pub headerSize : ℕ
+headerSize = 16
+
+-- "Only device features has flags 1; the others have 0"
+abbrev pub flagsOf : Row → ℕ
+flagsOf r = one (eqb (r .partType) deviceFeatures)
+
+-- type 2 bytes, flags 1, reserved 1, selector 8, length 4
+unfoldable pub headerOf : Row → List ℕ
+headerOf r = bytes 2 (r .partType) ++ (flagsOf r ∷ 0 ∷ (bytes 8 (r .selector) ++ bytes 4 (r .size)))

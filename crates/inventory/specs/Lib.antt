@@ -1,0 +1,2 @@
+pub mod Inventory
+pub mod Header
