@@ -1,3 +1,4 @@
 pub mod Logic
 pub mod Bytes
+pub mod Items
 pub mod Machine
