@@ -1,0 +1,42 @@
+-- The headers and the parts of a member as bytes: document 01, "Metadata" and "Parts get". Assumes nothing.
+use mathlib.Core.Bool.{Bool, true}
+use mathlib.Core.List.{List, [], _++_}
+use Prim.Native.Nat.{ℕ}
+use Rattle.theory.specs.Logic.{if_then_else_, _and_}
+use Rattle.theory.specs.Bytes.{part}
+use Rattle.theory.specs.Items.{itemsFrom}
+use Rattle.inventory.specs.Inventory.{rowAt, rowCount, offsetOf, present}
+use Rattle.inventory.specs.Header.{headerOf}
+use Rattle.parts.specs.declared.ListForm.the-variants.{Headers}
+use Rattle.parts.specs.List.{partsOf}
+use Rattle.parts.specs.Rules.{among}
+use Rattle.capture.specs.declared.Selection.{Selection}
+use Rattle.capture.specs.declared.Selection.the-variants.{All, Asked}
+
+-- the headers of the parts that a member has, in the order of the table
+unfoldable pub headerItem : ℕ → ℕ → List ℕ
+headerItem queues i = if present queues (rowAt i) then headerOf (rowAt i) else []
+
+unfoldable pub headersOf : ℕ → List ℕ
+headersOf queues = itemsFrom (headerItem queues) rowCount 0
+
+-- a part: the header and the value
+unfoldable pub partAt : List ℕ → ℕ → List ℕ
+partAt values i = headerOf (rowAt i) ++ part (offsetOf i) (rowAt i .size) values
+
+-- all parts, or those that the asked list names
+unfoldable pub asks : Selection → List ℕ → ℕ → Bool
+asks All list i = true
+asks Asked list i = among (rowAt i .partType) (rowAt i .selector) (partsOf Headers list)
+
+unfoldable pub partItem : Selection → ℕ → List ℕ → List ℕ → ℕ → List ℕ
+partItem selection queues list values i =
+    if present queues (rowAt i) and asks selection list i then partAt values i else []
+
+-- "Parts come in the order of the table below, not in the order asked"
+unfoldable pub partsWritten : Selection → ℕ → List ℕ → List ℕ → List ℕ
+partsWritten selection queues list values = itemsFrom (partItem selection queues list values) rowCount 0
+
+-- a full capture
+abbrev pub captureOf : ℕ → List ℕ → List ℕ
+captureOf queues values = partsWritten All queues [] values
