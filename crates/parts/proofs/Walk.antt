@@ -1,0 +1,106 @@
+-- The walk over a list of parts: where a found part lies, and the parts from a position as the step there and the
+-- parts after it. Assumes nothing.
+use mathlib.Core.Path.{_≡_, refl, ap, sym, _∙_}
+use mathlib.Core.Bool.{Bool, true, false}
+use mathlib.Core.List.{List, [], _∷_}
+use Prim.Native.Nat.{ℕ, zero, suc, _+_, _-_, _<_, _≤_}
+use native.Mathlib.Omega.{arith}
+use types.Run.{OneOf, miss}
+use denote.Enum.Declared.{tagOf}
+use lib.Dec.{leb, ltb}
+use lib.ListN.{length, length-drop}
+use lib.Seq.{length-take-le}
+use borrow.Author.Tests.{lt-ltb, le-ltb, le-leb, lt-leb, ltb-true, leb-true}
+use Rattle.theory.specs.Logic.{unless_answer_then_}
+use Rattle.theory.specs.Bytes.{part as bytesAt}
+use Rattle.parts.specs.declared.ListForm.{ListForm}
+use Rattle.parts.specs.declared.Step.{Step}
+use Rattle.parts.specs.declared.Step.the-variants as step
+use Rattle.parts.specs.List.{valueSize, headerAt, stepAt, Part, PartList, end, cut, part, partIn, onStep, atMost, partsFrom, partsOf}
+
+-- what a step says of the place where it stands
+module _ (form : ListForm) (l : List ℕ) (at : ℕ) where
+  pub step-end : length l ≤ at → stepAt form l at ≡ step.End
+  unfolding stepAt unless_answer_then_
+  step-end h = rw (le-ltb at (length l) h)
+
+  pub step-short : at < length l → length l - at < 16 → stepAt form l at ≡ step.Cut
+  unfolding stepAt unless_answer_then_
+  step-short h h′ = rw (lt-ltb at (length l) h, lt-leb 16 (length l - at) h′)
+
+  pub step-cut : at + 16 ≤ length l → length l - (at + 16) < valueSize form l at → stepAt form l at ≡ step.Cut
+  unfolding stepAt unless_answer_then_
+  step-cut h h′ =
+      let i : at < length l = omega arith in
+      let r : 16 ≤ length l - at = omega arith in
+      rw (lt-ltb at (length l) i, le-leb 16 (length l - at) r, lt-leb (valueSize form l at) (length l - (at + 16)) h′)
+
+  pub step-found : at + 16 ≤ length l → valueSize form l at ≤ length l - (at + 16) → stepAt form l at ≡ headerAt form l at
+  unfolding stepAt unless_answer_then_
+  step-found h h′ =
+      let i : at < length l = omega arith in
+      let r : 16 ≤ length l - at = omega arith in
+      rw (lt-ltb at (length l) i, le-leb 16 (length l - at) r, le-leb (valueSize form l at) (length l - (at + 16)) h′)
+
+-- a part that is found lies within the list
+pub record Within (l : List ℕ) (at start len : ℕ) : Type 0 where
+  pub starts : start ≡ at + 16
+  pub ends : start + len ≤ length l
+
+pub step-part : (form : ListForm) (l : List ℕ) (at : ℕ) {t f s start len : ℕ}
+    → stepAt form l at ≡ step.Part t f s start len → Within l at start len
+unfolding stepAt headerAt unless_answer_then_
+step-part form l at {t} {f} {s} {start} {len} e = cases _ _ _ refl refl refl e
+  where
+    cases : (b₁ b₂ b₃ : Bool) → ltb at (length l) ≡ b₁ → leb 16 (length l - at) ≡ b₂
+        → leb (valueSize form l at) (length l - (at + 16)) ≡ b₃
+        → (unless b₁ answer step.End then unless b₂ answer step.Cut then unless b₃ answer step.Cut then headerAt form l at)
+        ≡ step.Part t f s start len
+        → Within l at start len
+    cases true true true e₁ e₂ e₃ e =
+        let i : start ≡ at + 16 = cc in
+        let n : len ≡ valueSize form l at = cc in
+        let h = leb-true 16 (length l - at) e₂ in
+        let h′ = leb-true (valueSize form l at) (length l - (at + 16)) e₃ in
+        record { starts = i; ends = omega arith }
+    cases true true false e₁ e₂ e₃ e = let z : _≡_ {A = ℕ} 0 1 = cc in absurd (omega arith)
+    cases true false b₃ e₁ e₂ e₃ e = let z : _≡_ {A = ℕ} 0 1 = cc in absurd (omega arith)
+    cases false b₂ b₃ e₁ e₂ e₃ e = let z : _≡_ {A = ℕ} 0 1 = cc in absurd (omega arith)
+
+-- its value is as long as the header says
+pub value-length : {l : List ℕ} {at start len : ℕ} → Within l at start len → length (bytesAt start len l) ≡ len
+value-length {l} {at} {start} {len} w = length-take-le len _ (rw length-drop (omega (arith, w .ends)))
+
+-- where the bound is large enough one more says the same
+one-more : (form : ListForm) (n : ℕ) (l : List ℕ) (at : ℕ) → length l ≤ at + n → atMost form n l at ≡ atMost form (suc n) l at
+unfolding atMost
+one-more form zero l at h = rw (step-end form l at (omega arith))
+one-more form (suc n) l at h = cases (stepAt form l at) refl (λ k. one-more form n l k)
+  where
+    cases : (r : Step) → stepAt form l at ≡ r
+        → ((k : ℕ) → length l ≤ k + n → atMost form n l k ≡ atMost form (suc n) l k)
+        → onStep r (λ t f s start len. part (partIn l t f s start len) (atMost form n l (start + len))) cut end
+        ≡ onStep r (λ t f s start len. part (partIn l t f s start len) (atMost form (suc n) l (start + len))) cut end
+    cases (step.Part t f s start len) e ih =
+        let w = step-part form l at e in
+        ap (part (partIn l t f s start len)) (ih (start + len) (omega arith))
+    cases step.Cut e ih = refl
+    cases step.End e ih = refl
+
+-- the parts from a position: the step there, and the parts after it
+pub parts-step : (form : ListForm) (l : List ℕ) (at : ℕ)
+    → partsFrom form l at
+    ≡ onStep (stepAt form l at) (λ t f s start len. part (partIn l t f s start len) (partsFrom form l (start + len))) cut end
+unfolding partsFrom atMost
+parts-step form l at = one-more form (length l) l at (omega arith)
+
+module _ (form : ListForm) (l : List ℕ) (at : ℕ) where
+  pub parts-end : stepAt form l at ≡ step.End → partsFrom form l at ≡ end
+  parts-end e = rw (parts-step form l at, e)
+
+  pub parts-cut : stepAt form l at ≡ step.Cut → partsFrom form l at ≡ cut
+  parts-cut e = rw (parts-step form l at, e)
+
+  pub parts-part : {t f s start len : ℕ} → stepAt form l at ≡ step.Part t f s start len
+      → partsFrom form l at ≡ part (partIn l t f s start len) (partsFrom form l (start + len))
+  parts-part e = rw (parts-step form l at, e)
