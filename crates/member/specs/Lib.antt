@@ -1,0 +1,4 @@
+pub mod Record
+pub mod Objects
+pub mod Member
+pub mod Sound

@@ -1,0 +1,28 @@
+-- What a reset, a mode set and a card store make of a member: document 01, "The card and what it hears".
+-- Assumes nothing.
+use mathlib.Core.List.{List, _++_}
+use Prim.Native.Nat.{ℕ}
+use lib.ListN.{replicate}
+use Rattle.theory.specs.Bytes.{part}
+use Rattle.protocol.specs.declared.Mode.{Mode}
+use Rattle.protocol.specs.declared.Mode.the-variants.{Running}
+use Rattle.parts.specs.Apply.{stored}
+use Rattle.member.specs.declared.Member.{Member}
+use Rattle.member.specs.Objects.{free}
+
+-- "A fresh member runs, has no objects, has device features as in the setup and every other part all zero"
+unfoldable pub freshOf : List ℕ → Member
+freshOf features = record { mode = Running; objects = replicate 16 free; values = features ++ replicate 189 0 }
+
+abbrev pub featuresIn : Member → List ℕ
+featuresIn m = part 0 16 (m .values)
+
+abbrev pub withMode : Member → Mode → Member
+withMode m mode = record { mode = mode; objects = m .objects; values = m .values }
+
+abbrev pub withValues : Member → List ℕ → Member
+withValues m values = record { mode = m .mode; objects = m .objects; values = values }
+
+-- a card store: "the data path sets one part of one member", in either mode
+abbrev pub withPart : ℕ → Member → ℕ → ℕ → List ℕ → Member
+withPart queues m t s value = withValues m (stored queues t s value (m .values))

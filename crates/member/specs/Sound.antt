@@ -1,0 +1,20 @@
+-- When a member's record is sound: document 01, "A card is sound if". Assumes nothing.
+use mathlib.Core.Bool.{Bool}
+use mathlib.Core.List.{List}
+use Prim.Native.Nat.{ℕ, _+_}
+use lib.Dec.{leb}
+use lib.ListN.{getD, drop}
+use Rattle.theory.specs.Logic.{_and_}
+use Rattle.theory.specs.Bytes.{part, same}
+use Rattle.member.specs.Record.{objectBytes, valuesAt}
+use Rattle.member.specs.Objects.{allUpTo, withinLimits}
+
+-- its bytes say something: a mode and object records; "live ids below G + S, at most G get and S set objects, and the
+-- setup's device features"
+unfoldable pub soundRecord : ℕ → ℕ → List ℕ → List ℕ → Bool
+soundRecord gets sets features r =
+    leb (getD r 0 0) 1
+    and allUpTo 2 (objectBytes r)
+    and allUpTo 0 (drop (gets + sets) (objectBytes r))
+    and withinLimits gets sets (objectBytes r)
+    and same (part valuesAt 16 r) features
