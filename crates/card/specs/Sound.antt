@@ -1,0 +1,32 @@
+-- When a card is sound: document 01, "The card and what it hears". Assumes nothing.
+use mathlib.Core.Bool.{Bool, true}
+use mathlib.Core.List.{List}
+use Prim.Native.Nat.{ℕ, zero, suc}
+use lib.Dec.{leb, eqb}
+use lib.ListN.{length}
+use Rattle.theory.specs.Logic.{_and_, within}
+use Rattle.protocol.specs.Opcodes.{supportedOnly}
+use Rattle.member.specs.Sound.{soundRecord}
+use Rattle.card.specs.declared.Setup.{Setup}
+use Rattle.card.specs.Layout.{cardSize, setupOf, inUseOf, recordIn}
+
+-- "N members (1 to 16), Q queues for each member (1 to 4), G get objects and S set objects for each member (0 to 8 each)"
+unfoldable pub inNumbers : ℕ → ℕ → ℕ → ℕ → Bool
+inNumbers members queues gets sets = within 1 16 members and within 1 4 queues and leb gets 8 and leb sets 8
+
+unfoldable pub soundSetup : Setup → Bool
+soundSetup s = inNumbers (s .members) (s .queues) (s .gets) (s .sets)
+
+-- members 1 to k
+unfoldable pub soundUpTo : Setup → List ℕ → ℕ → Bool
+soundUpTo s c zero = true
+soundUpTo s c (suc k) = soundRecord (s .gets) (s .sets) (s .features) (recordIn c (suc k)) and soundUpTo s c k
+
+-- "its setup is in these numbers, its list in use has supported bits only, and each member" is sound; and it is as long
+-- as its header and N records
+unfoldable pub isSound : List ℕ → Bool
+isSound c =
+    eqb (length c) (cardSize (setupOf c .members))
+    and soundSetup (setupOf c)
+    and supportedOnly (inUseOf c)
+    and soundUpTo (setupOf c) c (setupOf c .members)
