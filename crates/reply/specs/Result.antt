@@ -1,0 +1,25 @@
+-- The result of each command from byte 8: document 01, "What each command does". Assumes nothing.
+use mathlib.Core.List.{List, [], _∷_, _++_}
+use Prim.Native.Nat.{ℕ}
+use lib.ListN.{replicate}
+use Rattle.wire.specs.Le.{bytes}
+use Rattle.inventory.specs.Inventory.{partCount}
+use Rattle.capture.specs.declared.Selection.the-variants.{Asked}
+use Rattle.capture.specs.Capture.{headersOf, partsWritten, captureOf}
+use Rattle.operations.specs.declared.Body.{Body}
+use Rattle.operations.specs.declared.Body.the-variants.{Nothing, Kind, Number, Headers, Selected, All}
+use Rattle.operations.specs.Changes.{kindNumber}
+
+-- "a 4-byte number and 4 zero bytes"
+unfoldable pub numberBytes : ℕ → List ℕ
+numberBytes n = bytes 4 n ++ replicate 4 0
+
+-- queues and values are the member's, list the headers asked for. "Query returns kind and seven zero bytes"; metadata
+-- "list returns the count so, then the headers"
+unfoldable pub resultOf : ℕ → List ℕ → List ℕ → Body → List ℕ
+resultOf queues list values Nothing = []
+resultOf queues list values (Kind k) = kindNumber k ∷ replicate 7 0
+resultOf queues list values (Number n) = numberBytes n
+resultOf queues list values Headers = numberBytes (partCount queues) ++ headersOf queues
+resultOf queues list values Selected = partsWritten Asked queues list values
+resultOf queues list values All = captureOf queues values
