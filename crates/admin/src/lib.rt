@@ -1,0 +1,1 @@
+// A command, whole: the layers joined.
