@@ -1,0 +1,53 @@
+-- The calls of demand 3 and one step of the card: document 01, "The calls of demand 3". Assumes nothing.
+use mathlib.Core.Bool.{Bool, false}
+use mathlib.Core.List.{List}
+use Prim.Native.Nat.{ℕ}
+use lib.Dec.{eqb}
+use lib.ListN.{length}
+use Rattle.theory.specs.Logic.{_and_, within}
+use Rattle.protocol.specs.declared.EventAnswer.{EventAnswer}
+use Rattle.protocol.specs.Answers.{eventNumber}
+use Rattle.protocol.specs.Opcodes.{namesMember}
+use Rattle.card.specs.Events.{resetMember, resetCard, store}
+use Rattle.frame.specs.Frame.{opcodeOf, groupOf, targetOf}
+use Rattle.admin.specs.Command.{respond}
+
+-- commands, resets of one member, resets of the whole card and card stores, with any arguments; "of a request its bytes
+-- count, of a reply buffer only its length"
+pub data Call : Type 0 where
+  command : List ℕ → ℕ → Call
+  memberReset : ℕ → Call
+  cardReset : Call
+  cardStore : ℕ → ℕ → ℕ → List ℕ → Call
+
+-- "The reply to a command is the number of bytes written and those bytes; the reply to a card event is its answer"
+pub data Reply : Type 0 where
+  written : List ℕ → Reply
+  answered : ℕ → Reply
+
+abbrev pub told : List ℕ × List ℕ → List ℕ × Reply
+told x = (x .0, written (x .1))
+
+abbrev pub happened : EventAnswer × List ℕ → List ℕ × Reply
+happened x = (x .1, answered (eventNumber (x .0)))
+
+-- one call on a card: the card after it and the reply
+unfoldable pub step : List ℕ → Call → List ℕ × Reply
+step c (command r room) = told (respond c r room)
+step c (memberReset m) = happened (resetMember c m)
+step c cardReset = happened (resetCard c)
+step c (cardStore m t s value) = happened (store c m t s value)
+
+-- "Names m" (01's term): "a request of 24 to 4,096 bytes, group type 1, opcode 0x0a to 0x11, member m; or a card store
+-- for m"
+unfoldable pub names : ℕ → Call → Bool
+names m (command r room) =
+    within 24 4096 (length r) and eqb (groupOf r) 1 and namesMember (opcodeOf r) and eqb (targetOf r) m
+names m (memberReset k) = false
+names m cardReset = false
+names m (cardStore k t s value) = eqb k m
+
+-- "a reset of the whole card counts as a reset of m too"
+pub data Resets (m : ℕ) : Call → Type 0 where
+  one : Resets m (memberReset m)
+  all : Resets m cardReset
