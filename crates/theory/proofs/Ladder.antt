@@ -1,10 +1,10 @@
 -- `search ladder` closes each return of a function of early returns against a definition of `unless`, `if`, `and`, `or` in the
 -- same order: laws for one step of such a definition, and for what a test of the code says. At any type of answer.
--- Five tests or fewer; for more, `search ladder depth 10`, or split the function. Assumes nothing.
+-- Each step takes one lemma of depth and its test one or two: `search ladder depth 9` for more than three steps. About six tests
+-- are the most; then split the function. Assumes nothing.
 use mathlib.Core.Path.{_≡_, refl, sym, ap, _∙_}
 use mathlib.Core.Bool.{Bool, true, false, not}
 use Prim.Native.Nat.{ℕ, suc, _≤_, _<_}
-use borrow.Author.Needs.{needs}
 use borrow.Author.Tests.{le-leb, lt-leb, lt-ltb, le-ltb, eq-eqb, ne-eqb, not-true, not-false}
 use lib.Dec.{leb, ltb, eqb}
 use Rattle.theory.specs.Logic.{if_then_else_, unless_answer_then_, _and_, _or_, within}
@@ -58,43 +58,77 @@ module _ (t u : Bool) where
 
 -- ---- what a test of the code says ----
 
--- the code tests b or `!b`, which is what a function answered, and t by what it ensures
-module _ (t b : Bool) where
-  pub told-true : b ≡ true → b ≡ t → t ≡ true
-  told-true h e = sym e ∙ h
+-- the code tests b or `!b`, which is what a function answered, and t by what it ensures. What is ensured comes first: it is
+-- the premise by which `search` finds b
+module _ (t b : Bool) (e : b ≡ t) where
+  pub told-true : b ≡ true → t ≡ true
+  told-true h = sym e ∙ h
 
-  pub told-false : b ≡ false → b ≡ t → t ≡ false
-  told-false h e = sym e ∙ h
+  pub told-false : b ≡ false → t ≡ false
+  told-false h = sym e ∙ h
 
-  pub said-true : not b ≡ false → b ≡ t → t ≡ true
-  said-true h e = sym e ∙ not-false b h
+  pub said-true : not b ≡ false → t ≡ true
+  said-true h = sym e ∙ not-false b h
 
-  pub said-false : not b ≡ true → b ≡ t → t ≡ false
-  said-false h e = sym e ∙ not-true b h
+  pub said-false : not b ≡ true → t ≡ false
+  said-false h = sym e ∙ not-true b h
 
 -- the code tests the number v, which is x by what a function ensures
-module _ (x v n : ℕ) where
-  pub is-eq : v ≡ n → v ≡ x → eqb x n ≡ true
-  is-eq h e = eq-eqb x n (sym e ∙ h)
+module _ (x v n : ℕ) (e : v ≡ x) where
+  pub is-eq : v ≡ n → eqb x n ≡ true
+  is-eq h = eq-eqb x n (sym e ∙ h)
 
-  pub is-ne : (v ≡ n → ⊥) → v ≡ x → eqb x n ≡ false
-  is-ne h e = ne-eqb x n (λ q. h (e ∙ q))
+  pub is-ne : (v ≡ n → ⊥) → eqb x n ≡ false
+  is-ne h = ne-eqb x n (λ q. h (e ∙ q))
 
-  pub is-le : v ≤ n → v ≡ x → leb x n ≡ true
-  is-le h e = le-leb x n (rw e at h)
+  pub is-le : v ≤ n → leb x n ≡ true
+  is-le h = le-leb x n (rw e at h)
 
-  pub is-over : n < v → v ≡ x → leb x n ≡ false
-  is-over h e = lt-leb x n (rw e at h)
+  pub is-gt : n < v → leb x n ≡ false
+  is-gt h = lt-leb x n (rw e at h)
 
-  pub is-lt : v < n → v ≡ x → ltb x n ≡ true
-  is-lt h e = lt-ltb x n (rw e at h)
+  pub is-lt : v < n → ltb x n ≡ true
+  is-lt h = lt-ltb x n (rw e at h)
 
-  pub is-at-least : n ≤ v → v ≡ x → ltb x n ≡ false
-  is-at-least h e = le-ltb x n (rw e at h)
+  pub is-ge : n ≤ v → ltb x n ≡ false
+  is-ge h = le-ltb x n (rw e at h)
+
+  pub from-le : n ≤ v → leb n x ≡ true
+  from-le h = le-leb n x (rw e at h)
+
+  pub from-gt : v < n → leb n x ≡ false
+  from-gt h = lt-leb n x (rw e at h)
+
+  pub from-lt : n < v → ltb n x ≡ true
+  from-lt h = lt-ltb n x (rw e at h)
+
+  pub from-ge : v ≤ n → ltb n x ≡ false
+  from-ge h = le-ltb n x (rw e at h)
+
+  pub is-inside : (a : ℕ) → a ≤ v → v ≤ n → within a n x ≡ true
+  is-inside a h k = inside a n x (rw e at h) (rw e at k)
+
+  pub is-below : (b : ℕ) → v < n → within n b x ≡ false
+  is-below b h = below n b x (rw e at h)
+
+  pub is-above : (a : ℕ) → n < v → within a n x ≡ false
+  is-above a h = above a n x (rw e at h)
+
+-- the code answers a test of numbers that are the definition's by what functions ensure
+module _ (v x w y : ℕ) (e : v ≡ x) (f : w ≡ y) where
+  pub leb-of : leb v w ≡ leb x y
+  leb-of = rw (e, f)
+
+  pub ltb-of : ltb v w ≡ ltb x y
+  ltb-of = rw (e, f)
+
+  pub eqb-of : eqb v w ≡ eqb x y
+  eqb-of = rw (e, f)
 
 -- the last of two ends is what the code answers
 pub last-end : (a b n : ℕ) → a ≤ n → leb n b ≡ within a b n
 unfolding within
 last-end a b n h = rw (le-leb a n h) (sym (true-and (leb n b)))
 
-pub ruleset ladder = (needs, stop, pass, choose-true, choose-false, and-stop, and-pass, or-stop, or-pass, and-i, and-left, and-right, or-i, or-left, or-right, told-true, told-false, said-true, said-false, is-eq, is-ne, is-le, is-over, is-lt, is-at-least, inside, below, above, last-end, le-leb, lt-leb, lt-ltb, le-ltb, eq-eqb, ne-eqb)
+-- The order counts: a step that goes on is tried before one that ends, a test of the code's own numbers before an answer
+pub ruleset ladder = (pass, stop, choose-false, choose-true, and-pass, and-stop, or-pass, or-stop, eq-eqb, ne-eqb, le-leb, lt-leb, lt-ltb, le-ltb, inside, below, above, last-end, said-true, said-false, told-true, told-false, and-i, and-left, and-right, or-i, or-left, or-right, is-eq, is-ne, is-le, is-gt, is-lt, is-ge, from-le, from-gt, from-lt, from-ge, is-inside, is-below, is-above, leb-of, ltb-of, eqb-of)
