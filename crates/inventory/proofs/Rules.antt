@@ -1,0 +1,122 @@
+-- Rules of the whole inventory: each is one test that antt computes over the table. Assumes nothing.
+use mathlib.Core.Path.{_≡_, refl, ap, sym, _∙_}
+use mathlib.Core.Bool.{Bool, true, false, not}
+use mathlib.Core.List.{List, [], _∷_, map}
+use Prim.Native.Nat.{ℕ, zero, suc, _+_, _/_, _%_, _<_, _≤_, _^_}
+use native.Mathlib.Omega.{arith}
+use borrow.Author.Tests.{eqb-true, ltb-true, leb-true, lt-leb, eq-eqb}
+use mir.Val.{boolByte}
+use lib.Dec.{leb, ltb, eqb}
+use lib.ListN.{length, getD, take}
+use Rattle.theory.specs.Logic.{_and_, _or_, one, if_then_else_}
+use Rattle.theory.specs.Bytes.{same}
+use Rattle.theory.proofs.Tests.{same-true}
+use Rattle.theory.proofs.Table.{every, at}
+use Rattle.wire.specs.Le.{bytes}
+use Rattle.inventory.specs.Inventory.{Row, row, rows, rowAt, rowCount, deviceFeatures, present, total, offsetOf, valuesSize, partCount, partsSize, selectorOf, isRow, seek, placeOf}
+use Rattle.inventory.specs.Header.{headerOf, headerSize}
+use Rattle.inventory.specs.declared.Place.{Place}
+use Rattle.inventory.specs.declared.Place.the-variants.{At, Absent}
+
+-- what computes where a proof says `unfolding table`
+unfoldable pub table : Unit {0}
+unfolding rows rowAt present offsetOf selectorOf isRow seek placeOf every _and_ _or_ one if_then_else_
+table = tt
+
+-- a test of each row and its index holds at each
+pub every-row : (f : ℕ → Row → Bool) → every f 0 rows ≡ true → (i : ℕ) → i < rowCount → f i (rowAt i) ≡ true
+unfolding rows rowAt
+every-row f t i h = at f (row 0 0 0) rows t i h
+
+-- and of each number of queues
+abbrev counts : List ℕ
+counts = 0 ∷ 1 ∷ 2 ∷ 3 ∷ 4 ∷ []
+
+pub every-count : (f : ℕ → Bool) → every (λ q x. f q) 0 counts ≡ true → (q : ℕ) → q < 5 → f q ≡ true
+every-count f t q h = at (λ q x. f q) 0 counts t q h
+
+-- ---- numbers ----
+
+module _ (i : ℕ) (h : i < rowCount) where
+  pub type-below : rowAt i .partType < 2 ^ 16
+  unfolding table
+  type-below = ltb-true _ _ (every-row (λ k r. ltb (r .partType) (2 ^ 16)) refl i h)
+
+  pub selector-below : rowAt i .selector < 256
+  unfolding table
+  selector-below = ltb-true _ _ (every-row (λ k r. ltb (r .selector) 256) refl i h)
+
+  pub size-below : rowAt i .size < 256
+  unfolding table
+  size-below = ltb-true _ _ (every-row (λ k r. ltb (r .size) 256) refl i h)
+
+  -- a row's selector is read whole
+  pub selector-own : selectorOf (rowAt i .partType) (rowAt i .selector) ≡ rowAt i .selector
+  unfolding table
+  selector-own = eqb-true _ _ (every-row (λ k r. eqb (selectorOf (r .partType) (r .selector)) (r .selector)) refl i h)
+
+  -- ---- places of values: running sums ----
+
+  pub offset-next : offsetOf (i + 1) ≡ offsetOf i + rowAt i .size
+  unfolding table
+  offset-next = eqb-true _ _ (every-row (λ k r. eqb (offsetOf (k + 1)) (offsetOf k + r .size)) refl i h)
+
+  pub row-within : offsetOf i + rowAt i .size ≤ valuesSize
+  unfolding table
+  row-within = leb-true _ _ (every-row (λ k r. leb (offsetOf k + r .size) valuesSize) refl i h)
+
+  -- no two overlap
+  pub rows-apart : (j : ℕ) → j < rowCount → i < j → offsetOf i + rowAt i .size ≤ offsetOf j
+  unfolding table
+  rows-apart j l a =
+      let t = every-row (λ m s. every (λ k r. leb m k or leb (offsetOf k + r .size) (offsetOf m)) 0 rows) refl j l in
+      let u = every-row (λ k r. leb j k or leb (offsetOf k + r .size) (offsetOf j)) t i h in
+      leb-true _ _ (rw (lt-leb j i a) at u)
+
+  -- ---- device features ----
+
+  pub features-row : rowAt i .partType ≡ deviceFeatures → i ≡ 0
+  unfolding table
+  features-row e =
+      let t = every-row (λ k r. not (eqb (r .partType) deviceFeatures) or eqb k 0) refl i h in
+      eqb-true i 0 (rw (eq-eqb _ _ e) at t)
+
+pub row-zero : rowAt 0 ≡ row deviceFeatures 0 16
+unfolding table
+row-zero = refl
+
+pub offset-zero : offsetOf 0 ≡ 0
+unfolding table
+offset-zero = refl
+
+pub features-place : (q : ℕ) → placeOf q deviceFeatures 0 ≡ At 0
+unfolding table
+features-place q = refl
+
+-- ---- headers, counts and sizes ----
+
+pub length-header : (r : Row) → length (headerOf r) ≡ headerSize
+unfolding headerOf bytes
+length-header r = refl
+
+-- a row's header, byte by byte: no selector and no size takes more than one
+abbrev pub headerBytes : Row → List ℕ
+headerBytes r =
+    r .partType % 256 ∷ r .partType / 256 ∷ boolByte (eqb (r .partType) deviceFeatures) ∷ 0
+    ∷ r .selector ∷ 0 ∷ 0 ∷ 0 ∷ 0 ∷ 0 ∷ 0 ∷ 0
+    ∷ r .size ∷ 0 ∷ 0 ∷ 0 ∷ []
+
+pub header-bytes : (i : ℕ) → i < rowCount → headerBytes (rowAt i) ≡ headerOf (rowAt i)
+unfolding table headerOf bytes same
+header-bytes i h = same-true _ _ (every-row (λ k r. same (headerBytes r) (headerOf r)) refl i h)
+
+-- "The number of parts is 7 + 2Q and the size is 157 + 72Q"
+pub count-is : (q : ℕ) → q < 5 → total (map (λ (r : Row). one (present q r)) rows) ≡ partCount q
+unfolding table
+count-is q h = eqb-true _ _ (every-count (λ q. eqb (total (map (λ (r : Row). one (present q r)) rows)) (partCount q)) refl q h)
+
+pub size-is : (q : ℕ) → q < 5 → total (map (λ (r : Row). if present q r then headerSize + r .size else 0) rows) ≡ partsSize q
+unfolding table
+size-is q h =
+    eqb-true _ _
+    (every-count (λ q. eqb (total (map (λ (r : Row). if present q r then headerSize + r .size else 0) rows)) (partsSize q)) refl q h)
