@@ -1,4 +1,77 @@
-//! Safe bindings to Kajurnat.
-#![deny(missing_docs)]
+//! Safe bindings to Kajurnat, the verified control plane of a virtio card
+//! with up to sixteen member devices.
+//!
+//! A [`Card`] takes group administration commands as bytes and answers in
+//! bytes. Its host resets it or one of its members, and its data path stores
+//! the parts of its members. What every call answers, and the card after it,
+//! is proved of the archive that this package links; the bindings are not
+//! part of the proof.
+//!
+//! ```
+//! use kajurnat::{Card, Frame, Opcode, PartType, Reply, Setup};
+//!
+//! // Two members with one queue each, and room for one get and one set object.
+//! let setup = Setup::new(2, 1, 1, 1, [0; 16])?;
+//! let mut card = Card::new(&setup);
+//! let mut buffer = [0; Reply::MAX];
+//!
+//! // Put every command in use.
+//! let list_use = Frame::new(Opcode::LIST_USE, 0).request(&Opcode::SUPPORTED.to_le_bytes())?;
+//! card.command(&list_use, &mut buffer)?.into_result()?;
+//!
+//! // The data path of member 1 sets the device status.
+//! card.store(1, PartType::DEVICE_STATUS, 0, &[0x0f])?;
+//!
+//! // Stop member 1.
+//! let stop = Frame::new(Opcode::DEV_MODE_SET, 1).request(&[1])?;
+//! card.command(&stop, &mut buffer)?.into_result()?;
+//!
+//! // There is no member 3; the refusal says so.
+//! let stop = Frame::new(Opcode::DEV_MODE_SET, 3).request(&[1])?;
+//! let refusal = card.command(&stop, &mut buffer)?.into_result().unwrap_err();
+//! assert_eq!(
+//!     refusal.to_string(),
+//!     "the card refused the command: status 22 (EINVAL), qualifier 5 (INVALID_MEMBER)"
+//! );
+//!
+//! // The next guest of member 1 finds nothing of the last one.
+//! card.reset_member(1)?;
+//! # Ok::<(), Box<dyn std::error::Error>>(())
+//! ```
+//!
+//! # Linking
+//!
+//! The build links `libkajurnat.a` from the directory that the environment
+//! variable `KAJURNAT_LIB_DIR` names, or from `target/staticlib` of the
+//! repository, where `rt staticlib kajurnat` writes it. The archive is for
+//! x86-64.
+//!
+//! # Cards in memory of one's own
+//!
+//! A [`Card`] owns its bytes. The functions of [`raw`] take a card that is
+//! lent; [`Reply::parse`] and [`EventError::from_answer`] read what they
+//! answer.
 
+#![no_std]
+#![deny(missing_docs)]
+#![deny(unsafe_code)]
+
+extern crate alloc;
+
+mod card;
+mod event;
+mod number;
+mod part;
 pub mod raw;
+mod reply;
+mod request;
+mod setup;
+mod status;
+
+pub use card::{Card, NotSound};
+pub use event::EventError;
+pub use part::PartType;
+pub use reply::{Refusal, Reply, ReplyTooShort};
+pub use request::{Frame, GroupType, Opcode, RequestTooLong};
+pub use setup::{Setup, SetupError};
+pub use status::{Qualifier, Status};

@@ -1,9 +1,15 @@
 //! The exported functions of the archive, one for one, on slices.
 //!
 //! Every function here is safe and total: it passes each slice as a pointer
-//! and a length and returns the number that the archive answers. The only
-//! `unsafe` code of this package is in this module. Most users want
+//! and a length, and returns what the archive answers. Most users want
 //! [`Card`](crate::Card) instead.
+//!
+//! All `unsafe` code of this package is in this module. It rests on two facts
+//! that are proved of the archive: a call touches no byte outside the slices
+//! that it is lent, and keeps no pointer to them. An empty slice is a pointer
+//! that is not null and length 0.
+
+#![allow(unsafe_code)]
 
 /// The functions as the archive exports them. A slice is a pointer and a
 /// length.
@@ -51,7 +57,7 @@ mod abi {
 /// 1 to 16.
 #[must_use]
 pub fn card_bytes(members: u64) -> usize {
-    // SAFETY: the function takes a number only and reads no memory.
+    // SAFETY: the call is lent no memory.
     unsafe { abi::kajurnat_card_bytes(members) }
 }
 
@@ -68,10 +74,8 @@ pub fn setup(
     sets: u64,
     features: &[u8],
 ) -> u8 {
-    // SAFETY: each pointer comes with the length of its slice, so it is
-    // non-null and valid for that many bytes (`card` for writes too). The
-    // borrow rules keep `card` apart from `features`. The archive keeps no
-    // pointer after the call.
+    // SAFETY: each pointer and length are those of one slice, which is
+    // borrowed for the call (`card` mutably, so it overlaps no other).
     unsafe {
         abi::kajurnat_setup(
             card.as_mut_ptr(),
@@ -92,10 +96,9 @@ pub fn setup(
 /// nothing written, if `card` is not sound or `reply` is under 8 bytes.
 #[must_use]
 pub fn command(card: &mut [u8], request: &[u8], reply: &mut [u8]) -> usize {
-    // SAFETY: each pointer comes with the length of its slice, so it is
-    // non-null and valid for that many bytes (`card` and `reply` for writes
-    // too). The borrow rules keep the three slices apart. The archive keeps
-    // no pointer after the call.
+    // SAFETY: each pointer and length are those of one slice, which is
+    // borrowed for the call (`card` and `reply` mutably, so they overlap no
+    // other).
     unsafe {
         abi::kajurnat_command(
             card.as_mut_ptr(),
@@ -112,18 +115,16 @@ pub fn command(card: &mut [u8], request: &[u8], reply: &mut [u8]) -> usize {
 /// member.
 #[must_use]
 pub fn reset_member(card: &mut [u8], member: u64) -> u8 {
-    // SAFETY: the pointer comes with the length of its slice, so it is
-    // non-null and valid for reads and writes of that many bytes. The archive
-    // keeps no pointer after the call.
+    // SAFETY: pointer and length are those of one slice, which is borrowed
+    // mutably for the call.
     unsafe { abi::kajurnat_reset_member(card.as_mut_ptr(), card.len(), member) }
 }
 
 /// Makes the whole card fresh. Answers 0 done, 9 card not sound.
 #[must_use]
 pub fn reset_card(card: &mut [u8]) -> u8 {
-    // SAFETY: the pointer comes with the length of its slice, so it is
-    // non-null and valid for reads and writes of that many bytes. The archive
-    // keeps no pointer after the call.
+    // SAFETY: pointer and length are those of one slice, which is borrowed
+    // mutably for the call.
     unsafe { abi::kajurnat_reset_card(card.as_mut_ptr(), card.len()) }
 }
 
@@ -134,10 +135,8 @@ pub fn reset_card(card: &mut [u8]) -> u8 {
 /// features count so), 3 wrong length; refused, nothing is changed.
 #[must_use]
 pub fn store(card: &mut [u8], member: u64, part_type: u16, selector: u64, value: &[u8]) -> u8 {
-    // SAFETY: each pointer comes with the length of its slice, so it is
-    // non-null and valid for that many bytes (`card` for writes too). The
-    // borrow rules keep `card` apart from `value`. The archive keeps no
-    // pointer after the call.
+    // SAFETY: each pointer and length are those of one slice, which is
+    // borrowed for the call (`card` mutably, so it overlaps no other).
     unsafe {
         abi::kajurnat_store(
             card.as_mut_ptr(),

@@ -1,0 +1,183 @@
+//! The safe card, from setup to reset.
+
+mod common;
+
+use common::{capture, create, fresh_card, ready_card, restore, send, stop, use_all, GET};
+use kajurnat::{
+    Card, EventError, Frame, Opcode, PartType, Qualifier, Refusal, Reply, ReplyTooShort, Setup,
+    Status,
+};
+
+/// A refusal by its two numbers.
+fn refused<T>(status: Status, qualifier: Qualifier) -> Result<T, Refusal> {
+    Err(Refusal { status, qualifier })
+}
+
+#[test]
+fn every_setup_in_range_makes_a_sound_card() {
+    for members in Setup::MEMBERS {
+        for queues in Setup::QUEUES {
+            for gets in Setup::OBJECTS {
+                for sets in Setup::OBJECTS {
+                    let setup = Setup::new(members, queues, gets, sets, [7; 16]).unwrap();
+                    let bytes = Card::new(&setup).into_bytes();
+                    assert!(Card::from_bytes(bytes).is_ok());
+                }
+            }
+        }
+    }
+}
+
+#[test]
+fn a_fresh_card_lists_its_commands() {
+    let mask = send(&mut fresh_card(), Opcode::LIST_QUERY, 0, &[]).unwrap();
+    assert_eq!(mask, Opcode::SUPPORTED.to_le_bytes());
+}
+
+#[test]
+fn a_command_has_to_be_in_use() {
+    let mut card = fresh_card();
+    let unused = refused(Status::EINVAL, Qualifier::INVALID_OPCODE);
+    assert_eq!(create(&mut card, 1, 0, GET), unused);
+    use_all(&mut card);
+    assert!(create(&mut card, 1, 0, GET).is_ok());
+}
+
+#[test]
+fn each_refusal_is_read_by_its_numbers() {
+    let mut card = ready_card();
+    let before = card.clone();
+    let bad_member = refused(Status::EINVAL, Qualifier::INVALID_MEMBER);
+    assert_eq!(stop(&mut card, 0), bad_member);
+    assert_eq!(stop(&mut card, 3), bad_member);
+    let live = refused(Status::EEXIST, Qualifier::INVALID_COMMAND);
+    assert_eq!(create(&mut card, 1, 0, GET), live);
+    let bad_id = refused(Status::EINVAL, Qualifier::INVALID_FIELD);
+    assert_eq!(create(&mut card, 1, 2, GET), bad_id);
+    let running = refused(Status::EAGAIN, Qualifier::TRYAGAIN);
+    assert_eq!(restore(&mut card, 1, &[]), running);
+    assert_eq!(card, before);
+}
+
+#[test]
+fn a_reply_buffer_may_be_as_long_as_the_reply() {
+    let mut card = ready_card();
+    let mut data = [0; 16];
+    data[8] = 1;
+    let request = Frame::new(Opcode::DEV_PARTS_GET, 1).request(&data).unwrap();
+    let mut buffer = [0xee; 237];
+
+    let reply = card.command(&request, &mut buffer[..236]).unwrap();
+    let short = refused(Status::ENOMEM, Qualifier::NORESOURCE);
+    assert_eq!(reply.into_result(), short);
+    assert!(buffer[Reply::HEAD..].iter().all(|&byte| byte == 0xee));
+
+    let reply = card.command(&request, &mut buffer).unwrap();
+    assert_eq!(reply.into_result().unwrap().len(), 229);
+}
+
+#[test]
+fn the_longest_reply_is_a_capture_of_four_queues() {
+    let mut card = Card::new(&Setup::new(1, 4, 1, 0, [0; 16]).unwrap());
+    use_all(&mut card);
+    create(&mut card, 1, 0, GET).unwrap();
+    let parts = capture(&mut card, 1).unwrap();
+    assert_eq!(Reply::HEAD + parts.len(), Reply::MAX);
+}
+
+#[test]
+fn a_reply_buffer_without_room_for_a_head_is_not_written() {
+    let mut card = fresh_card();
+    let before = card.clone();
+    let request = Frame::new(Opcode::LIST_USE, 0).request(&[0; 8]).unwrap();
+    for length in 0..Reply::HEAD {
+        let mut buffer = vec![0xee; length];
+        let answer = card.command(&request, &mut buffer);
+        assert_eq!(answer, Err(ReplyTooShort { buffer: length }));
+        assert!(buffer.iter().all(|&byte| byte == 0xee));
+    }
+    assert_eq!(card, before);
+}
+
+#[test]
+fn a_member_moves_to_another_card() {
+    let mut source = ready_card();
+    source
+        .store(1, PartType::DRV_FEATURES, 0, &[0x5a; 16])
+        .unwrap();
+    source.store(1, PartType::VQ_CFG, 0, &[0xa5; 32]).unwrap();
+    stop(&mut source, 1).unwrap();
+    let parts = capture(&mut source, 1).unwrap();
+
+    let mut destination = ready_card();
+    stop(&mut destination, 2).unwrap();
+    restore(&mut destination, 2, &parts).unwrap();
+    assert_eq!(capture(&mut destination, 2).unwrap(), parts);
+}
+
+#[test]
+fn a_reset_leaves_nothing_of_a_member() {
+    let mut card = ready_card();
+    let fresh = capture(&mut card, 1).unwrap();
+    card.store(1, PartType::VQ_CFG, 0, &[0xa5; 32]).unwrap();
+    assert_ne!(capture(&mut card, 1).unwrap(), fresh);
+
+    card.reset_member(1).unwrap();
+    let ended = refused(Status::ENXIO, Qualifier::INVALID_COMMAND);
+    assert_eq!(capture(&mut card, 1), ended);
+    create(&mut card, 1, 0, GET).unwrap();
+    assert_eq!(capture(&mut card, 1).unwrap(), fresh);
+}
+
+#[test]
+fn a_reset_of_the_card_makes_it_fresh() {
+    let mut card = ready_card();
+    card.store(2, PartType::DEVICE_STATUS, 0, &[4]).unwrap();
+    card.reset();
+    assert_eq!(card, fresh_card());
+}
+
+#[test]
+fn a_bad_event_is_named_and_changes_nothing() {
+    let mut card = ready_card();
+    let before = card.clone();
+    let no_member = Err(EventError::NoSuchMember);
+    assert_eq!(card.reset_member(0), no_member);
+    assert_eq!(card.reset_member(u64::MAX), no_member);
+    assert_eq!(card.store(3, PartType::VQ_CFG, 9, &[]), no_member);
+    let no_part = Err(EventError::NoSuchPart);
+    assert_eq!(card.store(1, PartType::VQ_CFG, 1, &[0; 32]), no_part);
+    assert_eq!(card.store(1, PartType::PCI_COMMON_CFG, 4, &[0; 4]), no_part);
+    assert_eq!(card.store(1, PartType::DEV_FEATURES, 0, &[0; 16]), no_part);
+    assert_eq!(card.store(1, PartType(0x106), 0, &[]), no_part);
+    let wrong = Err(EventError::WrongLength);
+    assert_eq!(card.store(1, PartType::VQ_CFG, 0, &[0; 31]), wrong);
+    assert_eq!(card.store(1, PartType::VQ_CFG, 0, &[0; 33]), wrong);
+    assert_eq!(card.store(1, PartType::DEVICE_STATUS, 0, &[]), wrong);
+    assert_eq!(card, before);
+}
+
+#[test]
+fn a_card_is_kept_as_bytes() {
+    let mut card = ready_card();
+    stop(&mut card, 2).unwrap();
+    let kept = card.as_bytes().to_vec();
+    assert_eq!(Card::from_bytes(kept).unwrap(), card);
+}
+
+#[test]
+fn bytes_that_are_no_card_are_given_back() {
+    let sound = ready_card().into_bytes();
+    let cut = sound[..sound.len() - 1].to_vec();
+    let zeros = vec![0; sound.len()];
+    let mut damaged = sound;
+    damaged[0] = 17;
+    for bytes in [Vec::new(), cut, zeros, damaged] {
+        let error = Card::from_bytes(bytes.clone()).unwrap_err();
+        assert_eq!(
+            error.to_string(),
+            format!("{} bytes that are not a sound card", bytes.len())
+        );
+        assert_eq!(error.into_bytes(), bytes);
+    }
+}
