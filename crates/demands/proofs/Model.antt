@@ -1,0 +1,44 @@
+-- Every definition of the model, opened at once: an example that says `unfolding model` computes. Assumes nothing.
+use Rattle.theory.specs.Logic.{if_then_else_, unless_answer_then_, _and_, _or_, within, one}
+use Rattle.theory.specs.Bytes.{put, repeat, same}
+use Rattle.theory.specs.Items.{itemsFrom}
+use Rattle.theory.specs.Machine.{trace, seen, visible}
+use Rattle.wire.specs.Le.{le, bytes, number}
+use Rattle.protocol.specs.Opcodes.{opcodeRows, opcodeRow, supported, lengthFits, namesMember, bit, supportedOnly}
+use Rattle.inventory.specs.Inventory.{rows as inventoryRows, rowAt, present, offsetOf, selectorOf, isRow, seek, placeOf}
+use Rattle.inventory.specs.Header.{headerOf}
+use Rattle.parts.specs.List.{headerAt, stepAt, atMost, partsFrom}
+use Rattle.parts.specs.Rules.{known, knownOrSkipped, lengthRight, featuresSame, asksKnown, whole, every, among, repeated, causeIn, askedIn}
+use Rattle.parts.specs.Apply.{storable, stored, applied}
+use Rattle.capture.specs.Capture.{headerItem, headersOf, partAt, asks, partItem, partsWritten}
+use Rattle.member.specs.Record.{memberOf, recordOf}
+use Rattle.member.specs.Objects.{lookupOf, withObject, count, allUpTo, withinLimits}
+use Rattle.member.specs.Member.{freshOf}
+use Rattle.member.specs.Sound.{soundRecord}
+use Rattle.operations.specs.Changes.{limited, createOf, modifyOf, destroyOf, setPartsOf}
+use Rattle.operations.specs.Reads.{queryOf, throughGet, selectedOf}
+use Rattle.card.specs.Layout.{setupIn, setupOf, inUseOf, withInUse, recordIn, withRecord, memberIn, withMember, freshCard}
+use Rattle.card.specs.Sound.{inNumbers, soundSetup, soundUpTo, isSound}
+use Rattle.card.specs.Events.{setUp, resetMember, resetCard, ifDone, storeIn, store}
+use Rattle.frame.specs.Fields.{objectValid, flagsValid, kindValid, createIn, modifyIn, queryIn, destroyIn, metadataIn, getIn, setIn, modeIn, useIn, fieldsOf}
+use Rattle.frame.specs.Ask.{usable, reaches, framedOf, askOf}
+use Rattle.reply.specs.Result.{numberBytes, resultOf}
+use Rattle.reply.specs.Reply.{headOf, finalOf, replyOf}
+use Rattle.admin.specs.Command.{askIn, perform, conclude, respond}
+use Rattle.demands.specs.Calls.{step, names}
+use Rattle.demands.specs.Requests.{request, objectHeader, getAll, setParts}
+use Rattle.demands.specs.Examples.{exampleCard, headersListed, joined, nineHeaders, nineParts, rows, repliesTo, lastSize}
+
+unfoldable pub model : Unit {0}
+unfolding if_then_else_ unless_answer_then_ _and_ _or_ within one put repeat same itemsFrom trace seen visible le bytes number
+    opcodeRows opcodeRow supported lengthFits namesMember bit supportedOnly
+    inventoryRows rowAt present offsetOf selectorOf isRow seek placeOf headerOf headerAt stepAt atMost partsFrom
+    known knownOrSkipped lengthRight featuresSame asksKnown whole every among repeated causeIn askedIn storable stored applied
+    headerItem headersOf partAt asks partItem partsWritten memberOf recordOf lookupOf withObject count allUpTo withinLimits
+    freshOf soundRecord limited createOf modifyOf destroyOf setPartsOf queryOf throughGet selectedOf
+    setupIn setupOf inUseOf withInUse recordIn withRecord memberIn withMember freshCard inNumbers soundSetup soundUpTo isSound
+    setUp resetMember resetCard ifDone storeIn store
+    objectValid flagsValid kindValid createIn modifyIn queryIn destroyIn metadataIn getIn setIn modeIn useIn fieldsOf
+    usable reaches framedOf askOf numberBytes resultOf headOf finalOf replyOf askIn perform conclude respond step names
+    request objectHeader getAll setParts exampleCard headersListed joined nineHeaders nineParts rows repliesTo lastSize
+model = tt

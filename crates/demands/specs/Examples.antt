@@ -1,0 +1,181 @@
+-- THE WORKED EXAMPLES of document 01, "Shown on the bench", in its order, as one table. Each row has the calls that lead to
+-- it, the calls that it is about, and their replies. Assumes nothing.
+use mathlib.Core.Path.{_≡_}
+use mathlib.Core.List.{List, [], _∷_, _++_, map}
+use Prim.Native.Nat.{ℕ}
+use lib.ListN.{length, drop, replicate}
+use Rattle.theory.specs.Machine.{Event, trace}
+use Rattle.wire.specs.Le.{bytes}
+use Rattle.card.specs.Layout.{cardSize}
+use Rattle.card.specs.Events.{setUp}
+use Rattle.demands.specs.Calls.{Call, command, cardStore, Reply, written, answered, step}
+use Rattle.demands.specs.Requests.{request, objectHeader, getAll, setParts}
+
+-- "Setup N=2, Q=1, G=1, S=1, features all zero"
+unfoldable pub exampleCard : List ℕ
+exampleCard = setUp (replicate (cardSize 2) 0) 2 1 1 1 (replicate 16 0) .1
+
+-- ---- calls ----
+
+-- a request with a reply buffer of 4,096 bytes
+abbrev pub send : List ℕ → Call
+send r = command r 4096
+
+-- list use of this mask
+abbrev pub useList : ℕ → Call
+useList mask = send (request 0x01 1 0 (bytes 8 mask))
+
+abbrev pub setMode : ℕ → ℕ → Call
+setMode m mode = send (request 0x11 1 m (mode ∷ []))
+
+-- to member 1: flags 8 bytes, kind 1 byte (0 get, 1 set), reserved 7
+abbrev pub create : ℕ → ℕ → Call
+create id kind = send (request 0x0a 1 1 (objectHeader id ++ (replicate 8 0 ++ (kind ∷ replicate 7 0))))
+
+abbrev pub destroy : ℕ → Call
+destroy id = send (request 0x0d 1 1 (objectHeader id))
+
+-- type 1 byte (0 size, 1 count, 2 list), reserved 7
+abbrev pub metadata : ℕ → ℕ → Call
+metadata id what = send (request 0x0e 1 1 (objectHeader id ++ (what ∷ replicate 7 0)))
+
+-- parts get of the asked headers: type byte 0, reserved 7
+abbrev pub getSelected : ℕ → List ℕ → Call
+getSelected id headers = send (request 0x0f 1 1 (objectHeader id ++ (replicate 8 0 ++ headers)))
+
+-- "All used" means after list use of 0x3FC03; then get object 0 and set object 1 are made
+abbrev pub allUsed : List Call
+allUsed = useList 0x3fc03 ∷ []
+
+abbrev pub objectsLive : List Call
+objectsLive = useList 0x3fc03 ∷ create 0 0 ∷ create 1 1 ∷ []
+
+-- ---- replies ----
+
+-- status, qualifier, four zero bytes
+abbrev pub refuses : ℕ → ℕ → Reply
+refuses status qualifier = written (bytes 2 status ++ (bytes 2 qualifier ++ replicate 4 0))
+
+abbrev pub gives : List ℕ → Reply
+gives result = written (replicate 8 0 ++ result)
+
+abbrev pub succeeds : Reply
+succeeds = gives []
+
+-- "a 4-byte number and 4 zero bytes"
+abbrev pub aNumber : ℕ → List ℕ
+aNumber n = bytes 4 n ++ replicate 4 0
+
+-- ---- parts ----
+
+-- "as type, flags, selector, length, all other bytes zero"
+pub record Header : Type 0 where
+  pub partType : ℕ
+  pub flags : ℕ
+  pub selector : ℕ
+  pub size : ℕ
+
+abbrev pub header : ℕ → ℕ → ℕ → ℕ → Header
+header t f s n = record { partType = t; flags = f; selector = s; size = n }
+
+abbrev pub headerBytes : Header → List ℕ
+headerBytes h = bytes 2 (h .partType) ++ (h .flags ∷ 0 ∷ (bytes 8 (h .selector) ++ bytes 4 (h .size)))
+
+-- "Metadata list for Q=1"
+unfoldable pub headersListed : List Header
+headersListed =
+    header 0x100 1 0 16
+    ∷ header 0x101 0 0 16
+    ∷ header 0x102 0 0 4 ∷ header 0x102 0 8 4 ∷ header 0x102 0 16 2 ∷ header 0x102 0 22 2
+    ∷ header 0x103 0 0 1
+    ∷ header 0x104 0 0 32
+    ∷ header 0x105 0 0 8
+    ∷ []
+
+unfoldable pub joined : (Header → List ℕ) → List Header → List ℕ
+joined f [] = []
+joined f (h ∷ hs) = f h ++ joined f hs
+
+-- the nine headers, and the nine parts of a fresh member
+unfoldable pub nineHeaders : List ℕ
+nineHeaders = joined headerBytes headersListed
+
+unfoldable pub nineParts : List ℕ
+nineParts = joined (λ h. headerBytes h ++ replicate (h .size) 0) headersListed
+
+-- device status 5; queue notify 1 to 8; driver features, all bytes b
+abbrev pub statusPart : List ℕ
+statusPart = headerBytes (header 0x103 0 0 1) ++ (5 ∷ [])
+
+abbrev pub notifyPart : List ℕ
+notifyPart = headerBytes (header 0x105 0 0 8) ++ (1 ∷ 2 ∷ 3 ∷ 4 ∷ 5 ∷ 6 ∷ 7 ∷ 8 ∷ [])
+
+abbrev pub driverPart : ℕ → List ℕ
+driverPart b = headerBytes (header 0x101 0 0 16) ++ replicate 16 b
+
+-- ---- the table ----
+
+pub record Row : Type 0 where
+  pub before : List Call
+  pub calls : List Call
+  pub replies : List Reply
+
+abbrev pub row : List Call → List Call → List Reply → Row
+row before calls replies = record { before = before; calls = calls; replies = replies }
+
+unfoldable pub rows : List Row
+rows =
+    -- B1 fresh, list query, group 1: 03 FC 03 00 00 00 00 00 after the head
+    row [] (send (request 0x00 1 0 []) ∷ []) (gives (0x03 ∷ 0xfc ∷ 0x03 ∷ 0 ∷ 0 ∷ 0 ∷ 0 ∷ 0 ∷ []) ∷ [])
+    -- B2 fresh, group 1, opcode 0x0a: 16 00 02 00 00 00 00 00
+    ∷ row [] (send (request 0x0a 1 0 []) ∷ []) (written (0x16 ∷ 0 ∷ 2 ∷ 0 ∷ 0 ∷ 0 ∷ 0 ∷ 0 ∷ []) ∷ [])
+    -- B3 group 2 and opcode 0xffff: 22/4
+    ∷ row [] (send (request 0xffff 2 0 []) ∷ []) (refuses 22 4 ∷ [])
+    -- B4 all used, mode set: members 0 and 3 give 22/5, member 2 succeeds
+    ∷ row allUsed (setMode 0 1 ∷ setMode 3 1 ∷ setMode 2 1 ∷ []) (refuses 22 5 ∷ refuses 22 5 ∷ succeeds ∷ [])
+    -- B5 create get object 0; again: 17/1
+    ∷ row allUsed (create 0 0 ∷ create 0 0 ∷ []) (succeeds ∷ refuses 17 1 ∷ [])
+    -- B6 then create get object 1: 28/1; id 2: 22/3; set object 1 succeeds
+    ∷ row (useList 0x3fc03 ∷ create 0 0 ∷ []) (create 1 0 ∷ create 2 0 ∷ create 1 1 ∷ [])
+    (refuses 28 1 ∷ refuses 22 3 ∷ succeeds ∷ [])
+    -- B7 destroy 0, create get 0: succeeds
+    ∷ row objectsLive (destroy 0 ∷ create 0 0 ∷ []) (succeeds ∷ succeeds ∷ [])
+    -- B8 parts set, member running: 11/7
+    ∷ row objectsLive (send (setParts 1 1 (driverPart 7)) ∷ []) (refuses 11 7 ∷ [])
+    -- B9 count 9, size 229
+    ∷ row objectsLive (metadata 0 1 ∷ metadata 0 0 ∷ []) (gives (aNumber 9) ∷ gives (aNumber 229) ∷ [])
+    -- B10 selected: queue notify, then device status. The status comes first
+    ∷ row objectsLive
+    (cardStore 1 0x103 0 (5 ∷ []) ∷ cardStore 1 0x105 0 (1 ∷ 2 ∷ 3 ∷ 4 ∷ 5 ∷ 6 ∷ 7 ∷ 8 ∷ [])
+    ∷ getSelected 0 (headerBytes (header 0x105 0 0 0) ++ headerBytes (header 0x103 0 0 0)) ∷ [])
+    (answered 0 ∷ answered 0 ∷ gives (statusPart ++ notifyPart) ∷ [])
+    -- B11 member stopped, driver features twice in a set: 22/3, parts unchanged
+    ∷ row objectsLive
+    (setMode 1 1 ∷ send (getAll 1 0) ∷ send (setParts 1 1 (driverPart 7 ++ driverPart 7)) ∷ send (getAll 1 0) ∷ [])
+    (succeeds ∷ gives nineParts ∷ refuses 22 3 ∷ gives nineParts ∷ [])
+    -- B12 get-all: a buffer of 236 gives 12/6, of 237 succeeds
+    ∷ row objectsLive (command (getAll 1 0) 236 ∷ command (getAll 1 0) 237 ∷ []) (refuses 12 6 ∷ gives nineParts ∷ [])
+    -- the metadata list
+    ∷ row objectsLive (metadata 0 2 ∷ []) (gives (aNumber 9 ++ nineHeaders) ∷ [])
+    ∷ []
+
+-- what the card replies to the calls of a row
+unfoldable pub repliesTo : Row → List Reply
+repliesTo r =
+    map (λ (e : Event (List ℕ) Call Reply). e .reply)
+    (drop (length (r .before)) (trace step exampleCard (r .before ++ r .calls)))
+
+-- bytes written in the last reply
+abbrev pub sizeOf : Reply → ℕ
+sizeOf (written bs) = length bs
+sizeOf (answered n) = 0
+
+unfoldable pub lastSize : ℕ → List Reply → ℕ
+lastSize n [] = n
+lastSize n (r ∷ rs) = lastSize (sizeOf r) rs
+
+-- the whole table, and the bytes written: B1 16 .. B10 49, B11 and B12 237, the list 160
+pub record Examples : Type 0 where
+  pub table : map repliesTo rows ≡ map (λ (r : Row). r .replies) rows
+  pub sizes : map (λ (r : Row). lastSize 0 (repliesTo r)) rows
+      ≡ 16 ∷ 8 ∷ 8 ∷ 8 ∷ 8 ∷ 8 ∷ 8 ∷ 8 ∷ 16 ∷ 49 ∷ 237 ∷ 237 ∷ 160 ∷ []
