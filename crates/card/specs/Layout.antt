@@ -2,7 +2,7 @@
 -- N members. What is in it, and the card with something else there. Assumes nothing.
 use mathlib.Core.Bool.{Bool}
 use mathlib.Core.List.{List, _∷_, _++_}
-use Prim.Native.Nat.{ℕ, _+_, _*_, _-_}
+use Prim.Native.Nat.{ℕ, _+_, _*_, _-_, _≤_}
 use lib.ListN.{length, getD, take, drop}
 use Rattle.theory.specs.Logic.{within}
 use Rattle.theory.specs.Bytes.{part, put, repeat}
@@ -46,6 +46,11 @@ isMember c m = within 1 (setupOf c .members) m
 
 abbrev pub recordAt : ℕ → ℕ
 recordAt m = headSize + recordSize * (m - 1)
+
+-- the bytes of member m's record are all there
+pub record HasRecord (c : List ℕ) (m : ℕ) : Type 0 where
+  pub low : 1 ≤ m
+  pub high : recordAt m + recordSize ≤ length c
 
 -- the record of member m; one that is put there is cut to its place
 unfoldable pub recordIn : List ℕ → ℕ → List ℕ

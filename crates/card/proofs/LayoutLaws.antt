@@ -1,0 +1,260 @@
+-- The laws of the card's accessors and updaters: what is read after something was written. All above cites these and
+-- never the layout. Assumes nothing.
+use mathlib.Core.Path.{_≡_, refl, ap, sym, _∙_}
+use mathlib.Core.Logic.{_≢_}
+use mathlib.Core.List.{List, [], _∷_, _++_}
+use Prim.Native.Nat.{ℕ, zero, suc, _+_, _*_, _-_, _/_, _^_, _≤_, _<_}
+use native.Mathlib.Omega.{arith}
+use lib.Dec.{leb}
+use lib.ListN.{length, getD, take, drop, replicate, length-append, length-take, length-drop}
+use lib.Seq.{take-take, take-all, take-at, take-add, drop-at, drop-append-add, length-take-le, getD-take}
+use borrow.Rule.Slice.PartMut.{putMid}
+use Rattle.theory.specs.Bytes.{part, put, repeat}
+use Rattle.theory.proofs.Tests.{by-cases, tests}
+use Rattle.theory.proofs.Bytes.{length-put, put-put, put-comm, put-undo, put-part, put-out, put-eq, put-all, part-before, part-after, part-put-as, length-part, length-part-le, getD-part, length-repeat, part-repeat}
+use Rattle.theory.proofs.Lent.{lent-front}
+use Rattle.wire.specs.Le.{le, bytes, number}
+use Rattle.card.proofs.Numbers.{length-bytes, le-bytes, part-take}
+use Rattle.protocol.specs.Opcodes.{freshMask}
+use Rattle.member.specs.declared.Member.{Member}
+use Rattle.member.specs.Record.{recordSize, memberOf, recordOf}
+use Rattle.member.specs.Member.{freshOf}
+use Rattle.card.specs.declared.Setup.{Setup}
+use Rattle.card.specs.Layout.{featuresAt, inUseAt, headSize, cardSize, setupIn, setupOf, inUseOf, withInUse, recordAt, HasRecord, recordIn, withRecord, memberIn, withMember, freshCard}
+
+-- a record's bytes are as many as its place has
+uncut : (r : List ℕ) → length r ≡ recordSize → take recordSize r ≡ r
+uncut r e = take-all recordSize r (omega arith)
+
+cut : (r : List ℕ) → length (take recordSize r) ≤ recordSize
+cut r = length-part-le 0 recordSize r
+
+-- ---- a member's record ----
+
+-- members 1 to N of a card of the right length
+pub has-record : (c : List ℕ) (m : ℕ) → length c ≡ cardSize (setupOf c .members) → 1 ≤ m → m ≤ setupOf c .members → HasRecord c m
+has-record c m e l h = record { low = l; high = omega arith }
+
+pub record-long : (c : List ℕ) (m : ℕ) → HasRecord c m → length (recordIn c m) ≡ recordSize
+unfolding recordIn
+record-long c m h = length-part (recordAt m) recordSize c (h .high)
+
+-- to put what is there changes nothing
+pub record-back : (c : List ℕ) (m : ℕ) → withRecord c m (recordIn c m) ≡ c
+unfolding withRecord recordIn
+record-back c m = rw (take-take recordSize recordSize (drop (recordAt m) c) (omega arith)) (put-part (recordAt m) recordSize c)
+
+module _ (c : List ℕ) (m : ℕ) (r : List ℕ) where
+  pub length-record : length (withRecord c m r) ≡ length c
+  unfolding withRecord
+  length-record = length-put (recordAt m) (take recordSize r) c
+
+  pub setup-record : setupOf (withRecord c m r) ≡ setupOf c
+  unfolding withRecord setupOf
+  setup-record = ap setupIn (part-before 0 inUseAt (recordAt m) (take recordSize r) c (omega arith))
+
+  pub use-record : inUseOf (withRecord c m r) ≡ inUseOf c
+  unfolding withRecord inUseOf number
+  use-record = ap le (part-before inUseAt 8 (recordAt m) (take recordSize r) c (omega arith))
+
+  -- what is put there is there
+  pub record-same : HasRecord c m → length r ≡ recordSize → recordIn (withRecord c m r) m ≡ r
+  unfolding withRecord recordIn
+  record-same h e = rw (uncut r e) (part-put-as (recordAt m) recordSize r c e (h .high))
+
+  -- no other member's record is touched
+  pub record-other : (k : ℕ) → 1 ≤ m → 1 ≤ k → k ≢ m → recordIn (withRecord c m r) k ≡ recordIn c k
+  unfolding withRecord recordIn
+  record-other k l h n =
+      let w = cut r in
+      by-cases (leb k m)
+      (λ e. part-before (recordAt k) recordSize (recordAt m) (take recordSize r) c (omega tests))
+      (λ e. part-after (recordAt k) recordSize (recordAt m) (take recordSize r) c (omega tests))
+
+  -- the last record that is put stands
+  pub record-over : (q : List ℕ) → length q ≡ recordSize → withRecord (withRecord c m r) m q ≡ withRecord c m q
+  unfolding withRecord
+  record-over q e = let w = cut r in rw (uncut q e) (put-put (recordAt m) (take recordSize r) q c (omega arith))
+
+  -- records of two members, in either order
+  pub record-swap : (k : ℕ) (q : List ℕ) → 1 ≤ m → 1 ≤ k → k ≢ m → withRecord (withRecord c m r) k q ≡ withRecord (withRecord c k q) m r
+  unfolding withRecord
+  record-swap k q l h n =
+      let w = cut r in
+      let v = cut q in
+      by-cases (leb k m)
+      (λ e. put-comm (recordAt k) (take recordSize q) (recordAt m) (take recordSize r) c (omega tests))
+      (λ e. sym (put-comm (recordAt m) (take recordSize r) (recordAt k) (take recordSize q) c (omega tests)))
+
+  -- to put back what was there undoes it
+  pub record-undo : withRecord (withRecord c m r) m (recordIn c m) ≡ c
+  unfolding withRecord recordIn
+  record-undo =
+      rw (take-take recordSize recordSize (drop (recordAt m) c) (omega arith))
+      (put-undo (recordAt m) recordSize (take recordSize r) c (cut r))
+
+  -- there is no member m
+  pub record-none : length c ≡ cardSize (setupOf c .members) → setupOf c .members < m → withRecord c m r ≡ c
+  unfolding withRecord
+  record-none e h = put-out (recordAt m) (take recordSize r) c (omega arith)
+
+  -- byte by byte
+  pub record-eq : HasRecord c m → length r ≡ recordSize → withRecord c m r ≡ take (recordAt m) c ++ (r ++ drop (recordAt m + recordSize) c)
+  unfolding withRecord
+  record-eq h e = rw (uncut r e) (rw e at (put-eq (recordAt m) r c (omega arith)))
+
+  -- as code leaves it that stores r from the record's place on
+  pub record-put : length r ≡ recordSize → put (recordAt m) r c ≡ withRecord c m r
+  unfolding withRecord
+  record-put e = rw (uncut r e)
+
+  -- as code leaves it that lends the record's place, n bytes, and gets r back
+  pub record-lent : (n : ℕ) (last : List ℕ) → n ≡ recordSize → last ≡ r → length r ≡ recordSize → HasRecord c m
+      → putMid (recordAt m) n c last ≡ withRecord c m r
+  record-lent n last k q e h =
+      let w : length (part (recordAt m) n c) ≡ length r = rw k (length-part (recordAt m) recordSize c (h .high) ∙ sym e) in
+      lent-front (recordAt m) n r c last (q ∙ sym (put-all r (part (recordAt m) n c) (sym w))) (omega arith) ∙ record-put e
+
+-- ---- the list in use ----
+
+module _ (c : List ℕ) (mask : ℕ) where
+  pub length-use : length (withInUse c mask) ≡ length c
+  unfolding withInUse
+  length-use = length-put inUseAt (bytes 8 mask) c
+
+  pub setup-use : setupOf (withInUse c mask) ≡ setupOf c
+  unfolding withInUse setupOf
+  setup-use = ap setupIn (part-before 0 inUseAt inUseAt (bytes 8 mask) c (omega arith))
+
+  pub record-use : (m : ℕ) → recordIn (withInUse c mask) m ≡ recordIn c m
+  unfolding withInUse recordIn
+  record-use m =
+      let n = length-bytes 8 mask in
+      part-after (recordAt m) recordSize inUseAt (bytes 8 mask) c (omega arith)
+
+  pub use-same : headSize ≤ length c → mask < 256 ^ 8 → inUseOf (withInUse c mask) ≡ mask
+  unfolding withInUse inUseOf number
+  use-same h l = ap le (part-put-as inUseAt 8 (bytes 8 mask) c (length-bytes 8 mask) h) ∙ le-bytes 8 mask l
+
+  pub use-over : (k : ℕ) → withInUse (withInUse c mask) k ≡ withInUse c k
+  unfolding withInUse
+  use-over k =
+      let n = length-bytes 8 mask in
+      let o = length-bytes 8 k in
+      put-put inUseAt (bytes 8 mask) (bytes 8 k) c (omega arith)
+
+  pub use-swap : (m : ℕ) (r : List ℕ) → withInUse (withRecord c m r) mask ≡ withRecord (withInUse c mask) m r
+  unfolding withInUse withRecord
+  use-swap m r =
+      let n = length-bytes 8 mask in
+      put-comm inUseAt (bytes 8 mask) (recordAt m) (take recordSize r) c (omega arith)
+
+-- ---- the setup ----
+
+-- as code reads it
+pub setup-read : (c : List ℕ) → inUseAt ≤ length c
+    → record { members = getD c 0 0; queues = getD c 1 0; gets = getD c 2 0; sets = getD c 3 0; features = part featuresAt 16 c } ≡ setupOf c
+unfolding setupOf setupIn
+setup-read c h =
+    let f : drop featuresAt (take inUseAt c) ≡ part featuresAt 16 c =
+    ap (drop featuresAt) (take-add featuresAt 16 c) ∙ drop-at (take featuresAt c) (part featuresAt 16 c) featuresAt (length-take-le featuresAt c (omega arith)) in
+    let g : (i : ℕ) → i < inUseAt → getD (take inUseAt c) i 0 ≡ getD c i 0 = λ i l. getD-take inUseAt c i 0 l in
+    rw (f, g 0 (omega arith), g 1 (omega arith), g 2 (omega arith), g 3 (omega arith))
+
+pub features-long : (c : List ℕ) → inUseAt ≤ length c → length (setupOf c .features) ≡ 16
+features-long c h = rw (← setup-read c h) (length-part featuresAt 16 c h)
+
+-- the same bytes before a record hold the same setup and list in use
+module _ (c d : List ℕ) (m : ℕ) (e : take (recordAt m) c ≡ take (recordAt m) d) where
+  same-before : (at n : ℕ) → at + n ≤ headSize → part at n c ≡ part at n d
+  same-before at n h =
+      sym (part-take at n (recordAt m) c (omega arith))
+      ∙ ap (part at n) e
+      ∙ part-take at n (recordAt m) d (omega arith)
+
+  pub same-setup : setupOf c ≡ setupOf d
+  unfolding setupOf
+  same-setup = ap setupIn (same-before 0 inUseAt (omega arith))
+
+  pub same-use : inUseOf c ≡ inUseOf d
+  unfolding inUseOf number
+  same-use = ap le (same-before inUseAt 8 (omega arith))
+
+-- ---- a fresh card ----
+
+-- a setup, a list in use and records, one after the other
+module _ (h : List ℕ) (mask : ℕ) (q : List ℕ) (e : length h ≡ inUseAt) where
+  setup-laid : part 0 inUseAt (h ++ (bytes 8 mask ++ q)) ≡ h
+  setup-laid = take-at h (bytes 8 mask ++ q) inUseAt e
+
+  use-laid : part inUseAt 8 (h ++ (bytes 8 mask ++ q)) ≡ bytes 8 mask
+  use-laid = rw (drop-at h (bytes 8 mask ++ q) inUseAt e) (take-at (bytes 8 mask) q 8 (length-bytes 8 mask))
+
+  records-laid : (j n : ℕ) → part (headSize + j) n (h ++ (bytes 8 mask ++ q)) ≡ part j n q
+  records-laid j n =
+      let f = length-bytes 8 mask in
+      let k : headSize + j ≡ length h + (length (bytes 8 mask) + j) = omega arith in
+      rw (k, drop-append-add h (bytes 8 mask ++ q) (length (bytes 8 mask) + j), drop-append-add (bytes 8 mask) q j)
+
+unfoldable headOf : Setup → List ℕ
+headOf s = s .members ∷ s .queues ∷ s .gets ∷ s .sets ∷ s .features
+
+unfoldable recordsOf : Setup → List ℕ
+recordsOf s = repeat (s .members) (recordOf (freshOf (s .features)))
+
+module _ (s : Setup) (e : length (s .features) ≡ 16) where
+  pub fresh-long : length (recordOf (freshOf (s .features))) ≡ recordSize
+  unfolding recordOf freshOf
+  fresh-long = rw (length-append, length-append, e)
+
+  head-long : length (headOf s) ≡ inUseAt
+  unfolding headOf
+  head-long = rw e
+
+  pub length-fresh : length (freshCard s) ≡ cardSize (s .members)
+  unfolding freshCard
+  length-fresh =
+      let n = length-bytes 8 freshMask in
+      let f = length-repeat (s .members) recordSize (recordOf (freshOf (s .features))) fresh-long in
+      rw (length-append, length-append) (omega arith)
+
+  pub setup-fresh : setupOf (freshCard s) ≡ s
+  unfolding freshCard setupOf setupIn headOf recordsOf
+  setup-fresh = ap setupIn (setup-laid (headOf s) freshMask (recordsOf s) head-long)
+
+  pub use-fresh : inUseOf (freshCard s) ≡ freshMask
+  unfolding freshCard inUseOf number headOf recordsOf
+  use-fresh = ap le (use-laid (headOf s) freshMask (recordsOf s) head-long) ∙ le-bytes 8 freshMask (omega arith)
+
+  pub record-fresh : (m : ℕ) → 1 ≤ m → m ≤ s .members → recordIn (freshCard s) m ≡ recordOf (freshOf (s .features))
+  unfolding freshCard recordIn headOf recordsOf
+  record-fresh m l h =
+      records-laid (headOf s) freshMask (recordsOf s) head-long (recordSize * (m - 1)) recordSize
+      ∙ part-repeat (s .members) recordSize (m - 1) (recordOf (freshOf (s .features))) fresh-long (omega arith)
+
+-- ---- a member ----
+
+module _ (c : List ℕ) (m : ℕ) (x : Member) where
+  pub length-member : length (withMember c m x) ≡ length c
+  unfolding withMember
+  length-member = length-record c m (recordOf x)
+
+  pub setup-member : setupOf (withMember c m x) ≡ setupOf c
+  unfolding withMember
+  setup-member = setup-record c m (recordOf x)
+
+  pub use-member : inUseOf (withMember c m x) ≡ inUseOf c
+  unfolding withMember
+  use-member = use-record c m (recordOf x)
+
+  pub member-other : (k : ℕ) → 1 ≤ m → 1 ≤ k → k ≢ m → memberIn (withMember c m x) k ≡ memberIn c k
+  unfolding withMember memberIn
+  member-other k l h n = ap memberOf (record-other c m (recordOf x) k l h n)
+
+  pub member-over : (y : Member) → length (recordOf y) ≡ recordSize → withMember (withMember c m x) m y ≡ withMember c m y
+  unfolding withMember
+  member-over y e = record-over c m (recordOf x) (recordOf y) e
+
+  pub member-swap : (k : ℕ) (y : Member) → 1 ≤ m → 1 ≤ k → k ≢ m → withMember (withMember c m x) k y ≡ withMember (withMember c k y) m x
+  unfolding withMember
+  member-swap k y l h n = record-swap c m (recordOf x) k (recordOf y) l h n
