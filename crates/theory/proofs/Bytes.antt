@@ -6,7 +6,7 @@ use Prim.Native.Nat.{ℕ, zero, suc, _+_, _*_, _-_, _≤_, _<_}
 use native.Mathlib.Nat.{zero-add, add-zero, add-suc, suc-add}
 use native.Mathlib.Omega.{arith}
 use lib.ListN.{length, getD, take, drop, set, length-append, length-take, length-drop, drop-of-length-le}
-use lib.Seq.{length-take-le, take-at, drop-at, take-nil, drop-nil, drop-append-add, take-append-le, getD-drop, getD-take}
+use lib.Seq.{length-take-le, take-at, drop-at, take-nil, drop-nil, drop-append-add, drop-drop, take-take, getD-drop, getD-take}
 use Rattle.theory.specs.Bytes.{part, put, repeat}
 
 -- ---- put ----
@@ -154,6 +154,11 @@ part-put-as at n x l e h = rw (← e) (part-put at x l (rw e h))
 
 -- ---- a part ----
 
+drop-take : (n m : ℕ) (l : List ℕ) → drop n (take (n + m) l) ≡ take m (drop n l)
+drop-take zero m l = rw zero-add
+drop-take (suc n) m [] = rw (suc-add, take-nil)
+drop-take (suc n) m (x ∷ l) = rw suc-add (drop-take n m l)
+
 pub length-part : (at n : ℕ) (l : List ℕ) → at + n ≤ length l → length (part at n l) ≡ n
 length-part at n l h = length-take-le n (drop at l) (rw length-drop (omega arith))
 
@@ -162,6 +167,14 @@ length-part-le at n l = rw length-take (omega arith)
 
 pub getD-part : (at n i : ℕ) (l : List ℕ) → i < n → getD (part at n l) i 0 ≡ getD l (at + i) 0
 getD-part at n i l h = rw (getD-take, getD-drop)
+
+-- a part of a part
+pub part-part : (at n b m : ℕ) (l : List ℕ) → at + n ≤ m → part at n (part b m l) ≡ part (b + at) n l
+part-part at n b m l h =
+    let k : n ≤ m - at = omega arith in
+    let e : m ≡ at + (m - at) = omega arith in
+    ap (λ j. part at n (part b j l)) e
+    ∙ rw (drop-take at (m - at) (drop b l), drop-drop) (take-take n (m - at) (drop (b + at) l) k)
 
 -- ---- repeat ----
 
