@@ -1,0 +1,89 @@
+-- The laws of `le`, `bytes` and `number`, each once, over the width. Assumes nothing.
+use mathlib.Core.Path.{_≡_, refl, ap, sym, _∙_}
+use mathlib.Core.List.{List, [], _∷_}
+use Prim.Native.Nat.{ℕ, zero, suc, _+_, _*_, _/_, _%_, _^_, _≤_, _<_}
+use native.Mathlib.Nat.{zero-add, add-zero, pow-succ'}
+use native.Mathlib.Numerals.{add-one}
+use native.Mathlib.Omega.{arith}
+use lib.ListN.{length, getD, take, drop}
+use lib.Seq.{take-nil, drop-nil, drop-cons, drop-drop, take-take}
+use Rattle.theory.specs.Bytes.{part, put}
+use Rattle.theory.proofs.Bytes.{part-before, part-after, part-put-as, part-part}
+use Rattle.wire.specs.Le.{le, bytes, number}
+
+-- ---- the bytes of a number ----
+
+pub length-bytes : (n x : ℕ) → length (bytes n x) ≡ n
+unfolding bytes
+length-bytes zero x = refl
+length-bytes (suc n) x = ap suc (length-bytes n (x / 256))
+
+pub le-bytes : (n x : ℕ) → x < 256 ^ n → le (bytes n x) ≡ x
+unfolding bytes le
+le-bytes zero x h = omega arith
+le-bytes (suc n) x h = rw (le-bytes n (x / 256) (let k = rw pow-succ' at h in omega arith)) (omega arith)
+
+-- ---- the number at a place; a byte past the end counts as 0 ----
+
+pub number-none : (at : ℕ) (l : List ℕ) → number at 0 l ≡ 0
+unfolding number le
+number-none at l = refl
+
+pub number-step : (at n : ℕ) (l : List ℕ) → number at (suc n) l ≡ getD l at 0 + 256 * number (at + 1) n l
+unfolding number le
+number-step at n [] = rw (drop-nil at, drop-nil (at + 1), take-nil n)
+number-step zero n (x ∷ l) = refl
+number-step (suc at) n (x ∷ l) = number-step at n l ∙ rw (add-one, add-one)
+
+pub number-byte : (at : ℕ) (l : List ℕ) → number at 1 l ≡ getD l at 0
+number-byte at l = number-step at 0 l ∙ rw number-none (omega arith)
+
+-- the low bytes and the high ones
+pub number-split : (a b at : ℕ) (l : List ℕ) → number at (a + b) l ≡ number at a l + 256 ^ a * number (at + a) b l
+number-split zero b at l = rw (zero-add, add-zero, number-none) (omega arith)
+number-split (suc a) b at l =
+    let e : suc a + b ≡ suc (a + b) = omega arith in
+    let f : at + 1 + a ≡ at + suc a = omega arith in
+    rw (e, number-step at (a + b) l, number-step at a l, number-split a b (at + 1) l, f, pow-succ') (omega arith)
+
+-- a number read in halves, in the form in which a need asks it
+pub halves : (w at low high : ℕ) (l : List ℕ) → low ≡ number at w l → high ≡ number (at + w) w l → low + 256 ^ w * high ≡ number at (w + w) l
+halves w at low high l e f = rw (number-split w w at l, e, f)
+
+-- in a part of a list
+pub number-drop : (at n b : ℕ) (l : List ℕ) → number at n (drop b l) ≡ number (b + at) n l
+unfolding number
+number-drop at n b l = rw drop-drop
+
+pub number-part : (at n b m : ℕ) (l : List ℕ) → at + n ≤ m → number at n (part b m l) ≡ number (b + at) n l
+unfolding number
+number-part at n b m l h = ap le (part-part at n b m l h)
+
+-- of bytes, each below 256
+module _ (l : List ℕ) (small : (i : ℕ) → getD l i 0 < 256) where
+  pub number-below : (n at : ℕ) → number at n l < 256 ^ n
+  number-below zero at = rw number-none (omega arith)
+  number-below (suc n) at = rw (number-step, pow-succ') (omega (arith, small at, number-below n (at + 1)))
+
+  pub bytes-number : (n at : ℕ) → at + n ≤ length l → bytes n (number at n l) ≡ part at n l
+  unfolding bytes
+  bytes-number zero at h = refl
+  bytes-number (suc n) at h =
+      let k : at < length l = omega arith in
+      let low : (getD l at 0 + 256 * number (at + 1) n l) % 256 ≡ getD l at 0 = omega (arith, small at) in
+      let high : (getD l at 0 + 256 * number (at + 1) n l) / 256 ≡ number (at + 1) n l = omega (arith, small at) in
+      rw (number-step, low, high, drop-cons l at 0 k, bytes-number n (at + 1) (omega arith), add-one)
+
+-- ---- the number at a place where something was put ----
+
+pub number-before : (at n i : ℕ) (x l : List ℕ) → at + n ≤ i → number at n (put i x l) ≡ number at n l
+unfolding number
+number-before at n i x l h = ap le (part-before at n i x l h)
+
+pub number-after : (at n i : ℕ) (x l : List ℕ) → i + length x ≤ at → number at n (put i x l) ≡ number at n l
+unfolding number
+number-after at n i x l h = ap le (part-after at n i x l h)
+
+pub number-put : (at n x : ℕ) (l : List ℕ) → at + n ≤ length l → x < 256 ^ n → number at n (put at (bytes n x) l) ≡ x
+unfolding number
+number-put at n x l h k = ap le (part-put-as at n (bytes n x) l (length-bytes n x) h) ∙ le-bytes n x k

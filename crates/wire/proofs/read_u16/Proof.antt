@@ -1,0 +1,11 @@
+-- `wire::read_u16` meets its contract: a number is read in halves. Assumes nothing.
+use Rattle.wire.proofs.Le.{halves}
+use borrow.Author.Needs.{needs}
+use Rattle.wire.proofs.read_u16.Statement.{statement}
+use Rattle.wire.proofs.read_u16.Tie as tie
+
+pub read-u16-spec : {M : Type 1} → statement M
+read-u16-spec =
+    tie.close
+    (tie.spec (λ c κs. search needs) (λ c. search needs) (λ c κs. search needs) (λ c. search needs)
+    (λ c. search needs) (λ c. search needs) (λ c. search (needs, halves 1)))
