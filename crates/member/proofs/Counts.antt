@@ -1,0 +1,66 @@
+-- Counting the bytes of a list, and whether each is at most a number: one byte changed, and what a loop has counted
+-- so far. Assumes nothing.
+use mathlib.Core.Path.{_≡_, refl, ap}
+use mathlib.Core.Bool.{true}
+use mathlib.Core.List.{List, [], _∷_, map}
+use Prim.Native.Nat.{ℕ, zero, suc, _+_, _-_, _≤_, _<_}
+use native.Mathlib.Omega.{arith}
+use lib.Dec.{leb, ltb}
+use lib.ListN.{drop, set, replicate}
+use lib.Seq.{drop-set-lt, drop-set-add}
+use borrow.Author.Tests.{leb-true, le-leb, ne-eqb}
+use Rattle.theory.specs.Logic.{_and_, one}
+use Rattle.theory.proofs.Tests.{by-cases, both, and-i, one-false, tests}
+use Rattle.member.specs.Record.{objectsSize}
+use Rattle.member.specs.Objects.{count, allUpTo, withinLimits}
+
+pub map-set : {A B : Type 0} (f : A → B) (l : List A) (i : ℕ) (x : A) → map f (set l i x) ≡ set (map f l) i (f x)
+map-set f [] i x = refl
+map-set f (y ∷ l) zero x = refl
+map-set f (y ∷ l) (suc i) x = ap (f y ∷_) (map-set f l i x)
+
+-- ---- one byte changed ----
+
+-- a byte that is not v adds nothing to the count of v
+pub count-set : (v : ℕ) (bs : List ℕ) (i b : ℕ) → (b ≡ v → ⊥) → count v (set bs i b) ≤ count v bs
+unfolding count
+count-set v [] i b n = omega arith
+count-set v (a ∷ bs) zero b n = omega (arith, one-false _ (ne-eqb b v n))
+count-set v (a ∷ bs) (suc i) b n = omega (arith, count-set v bs i b n)
+
+pub all-set : (n : ℕ) (bs : List ℕ) (i b : ℕ) → leb b n ≡ true → allUpTo n bs ≡ true → allUpTo n (set bs i b) ≡ true
+unfolding allUpTo
+all-set n [] i b h e = e
+all-set n (a ∷ bs) zero b h e = and-i _ _ h (both _ _ e .1)
+all-set n (a ∷ bs) (suc i) b h e = let p = both _ _ e in and-i _ _ (p .0) (all-set n bs i b h (p .1))
+
+-- a byte set to 0 leaves those from k on free
+pub all-drop-set : (k : ℕ) (bs : List ℕ) (i : ℕ) → allUpTo 0 (drop k bs) ≡ true → allUpTo 0 (drop k (set bs i 0)) ≡ true
+all-drop-set k bs i e =
+    by-cases (ltb i k)
+    (λ t. let h : i < k = omega tests in rw (drop-set-lt k bs i 0 h) e)
+    (λ t. let h : i ≡ k + (i - k) = omega tests in rw (h, drop-set-add k bs (i - k) 0) (all-set 0 (drop k bs) (i - k) 0 refl e))
+
+pub all-drop : (n k : ℕ) (bs : List ℕ) → allUpTo n bs ≡ true → allUpTo n (drop k bs) ≡ true
+unfolding allUpTo
+all-drop n zero bs e = e
+all-drop n (suc k) [] e = e
+all-drop n (suc k) (b ∷ bs) e = all-drop n k bs (both _ _ e .1)
+
+-- no more of each, so within the same limits
+pub limits-set : (gets sets : ℕ) (bs : List ℕ) (i : ℕ) → withinLimits gets sets bs ≡ true → withinLimits gets sets (set bs i 0) ≡ true
+unfolding withinLimits
+limits-set gets sets bs i e =
+    let p = both _ _ e in
+    and-i _ _
+    (le-leb _ gets (omega (arith, count-set 1 bs i 0 (omega arith), leb-true _ gets (p .0))))
+    (le-leb _ sets (omega (arith, count-set 2 bs i 0 (omega arith), leb-true _ sets (p .1))))
+
+-- no object is live
+pub none-live : allUpTo 0 (replicate objectsSize 0) ≡ true
+unfolding allUpTo _and_
+none-live = refl
+
+pub none-counted : (gets sets : ℕ) → withinLimits gets sets (replicate objectsSize 0) ≡ true
+unfolding withinLimits count one
+none-counted gets sets = and-i _ _ (le-leb 0 gets (omega arith)) (le-leb 0 sets (omega arith))

@@ -1,0 +1,130 @@
+-- A member comes back from its record, and a sound record from its member. Assumes nothing.
+use mathlib.Core.Path.{_≡_, refl, _∙_}
+use mathlib.Core.Bool.{true}
+use mathlib.Core.List.{List, [], _∷_, map}
+use Prim.Native.Nat.{ℕ, zero, suc, _≤_}
+use native.Mathlib.Omega.{arith}
+use borrow.Author.Tests.{leb-true}
+use lib.Dec.{leb}
+use lib.ListN.{length, getD, take, drop, length-append, length-map, length-set, length-drop, take-append-drop}
+use lib.Seq.{take-at, drop-at, take-all}
+use Rattle.theory.specs.Bytes.{part}
+use Rattle.theory.proofs.Tests.{both, and-i}
+use Rattle.theory.proofs.Bytes.{length-part}
+use Rattle.inventory.specs.Inventory.{valuesSize}
+use Rattle.protocol.specs.declared.Mode.{Mode}
+use Rattle.protocol.specs.declared.Mode.the-variants.{Running, Stopped}
+use Rattle.member.specs.declared.Slot.{Slot}
+use Rattle.member.specs.declared.Slot.the-variants.{Free, Get, Set}
+use Rattle.member.specs.declared.ObjectRecord.{ObjectRecord}
+use Rattle.member.specs.declared.Member.{Member}
+use Rattle.member.specs.Record.{objectsAt, objectsSize, valuesAt, recordSize, modeOf, modeByte, slotOf, slotByte, objectOf, objectByte, objectBytes, memberOf, recordOf}
+use Rattle.member.specs.Objects.{allUpTo, withObject}
+use Rattle.member.specs.Member.{withMode, withValues}
+
+-- its arrays are as long as its type says
+pub record Shaped (m : Member) : Type 0 where
+  pub ids : length (m .objects) ≡ objectsSize
+  pub long : length (m .values) ≡ valuesSize
+
+pub shaped-mode : (m : Member) → Shaped m → (mode : Mode) → Shaped (withMode m mode)
+shaped-mode m s mode = record { ids = s .ids; long = s .long }
+
+pub shaped-values : (m : Member) → Shaped m → (values : List ℕ) → length values ≡ valuesSize → Shaped (withValues m values)
+shaped-values m s values n = record { ids = s .ids; long = n }
+
+pub shaped-object : (m : Member) → Shaped m → (id : ℕ) (slot : Slot) → Shaped (withObject m id slot)
+unfolding withObject
+shaped-object m s id slot = record { ids = length-set (m .objects) id (record { slot = slot }) ∙ s .ids; long = s .long }
+
+-- ---- a byte and what it stands for ----
+
+mode-back : (m : Mode) → modeOf (modeByte m) ≡ m
+mode-back Running = refl
+mode-back Stopped = refl
+
+slot-back : (s : Slot) → slotOf (slotByte s) ≡ s
+slot-back Free = refl
+slot-back Get = refl
+slot-back Set = refl
+
+objects-back : (os : List ObjectRecord) → map objectOf (map objectByte os) ≡ os
+objects-back [] = refl
+objects-back (o ∷ os) = rw (slot-back (o .slot), objects-back os)
+
+byte-of-mode : (b : ℕ) → b ≤ 1 → modeByte (modeOf b) ≡ b
+byte-of-mode zero h = refl
+byte-of-mode (suc b) h = omega arith
+
+byte-of-slot : (b : ℕ) → b ≤ 2 → slotByte (slotOf b) ≡ b
+byte-of-slot zero h = refl
+byte-of-slot (suc zero) h = refl
+byte-of-slot (suc (suc b)) h = omega arith
+
+bytes-of-objects : (bs : List ℕ) → allUpTo 2 bs ≡ true → map objectByte (map objectOf bs) ≡ bs
+unfolding allUpTo
+bytes-of-objects [] e = refl
+bytes-of-objects (b ∷ bs) e =
+    let p = both _ _ e in
+    rw (byte-of-slot b (leb-true b 2 (p .0)), bytes-of-objects bs (p .1))
+
+pub mode-low : (m : Mode) → leb (modeByte m) 1 ≡ true
+mode-low Running = refl
+mode-low Stopped = refl
+
+slot-low : (s : Slot) → leb (slotByte s) 2 ≡ true
+slot-low Free = refl
+slot-low Get = refl
+slot-low Set = refl
+
+pub objects-low : (os : List ObjectRecord) → allUpTo 2 (map objectByte os) ≡ true
+unfolding allUpTo
+objects-low [] = refl
+objects-low (o ∷ os) = and-i _ _ (slot-low (o .slot)) (objects-low os)
+
+-- ---- the record of a member ----
+
+module _ (m : Member) (s : Shaped m) where
+  bytes-long : length (map objectByte (m .objects)) ≡ objectsSize
+  bytes-long = length-map (m .objects) objectByte ∙ s .ids
+
+  pub length-record : length (recordOf m) ≡ recordSize
+  unfolding recordOf
+  length-record = rw length-append (omega (arith, bytes-long))
+
+  pub record-objects : objectBytes (recordOf m) ≡ map objectByte (m .objects)
+  unfolding recordOf
+  record-objects = take-at _ (m .values) objectsSize bytes-long
+
+  -- the values stand last, so each part of them is a part of the record
+  pub record-values : (n : ℕ) → part valuesAt n (recordOf m) ≡ take n (m .values)
+  unfolding recordOf
+  record-values n = rw (drop-at (map objectByte (m .objects)) (m .values) objectsSize bytes-long)
+
+  pub record-mode : getD (recordOf m) 0 0 ≡ modeByte (m .mode)
+  unfolding recordOf
+  record-mode = refl
+
+  pub member-back : memberOf (recordOf m) ≡ m
+  unfolding memberOf
+  member-back =
+      let v : part valuesAt valuesSize (recordOf m) ≡ m .values = record-values valuesSize ∙ take-all valuesSize (m .values) (omega arith) in
+      rw (record-mode, mode-back (m .mode), record-objects, objects-back (m .objects), v)
+
+-- ---- the member of a record ----
+
+module _ (r : List ℕ) (e : length r ≡ recordSize) where
+  pub member-shaped : Shaped (memberOf r)
+  unfolding memberOf
+  member-shaped = record {
+    ids = length-map (objectBytes r) objectOf ∙ length-part objectsAt objectsSize r (omega arith);
+    long = length-part valuesAt valuesSize r (omega arith);
+  }
+
+-- what the record of a member leaves out is nothing, where its bytes say something
+pub record-back : (r : List ℕ) → length r ≡ recordSize → leb (getD r 0 0) 1 ≡ true → allUpTo 2 (objectBytes r) ≡ true → recordOf (memberOf r) ≡ r
+unfolding memberOf recordOf
+record-back [] e h a = cc
+record-back (b ∷ r) e h a =
+    let v : part objectsSize valuesSize r ≡ drop objectsSize r = take-all valuesSize (drop objectsSize r) (rw length-drop (omega arith)) in
+    rw (byte-of-mode b (leb-true b 1 h), bytes-of-objects (take objectsSize r) a, v, take-append-drop objectsSize r)

@@ -1,0 +1,94 @@
+-- What keeps a member sound. `SoundMember` says in plain facts what the test on its record says; each law is over a sound
+-- member. Assumes nothing.
+use mathlib.Core.Path.{_≡_, refl, _∙_}
+use mathlib.Core.Bool.{true}
+use mathlib.Core.List.{List, map}
+use Prim.Native.Nat.{ℕ, _+_, _<_}
+use native.Mathlib.Omega.{arith}
+use lib.ListN.{length, drop, replicate, length-append}
+use lib.Seq.{take-at, drop-set-lt}
+use Rattle.theory.specs.Bytes.{part}
+use Rattle.theory.proofs.Tests.{both, and-i, same-true, eq-same}
+use Rattle.inventory.specs.Inventory.{valuesSize}
+use Rattle.protocol.specs.declared.Mode.{Mode}
+use Rattle.member.specs.declared.Slot.{Slot}
+use Rattle.member.specs.declared.Slot.the-variants.{Free}
+use Rattle.member.specs.declared.Member.{Member}
+use Rattle.member.specs.Record.{objectsSize, recordSize, objectByte, memberOf, recordOf}
+use Rattle.member.specs.Objects.{allUpTo, roomIn, withObject}
+use Rattle.member.specs.Member.{freshOf, featuresIn, withMode, withValues}
+use Rattle.member.specs.Sound.{soundRecord}
+use Rattle.member.proofs.Record.{Shaped, mode-low, objects-low, record-mode, record-objects, record-values, record-back, member-shaped, shaped-mode, shaped-values, shaped-object}
+use Rattle.member.proofs.Counts.{map-set, all-drop-set, all-drop, limits-set, none-live, none-counted}
+
+module _ (gets sets : ℕ) (features : List ℕ) where
+  pub record SoundMember (m : Member) : Type 0 where
+    pub shaped : Shaped m
+    pub below : allUpTo 0 (drop (gets + sets) (map objectByte (m .objects))) ≡ true
+    pub room : roomIn gets sets m ≡ true
+    pub kept : featuresIn m ≡ features
+
+  -- ---- the record of a sound member is sound, and back ----
+
+  pub sound-record : (m : Member) → SoundMember m → soundRecord gets sets features (recordOf m) ≡ true
+  unfolding soundRecord
+  sound-record m s =
+      let h = s .shaped in
+      rw (record-mode m h, record-objects m h, record-values m h 16)
+      (and-i _ _ (and-i _ _ (and-i _ _ (and-i _ _ (mode-low (m .mode)) (objects-low (m .objects))) (s .below)) (s .room))
+      (eq-same _ _ (s .kept)))
+
+  pub record-sound : (m : Member) → Shaped m → soundRecord gets sets features (recordOf m) ≡ true → SoundMember m
+  unfolding soundRecord
+  record-sound m h e =
+      let p = both _ _ (rw (record-mode m h, record-objects m h, record-values m h 16) at e) in
+      let q = both _ _ (p .0) in
+      record { shaped = h; below = both _ _ (q .0) .1; room = q .1; kept = same-true _ _ (p .1) }
+
+  pub sound-back : (r : List ℕ) → length r ≡ recordSize → soundRecord gets sets features r ≡ true → recordOf (memberOf r) ≡ r
+  unfolding soundRecord
+  sound-back r n e = let p = both _ _ (both _ _ (both _ _ (both _ _ e .0) .0) .0) in record-back r n (p .0) (p .1)
+
+  -- of a record that is sound
+  pub sound-member : (r : List ℕ) → length r ≡ recordSize → soundRecord gets sets features r ≡ true → SoundMember (memberOf r)
+  sound-member r n e = record-sound (memberOf r) (member-shaped r n) (rw (sound-back r n e) e)
+
+  -- ---- what leaves a member sound ----
+
+  pub sound-fresh : length features ≡ 16 → SoundMember (freshOf features)
+  unfolding freshOf
+  sound-fresh n = record {
+    shaped = record { ids = refl; long = rw length-append (omega arith) };
+    below = all-drop 0 (gets + sets) (replicate objectsSize 0) none-live;
+    room = none-counted gets sets;
+    kept = take-at features (replicate 189 0) 16 n;
+  }
+
+  module _ (m : Member) (s : SoundMember m) where
+    pub sound-mode : (mode : Mode) → SoundMember (withMode m mode)
+    sound-mode mode = record { shaped = shaped-mode m (s .shaped) mode; below = s .below; room = s .room; kept = s .kept }
+
+    -- other values, with the same device features
+    pub sound-values : (values : List ℕ) → length values ≡ valuesSize → part 0 16 values ≡ featuresIn m → SoundMember (withValues m values)
+    sound-values values n e = record { shaped = shaped-values m (s .shaped) values n; below = s .below; room = s .room; kept = e ∙ s .kept }
+
+    -- an object that the limits allow, at an id that is valid
+    pub sound-object : (id : ℕ) (slot : Slot) → id < gets + sets → roomIn gets sets (withObject m id slot) ≡ true → SoundMember (withObject m id slot)
+    unfolding withObject
+    sound-object id slot h e = record {
+      shaped = shaped-object m (s .shaped) id slot;
+      below = rw (map-set, drop-set-lt) (s .below);
+      room = e;
+      kept = s .kept;
+    }
+
+    -- an object destroyed
+    pub sound-free : (id : ℕ) → SoundMember (withObject m id Free)
+    unfolding withObject
+    sound-free id =
+        record {
+          shaped = shaped-object m (s .shaped) id Free;
+          below = rw map-set (all-drop-set (gets + sets) _ id (s .below));
+          room = rw map-set (limits-set gets sets _ id (s .room));
+          kept = s .kept;
+        }
