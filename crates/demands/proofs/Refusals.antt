@@ -1,0 +1,57 @@
+-- A refusal leaves the card as it stood: every definition gives the card back where its answer is not 0. Assumes nothing.
+use mathlib.Core.Path.{_≡_, refl}
+use mathlib.Core.Bool.{true, not}
+use mathlib.Core.List.{List}
+use Prim.Native.Nat.{ℕ}
+use lib.Dec.{eqb}
+use borrow.Author.Tests.{eqb-true}
+use Rattle.theory.specs.Logic.{if_then_else_}
+use Rattle.theory.proofs.Tests.{by-cases, unless-cases}
+use Rattle.wire.specs.Le.{le, bytes, number}
+use Rattle.protocol.specs.declared.Answer.{Answer}
+use Rattle.protocol.specs.declared.EventAnswer.{EventAnswer}
+use Rattle.protocol.specs.Answers.{statusOf, isDone, eventNumber}
+use Rattle.card.specs.Events.{resetMember, resetCard, ifDone, storeIn, store}
+use Rattle.reply.specs.Reply.{headOf, replyOf}
+use Rattle.admin.specs.Command.{finish, conclude, respond}
+use Rattle.demands.specs.Calls.{Call, command, memberReset, cardReset, cardStore, Reply, written, answered, step}
+use Rattle.demands.specs.Claims.{refused, RefusalsChangeNothing}
+
+-- a number that is refused picks the card as it was
+kept : (n : ℕ) (next c : List ℕ) → not (eqb n 0) ≡ true → (if eqb n 0 then next else c) ≡ c
+unfolding if_then_else_
+kept n next c e = by-cases (eqb n 0) (λ t. let z = rw t at e in cc) (λ t. rw t)
+
+-- the status is what the reply's first two bytes say
+says-refused : (a : Answer) (result : List ℕ) → refused (written (replyOf a result)) ≡ true → not (isDone a) ≡ true
+unfolding refused replyOf headOf bytes number le
+says-refused a result e =
+    by-cases (isDone a) (λ t. let z = rw (eqb-true (statusOf a) 0 t) at e in cc) (λ t. rw t)
+
+-- what is to be shown of a command and of an event
+Keeps : List ℕ → List ℕ × List ℕ → Type 0
+Keeps c y = refused (written (y .1)) ≡ true → y .0 ≡ c
+
+KeepsEvent : List ℕ → EventAnswer × List ℕ → Type 0
+KeepsEvent c y = refused (answered (eventNumber (y .0))) ≡ true → y .1 ≡ c
+
+finish-keeps : (c next result : List ℕ) (a : Answer) → Keeps c (finish c next result a)
+unfolding Keeps
+finish-keeps c next result a e = kept (statusOf a) next c (says-refused a result e)
+
+done-keeps : (a : EventAnswer) (next c : List ℕ) → KeepsEvent c (ifDone a next c)
+unfolding KeepsEvent ifDone refused
+done-keeps a next c e = kept (eventNumber a) next c e
+
+pub refusals-change-nothing : RefusalsChangeNothing
+unfolding step respond conclude resetMember resetCard store storeIn refused Keeps KeepsEvent
+refusals-change-nothing c (command r room) =
+    unless-cases (Keeps c) _ _ _ (λ t e. refl) (λ t. finish-keeps c _ _ _)
+refusals-change-nothing c (memberReset m) =
+    unless-cases (KeepsEvent c) _ _ _ (λ t e. refl) (λ t.
+    unless-cases (KeepsEvent c) _ _ _ (λ t e. refl) (λ t e. cc))
+refusals-change-nothing c cardReset =
+    unless-cases (KeepsEvent c) _ _ _ (λ t e. refl) (λ t e. cc)
+refusals-change-nothing c (cardStore m t s value) =
+    unless-cases (KeepsEvent c) _ _ _ (λ t e. refl) (λ t.
+    unless-cases (KeepsEvent c) _ _ _ (λ t e. refl) (λ t. done-keeps _ _ c))
