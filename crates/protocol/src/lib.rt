@@ -1,5 +1,9 @@
 // The vocabulary of the group administration commands: answers and their numbers, opcodes, and what a request can
 // ask of a member.
+ghost use mathlib.Core.Path.{_≡_};
+ghost use mathlib.Core.Bool.{true};
+ghost use Rattle.protocol.specs.Answers.{statusOf, qualifierOf, isDone, eventNumber};
+ghost use Rattle.protocol.specs.Opcodes.{supported, lengthFits, namesMember, bit, supportedOnly};
 
 // The answer to a command: document 01, "Statuses, and which comes first".
 pub enum Answer {
@@ -61,4 +65,142 @@ pub enum ChangeOp {
     Destroy(usize),
     SetParts(usize),
     SetMode(Mode),
+}
+
+pub fn status(a: Answer) -> u16
+    ensures { λ r. ⌜ r ≡ statusOf a ⌝ }
+{
+    match a {
+        Answer::Done => 0,
+        Answer::BadLength => 22,
+        Answer::BadGroup => 22,
+        Answer::BadOpcode => 22,
+        Answer::NoMember => 22,
+        Answer::BadField => 22,
+        Answer::Exists => 17,
+        Answer::NotLive => 6,
+        Answer::NoRoom => 28,
+        Answer::WrongKind => 22,
+        Answer::Running => 11,
+        Answer::BadList => 22,
+        Answer::ShortReply => 12,
+    }
+}
+
+pub fn qualifier(a: Answer) -> u16
+    ensures { λ r. ⌜ r ≡ qualifierOf a ⌝ }
+{
+    match a {
+        Answer::Done => 0,
+        Answer::BadLength => 1,
+        Answer::BadGroup => 4,
+        Answer::BadOpcode => 2,
+        Answer::NoMember => 5,
+        Answer::BadField => 3,
+        Answer::Exists => 1,
+        Answer::NotLive => 1,
+        Answer::NoRoom => 1,
+        Answer::WrongKind => 3,
+        Answer::Running => 7,
+        Answer::BadList => 3,
+        Answer::ShortReply => 6,
+    }
+}
+
+pub fn is_done(a: Answer) -> bool
+    ensures { λ r. ⌜ r ≡ isDone a ⌝ }
+{
+    status(a) == 0
+}
+
+pub fn event_number(a: EventAnswer) -> u8
+    ensures { λ r. ⌜ r ≡ eventNumber a ⌝ }
+{
+    match a {
+        EventAnswer::Done => 0,
+        EventAnswer::NotSound => 9,
+        EventAnswer::NoMember => 1,
+        EventAnswer::NoPart => 2,
+        EventAnswer::WrongLength => 3,
+        EventAnswer::BadSetup => 4,
+    }
+}
+
+// The rows of the opcodes 0x00 to 0x11: data is from LEAST to MOST bytes long, in steps of UNIT; no unit: not supported.
+const LEAST: [u16; 18] = [0, 8, 0, 0, 0, 0, 0, 0, 0, 0, 24, 24, 16, 8, 16, 16, 8, 1];
+
+const MOST: [u16; 18] = [
+    0,
+    8,
+    0,
+    0,
+    0,
+    0,
+    0,
+    0,
+    0,
+    0,
+    24,
+    24,
+    16,
+    8,
+    16,
+    4072,
+    4072,
+    1,
+];
+
+const UNIT: [u16; 18] = [1, 1, 0, 0, 0, 0, 0, 0, 0, 0, 1, 1, 1, 1, 1, 16, 1, 1];
+
+pub fn supported(op: usize) -> bool
+    ensures { λ r. ⌜ r ≡ supported op ⌝ }
+{
+    if 17 < op {
+        return false;
+    }
+    0 < UNIT[op]
+}
+
+pub fn length_fits(op: usize, n: usize) -> bool
+    requires { ⌜ supported op ≡ true ⌝ }
+    ensures { λ r. ⌜ r ≡ lengthFits op n ⌝ }
+{
+    let least = LEAST[op] as usize;
+    if n < least {
+        return false;
+    }
+    if (MOST[op] as usize) < n {
+        return false;
+    }
+    (n - least) % (UNIT[op] as usize) == 0
+}
+
+// The commands that name a member: 0x0a to 0x11.
+pub fn names_member(op: usize) -> bool
+    ensures { λ r. ⌜ r ≡ namesMember op ⌝ }
+{
+    if op < 0x0a {
+        return false;
+    }
+    op <= 0x11
+}
+
+// Bit k of a list of opcodes: opcode k is in it.
+pub fn bit(mask: u64, k: usize) -> bool
+    ensures { λ r. ⌜ r ≡ bit mask k ⌝ }
+{
+    if 63 < k {
+        return false;
+    }
+    (mask >> k) % 2 == 1
+}
+
+// No bit but 0, 1 and 10 to 17.
+pub fn supported_only(mask: u64) -> bool
+    ensures { λ r. ⌜ r ≡ supportedOnly mask ⌝ }
+{
+    if mask / 4 % 256 != 0 {
+        return false;
+    }
+    mask < 0x40000
 }

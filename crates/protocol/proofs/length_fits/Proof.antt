@@ -1,0 +1,16 @@
+use borrow.Author.Needs.{needs}
+use Rattle.protocol.specs.Opcodes.{opcodeRows}
+use Rattle.protocol.proofs.Rows.{supported-below, unit-positive, too-short, too-long, in-steps, entry-fits}
+use Rattle.protocol.proofs.length_fits.Statement.{statement}
+use Rattle.protocol.proofs.length_fits.Tie as tie
+
+ruleset reads = (needs, supported-below, entry-fits)
+
+pub length-fits-spec : {M : Type 1} → statement M
+unfolding opcodeRows
+length-fits-spec =
+    tie.close
+    (tie.spec (λ c. search reads) (λ c. search reads) (λ c. search reads) (λ c. search (needs, too-short))
+    (λ c. search reads) (λ c. search reads) (λ c. search reads) (λ c. search (needs, too-long))
+    (λ c. search reads) (λ c. search reads) (λ c. search reads) (λ c. search (needs, unit-positive))
+    (λ c. search (needs, in-steps)))
