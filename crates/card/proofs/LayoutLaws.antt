@@ -4,6 +4,7 @@ use mathlib.Core.Path.{_≡_, refl, ap, sym, _∙_}
 use mathlib.Core.Logic.{_≢_}
 use mathlib.Core.List.{List, [], _∷_, _++_}
 use Prim.Native.Nat.{ℕ, zero, suc, _+_, _*_, _-_, _/_, _^_, _≤_, _<_}
+use native.Mathlib.Nat.{zero-add}
 use native.Mathlib.Omega.{arith}
 use lib.Dec.{leb}
 use lib.ListN.{length, getD, take, drop, replicate, length-append, length-take, length-drop}
@@ -11,10 +12,10 @@ use lib.Seq.{take-take, take-all, take-at, take-add, drop-at, drop-append-add, l
 use borrow.Rule.Slice.PartMut.{putMid}
 use Rattle.theory.specs.Bytes.{part, put, repeat}
 use Rattle.theory.proofs.Tests.{by-cases, tests}
-use Rattle.theory.proofs.Bytes.{length-put, put-put, put-comm, put-undo, put-part, put-out, put-eq, put-all, part-before, part-after, part-put-as, length-part, length-part-le, getD-part, length-repeat, part-repeat}
+use Rattle.theory.proofs.Bytes.{length-put, put-put, put-comm, put-undo, put-part, put-out, put-eq, put-all, part-before, part-after, part-put-as, length-part, length-part-le, part-part, length-repeat, part-repeat}
 use Rattle.theory.proofs.Lent.{lent-front}
 use Rattle.wire.specs.Le.{le, bytes, number}
-use Rattle.card.proofs.Numbers.{length-bytes, le-bytes, part-take}
+use Rattle.wire.proofs.Le.{length-bytes, le-bytes, number-before, number-put}
 use Rattle.protocol.specs.Opcodes.{freshMask}
 use Rattle.member.specs.declared.Member.{Member}
 use Rattle.member.specs.Record.{recordSize, memberOf, recordOf}
@@ -54,8 +55,8 @@ module _ (c : List ℕ) (m : ℕ) (r : List ℕ) where
   setup-record = ap setupIn (part-before 0 inUseAt (recordAt m) (take recordSize r) c (omega arith))
 
   pub use-record : inUseOf (withRecord c m r) ≡ inUseOf c
-  unfolding withRecord inUseOf number
-  use-record = ap le (part-before inUseAt 8 (recordAt m) (take recordSize r) c (omega arith))
+  unfolding withRecord inUseOf
+  use-record = number-before inUseAt 8 (recordAt m) (take recordSize r) c (omega arith)
 
   -- what is put there is there
   pub record-same : HasRecord c m → length r ≡ recordSize → recordIn (withRecord c m r) m ≡ r
@@ -133,8 +134,8 @@ module _ (c : List ℕ) (mask : ℕ) where
       part-after (recordAt m) recordSize inUseAt (bytes 8 mask) c (omega arith)
 
   pub use-same : headSize ≤ length c → mask < 256 ^ 8 → inUseOf (withInUse c mask) ≡ mask
-  unfolding withInUse inUseOf number
-  use-same h l = ap le (part-put-as inUseAt 8 (bytes 8 mask) c (length-bytes 8 mask) h) ∙ le-bytes 8 mask l
+  unfolding withInUse inUseOf
+  use-same h l = number-put inUseAt 8 mask c h l
 
   pub use-over : (k : ℕ) → withInUse (withInUse c mask) k ≡ withInUse c k
   unfolding withInUse
@@ -168,9 +169,8 @@ features-long c h = rw (← setup-read c h) (length-part featuresAt 16 c h)
 module _ (c d : List ℕ) (m : ℕ) (e : take (recordAt m) c ≡ take (recordAt m) d) where
   same-before : (at n : ℕ) → at + n ≤ headSize → part at n c ≡ part at n d
   same-before at n h =
-      sym (part-take at n (recordAt m) c (omega arith))
-      ∙ ap (part at n) e
-      ∙ part-take at n (recordAt m) d (omega arith)
+      let p : (l : List ℕ) → part at n (take (recordAt m) l) ≡ part at n l = λ l. part-part at n 0 (recordAt m) l (omega arith) ∙ rw zero-add in
+      sym (p c) ∙ ap (part at n) e ∙ p d
 
   pub same-setup : setupOf c ≡ setupOf d
   unfolding setupOf

@@ -1,2 +1,2 @@
-pub mod Numbers
 pub mod LayoutLaws
+pub mod SoundLaws
