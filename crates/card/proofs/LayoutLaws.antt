@@ -20,6 +20,8 @@ use Rattle.protocol.specs.Opcodes.{freshMask}
 use Rattle.member.specs.declared.Member.{Member}
 use Rattle.member.specs.Record.{recordSize, memberOf, recordOf}
 use Rattle.member.specs.Member.{freshOf}
+use Rattle.member.proofs.Record.{Shaped, length-record, member-back}
+use Rattle.member.proofs.Sound.{sound-fresh}
 use Rattle.card.specs.declared.Setup.{Setup}
 use Rattle.card.specs.Layout.{featuresAt, inUseAt, headSize, cardSize, setupIn, setupOf, inUseOf, withInUse, recordAt, HasRecord, recordIn, withRecord, memberIn, withMember, freshCard}
 
@@ -46,17 +48,17 @@ unfolding withRecord recordIn
 record-back c m = rw (take-take recordSize recordSize (drop (recordAt m) c) (omega arith)) (put-part (recordAt m) recordSize c)
 
 module _ (c : List ℕ) (m : ℕ) (r : List ℕ) where
-  pub length-record : length (withRecord c m r) ≡ length c
+  pub length-with-record : length (withRecord c m r) ≡ length c
   unfolding withRecord
-  length-record = length-put (recordAt m) (take recordSize r) c
+  length-with-record = length-put (recordAt m) (take recordSize r) c
 
-  pub setup-record : setupOf (withRecord c m r) ≡ setupOf c
+  pub setup-with-record : setupOf (withRecord c m r) ≡ setupOf c
   unfolding withRecord setupOf
-  setup-record = ap setupIn (part-before 0 inUseAt (recordAt m) (take recordSize r) c (omega arith))
+  setup-with-record = ap setupIn (part-before 0 inUseAt (recordAt m) (take recordSize r) c (omega arith))
 
-  pub use-record : inUseOf (withRecord c m r) ≡ inUseOf c
+  pub use-with-record : inUseOf (withRecord c m r) ≡ inUseOf c
   unfolding withRecord inUseOf
-  use-record = number-before inUseAt 8 (recordAt m) (take recordSize r) c (omega arith)
+  use-with-record = number-before inUseAt 8 (recordAt m) (take recordSize r) c (omega arith)
 
   -- what is put there is there
   pub record-same : HasRecord c m → length r ≡ recordSize → recordIn (withRecord c m r) m ≡ r
@@ -119,17 +121,17 @@ module _ (c : List ℕ) (m : ℕ) (r : List ℕ) where
 -- ---- the list in use ----
 
 module _ (c : List ℕ) (mask : ℕ) where
-  pub length-use : length (withInUse c mask) ≡ length c
+  pub length-with-use : length (withInUse c mask) ≡ length c
   unfolding withInUse
-  length-use = length-put inUseAt (bytes 8 mask) c
+  length-with-use = length-put inUseAt (bytes 8 mask) c
 
-  pub setup-use : setupOf (withInUse c mask) ≡ setupOf c
+  pub setup-with-use : setupOf (withInUse c mask) ≡ setupOf c
   unfolding withInUse setupOf
-  setup-use = ap setupIn (part-before 0 inUseAt inUseAt (bytes 8 mask) c (omega arith))
+  setup-with-use = ap setupIn (part-before 0 inUseAt inUseAt (bytes 8 mask) c (omega arith))
 
-  pub record-use : (m : ℕ) → recordIn (withInUse c mask) m ≡ recordIn c m
+  pub record-with-use : (m : ℕ) → recordIn (withInUse c mask) m ≡ recordIn c m
   unfolding withInUse recordIn
-  record-use m =
+  record-with-use m =
       let n = length-bytes 8 mask in
       part-after (recordAt m) recordSize inUseAt (bytes 8 mask) c (omega arith)
 
@@ -204,8 +206,7 @@ recordsOf s = repeat (s .members) (recordOf (freshOf (s .features)))
 
 module _ (s : Setup) (e : length (s .features) ≡ 16) where
   pub fresh-long : length (recordOf (freshOf (s .features))) ≡ recordSize
-  unfolding recordOf freshOf
-  fresh-long = rw (length-append, length-append, e)
+  fresh-long = length-record _ (sound-fresh 0 0 (s .features) e .shaped)
 
   head-long : length (headOf s) ≡ inUseAt
   unfolding headOf
@@ -235,25 +236,29 @@ module _ (s : Setup) (e : length (s .features) ≡ 16) where
 -- ---- a member ----
 
 module _ (c : List ℕ) (m : ℕ) (x : Member) where
-  pub length-member : length (withMember c m x) ≡ length c
+  pub length-with-member : length (withMember c m x) ≡ length c
   unfolding withMember
-  length-member = length-record c m (recordOf x)
+  length-with-member = length-with-record c m (recordOf x)
 
-  pub setup-member : setupOf (withMember c m x) ≡ setupOf c
+  pub setup-with-member : setupOf (withMember c m x) ≡ setupOf c
   unfolding withMember
-  setup-member = setup-record c m (recordOf x)
+  setup-with-member = setup-with-record c m (recordOf x)
 
-  pub use-member : inUseOf (withMember c m x) ≡ inUseOf c
+  pub use-with-member : inUseOf (withMember c m x) ≡ inUseOf c
   unfolding withMember
-  use-member = use-record c m (recordOf x)
+  use-with-member = use-with-record c m (recordOf x)
 
   pub member-other : (k : ℕ) → 1 ≤ m → 1 ≤ k → k ≢ m → memberIn (withMember c m x) k ≡ memberIn c k
   unfolding withMember memberIn
   member-other k l h n = ap memberOf (record-other c m (recordOf x) k l h n)
 
-  pub member-over : (y : Member) → length (recordOf y) ≡ recordSize → withMember (withMember c m x) m y ≡ withMember c m y
+  pub member-same : HasRecord c m → Shaped x → memberIn (withMember c m x) m ≡ x
+  unfolding withMember memberIn
+  member-same h s = ap memberOf (record-same c m (recordOf x) h (length-record x s)) ∙ member-back x s
+
+  pub member-over : (y : Member) → Shaped y → withMember (withMember c m x) m y ≡ withMember c m y
   unfolding withMember
-  member-over y e = record-over c m (recordOf x) (recordOf y) e
+  member-over y s = record-over c m (recordOf x) (recordOf y) (length-record y s)
 
   pub member-swap : (k : ℕ) (y : Member) → 1 ≤ m → 1 ≤ k → k ≢ m → withMember (withMember c m x) k y ≡ withMember (withMember c k y) m x
   unfolding withMember

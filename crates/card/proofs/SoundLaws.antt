@@ -10,13 +10,16 @@ use borrow.Author.Tests.{eqb-true, eqb-false, eq-eqb, leb-true, le-leb}
 use Rattle.theory.specs.Logic.{_and_, within}
 use Rattle.theory.proofs.Tests.{by-cases, both, and-i, inside, within-low, within-high, tests}
 use Rattle.protocol.specs.Opcodes.{supportedOnly, freshMask}
+use Rattle.member.specs.declared.Member.{Member}
 use Rattle.member.specs.Record.{recordSize, recordOf}
 use Rattle.member.specs.Member.{freshOf}
 use Rattle.member.specs.Sound.{soundRecord}
+use Rattle.member.proofs.Record.{length-record}
+use Rattle.member.proofs.Sound.{SoundMember, sound-record, sound-member, sound-fresh}
 use Rattle.card.specs.declared.Setup.{Setup}
-use Rattle.card.specs.Layout.{headSize, cardSize, setupOf, inUseOf, isMember, HasRecord, recordIn, withInUse, withRecord, freshCard}
+use Rattle.card.specs.Layout.{headSize, cardSize, setupOf, inUseOf, isMember, HasRecord, recordIn, withInUse, withRecord, memberIn, withMember, freshCard}
 use Rattle.card.specs.Sound.{inNumbers, soundSetup, soundUpTo, isSound}
-use Rattle.card.proofs.LayoutLaws.{has-record, record-long, length-record, setup-record, use-record, record-same, record-other, length-use, setup-use, record-use, use-same, length-fresh, setup-fresh, use-fresh, record-fresh}
+use Rattle.card.proofs.LayoutLaws.{has-record, record-long, length-with-record, setup-with-record, use-with-record, record-same, record-other, length-with-use, setup-with-use, record-with-use, use-same, length-fresh, setup-fresh, use-fresh, record-fresh}
 
 -- ---- the test, as facts, and back ----
 
@@ -87,6 +90,10 @@ is-sound c s =
 
 -- ---- what a sound card has ----
 
+-- member x is sound in card c
+abbrev pub SoundIn : List ℕ → Member → Type 0
+SoundIn c x = SoundMember (setupOf c .gets) (setupOf c .sets) (setupOf c .features) x
+
 module _ (c : List ℕ) (s : Sound c) where
   pub sound-long : headSize ≤ length c
   sound-long = let e = s .long in omega arith
@@ -97,6 +104,10 @@ module _ (c : List ℕ) (s : Sound c) where
   pub sound-at : (m : ℕ) → isMember c m ≡ true → SoundAt (setupOf c) (recordIn c m)
   sound-at m e = s .each m (within-low _ _ m e) (within-high _ _ m e)
 
+  pub sound-member-in : (m : ℕ) → isMember c m ≡ true → SoundIn c (memberIn c m)
+  unfolding memberIn
+  sound-member-in m e = sound-member _ _ _ (recordIn c m) (record-long c m (sound-has m e)) (sound-at m e)
+
 -- ---- what keeps a card sound ----
 
 kept : (c d : List ℕ) → Sound c → length d ≡ length c → setupOf d ≡ setupOf c → supportedOnly (inUseOf d) ≡ true
@@ -104,28 +115,34 @@ kept : (c d : List ℕ) → Sound c → length d ≡ length c → setupOf d ≡ 
 kept c d s n e u h = record { long = rw (n, e) (s .long); numbers = rw e (s .numbers); supported = u; each = rw e h }
 
 -- a sound record is put
-pub sound-record : (c : List ℕ) (m : ℕ) (r : List ℕ) → Sound c → 1 ≤ m → length r ≡ recordSize → SoundAt (setupOf c) r → Sound (withRecord c m r)
-sound-record c m r s low n g = kept c _ s (length-record c m r) (setup-record c m r) (rw use-record (s .supported)) λ k l h.
+pub sound-with-record : (c : List ℕ) (m : ℕ) (r : List ℕ) → Sound c → 1 ≤ m → length r ≡ recordSize → SoundAt (setupOf c) r → Sound (withRecord c m r)
+sound-with-record c m r s low n g = kept c _ s (length-with-record c m r) (setup-with-record c m r) (rw use-with-record (s .supported)) λ k l h.
     by-cases (eqb k m)
     (λ q. let i : m ≤ setupOf c .members = omega tests in rw (eqb-true k m q, record-same c m r (has-record c m (s .long) low i) n) g)
     (λ q. rw (record-other c m r k low l (eqb-false k m q)) (s .each k l h))
 
+-- a sound member is put
+pub sound-with-member : (c : List ℕ) (m : ℕ) (x : Member) → Sound c → 1 ≤ m → SoundIn c x → Sound (withMember c m x)
+unfolding withMember
+sound-with-member c m x s low h = sound-with-record c m (recordOf x) s low (length-record x (h .shaped)) (sound-record _ _ _ x h)
+
 -- another list with supported bits only is in use
-pub sound-use : (c : List ℕ) (mask : ℕ) → Sound c → supportedOnly mask ≡ true → Sound (withInUse c mask)
+pub sound-with-use : (c : List ℕ) (mask : ℕ) → Sound c → supportedOnly mask ≡ true → Sound (withInUse c mask)
 unfolding supportedOnly
-sound-use c mask s u =
+sound-with-use c mask s u =
     let b = both _ _ u .1 in
     let long = sound-long c s in
-    kept c _ s (length-use c mask) (setup-use c mask) (rw (use-same c mask long (omega tests)) u) (λ k l h. rw (record-use c mask k) (s .each k l h))
+    kept c _ s (length-with-use c mask) (setup-with-use c mask) (rw (use-same c mask long (omega tests)) u) (λ k l h. rw (record-with-use c mask k) (s .each k l h))
 
 -- a fresh card
 fresh-supported : supportedOnly freshMask ≡ true
 unfolding supportedOnly _and_
 fresh-supported = refl
 
-pub sound-fresh : (s : Setup) → soundSetup s ≡ true → length (s .features) ≡ 16 → SoundAt s (recordOf (freshOf (s .features))) → Sound (freshCard s)
-sound-fresh s e n g =
+pub sound-fresh-card : (s : Setup) → soundSetup s ≡ true → length (s .features) ≡ 16 → Sound (freshCard s)
+sound-fresh-card s e n =
     let f = setup-fresh s n in
+    let g = sound-record (s .gets) (s .sets) (s .features) _ (sound-fresh (s .gets) (s .sets) (s .features) n) in
     record {
       long = rw f (length-fresh s n);
       numbers = rw f (numbers-of s e);
