@@ -3,7 +3,7 @@
 use mathlib.Core.Path.{_≡_, refl, ap, sym, _∙_}
 use mathlib.Core.Bool.{Bool, true, false}
 use mathlib.Core.List.{List, [], _∷_}
-use Prim.Native.Nat.{ℕ, zero, suc, _+_, _<_, _≤_}
+use Prim.Native.Nat.{ℕ, suc, _+_, _<_, _≤_}
 use native.Mathlib.Nat.{zero-add}
 use native.Mathlib.Numerals.{add-one}
 use native.Mathlib.Omega.{arith}
@@ -11,7 +11,7 @@ use borrow.Author.Tests.{eqb-true}
 use lib.Dec.{eqb}
 use lib.ListN.{length, getD, drop, drop-of-length-le}
 use lib.Seq.{drop-cons}
-use Rattle.theory.specs.Logic.{if_then_else_, _and_, _or_}
+use Rattle.theory.specs.Logic.{if_then_else_}
 use Rattle.theory.proofs.Tests.{by-cases, both}
 use Rattle.theory.proofs.Table.{every}
 use Rattle.inventory.specs.Inventory.{Row, row, rows, rowAt, rowCount, present, isRow, seek, placeOf}

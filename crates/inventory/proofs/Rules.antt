@@ -1,13 +1,12 @@
 -- Rules of the whole inventory: each is one test that antt computes over the table. Assumes nothing.
-use mathlib.Core.Path.{_≡_, refl, ap, sym, _∙_}
-use mathlib.Core.Bool.{Bool, true, false, not}
+use mathlib.Core.Path.{_≡_, refl}
+use mathlib.Core.Bool.{Bool, true, not}
 use mathlib.Core.List.{List, [], _∷_, map}
-use Prim.Native.Nat.{ℕ, zero, suc, _+_, _/_, _%_, _<_, _≤_, _^_}
-use native.Mathlib.Omega.{arith}
+use Prim.Native.Nat.{ℕ, _+_, _/_, _%_, _<_, _≤_, _^_}
 use borrow.Author.Tests.{eqb-true, ltb-true, leb-true, lt-leb, eq-eqb}
 use mir.Val.{boolByte}
 use lib.Dec.{leb, ltb, eqb}
-use lib.ListN.{length, getD, take}
+use lib.ListN.{length}
 use Rattle.theory.specs.Logic.{_and_, _or_, one, if_then_else_}
 use Rattle.theory.specs.Bytes.{same}
 use Rattle.theory.proofs.Tests.{same-true}
@@ -15,8 +14,7 @@ use Rattle.theory.proofs.Table.{every, at}
 use Rattle.wire.specs.Le.{bytes}
 use Rattle.inventory.specs.Inventory.{Row, row, rows, rowAt, rowCount, deviceFeatures, present, total, offsetOf, valuesSize, partCount, partsSize, selectorOf, isRow, seek, placeOf}
 use Rattle.inventory.specs.Header.{headerOf, headerSize}
-use Rattle.inventory.specs.declared.Place.{Place}
-use Rattle.inventory.specs.declared.Place.the-variants.{At, Absent}
+use Rattle.inventory.specs.declared.Place.the-variants.{At}
 
 -- what computes where a proof says `unfolding table`
 unfoldable pub table : Unit {0}

@@ -127,30 +127,27 @@ pub fn place_of(queues: u8, t: u16, selector: u64) -> Place
 }
 
 // The header of row i's part.
-pub fn header(i: usize) -> [u8; 16]
+fn header(i: usize) -> [u8; 16]
     requires { ⌜ i < rowCount ⌝ }
     ensures { λ r. ⌜ r ≡ headerOf (rowAt i) ⌝ }
 {
     let t = TYPES[i];
-    let flags = (t == 0x100) as u8;
-    [
-        (t % 256) as u8,
-        (t / 256) as u8,
-        flags,
-        0,
-        SELECTORS[i],
-        0,
-        0,
-        0,
-        0,
-        0,
-        0,
-        0,
-        SIZES[i],
-        0,
-        0,
-        0,
-    ]
+    let mut h = [0u8; 16];
+    h[0] = (t % 256) as u8;
+    h[1] = (t / 256) as u8;
+    h[2] = (t == 0x100) as u8;
+    h[4] = SELECTORS[i];
+    h[12] = SIZES[i];
+    h
+}
+
+// That header, written at a place.
+pub fn write_header(out: &mut [u8], at: usize, i: usize)
+    requires { ⌜ (i < rowCount) × (at + headerSize ≤ length (now out)) ⌝ }
+    ensures { λ _. ⌜ now (out .exit) ≡ put at (headerOf (rowAt i)) (now (out .entry)) ⌝ }
+{
+    let h = header(i);
+    wire::copy(out, at, &h);
 }
 
 // The number of parts that a member with so many queues has.

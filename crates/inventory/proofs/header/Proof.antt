@@ -14,5 +14,6 @@ header-spec =
     tie.close
     (tie.spec (λ c. search needs) (λ c. search needs) (λ c. search needs) (λ c. search needs)
     (λ c. record { fits = omega (arith, type-at (c .args .i), type-below (c .args .i) (c .pre)) })
+    (λ c. search needs) (λ c. search needs) (λ c. search needs) (λ c. search needs) (λ c. search needs)
     (λ c. search needs) (λ c. search needs)
     (λ c. ap headerBytes (row-at (c .args .i)) ∙ header-bytes (c .args .i) (c .pre)))
