@@ -31,8 +31,9 @@ pub written-start : (item : ℕ → List ℕ) (n b : ℕ) (out : List ℕ) → b
 written-start item n b out h = record { count = omega arith; long = refl; ends = rw sub-zero; fits = h; whole = rw sub-zero }
 
 module _ (item : ℕ → List ℕ) (n b : ℕ) (out₀ out : List ℕ) (at i : ℕ) (w : Written item n b out₀ out at i) where
-  pub written-room : i < n → at + length (item i) ≤ length out
-  written-room h = omega (arith, simp length-append at (ap length (items-step item n i h)))
+  -- the next item, of which the length is known, fits
+  pub written-room : (size : ℕ) → i < n → length (item i) ≡ size → at + size ≤ length out
+  written-room size h l = omega (arith, simp length-append at (ap length (items-step item n i h)))
 
   pub written-next : i < n → Written item n b out₀ (put at (item i) out) (at + length (item i)) (i + 1)
   written-next h =
@@ -45,6 +46,11 @@ module _ (item : ℕ → List ℕ) (n b : ℕ) (out₀ out : List ℕ) (at i : �
         whole = w .whole ∙ ap (λ x. put at x out) e ∙ put-append at (item i) (itemsFrom item (n - (i + 1)) (i + 1)) out;
       }
 
+  -- in the form in which a loop's need asks it: x was put, which is the item, and is so long
+  pub written-on : (out′ x : List ℕ) (size : ℕ) → out′ ≡ put at x out → i < n → item i ≡ x → length x ≡ size
+      → Written item n b out₀ out′ (at + size) (i + 1)
+  written-on out′ x size p h e l = rw (p, ← l, ← e) (written-next h)
+
   -- an item with nothing to write
   pub written-skip : i < n → item i ≡ [] → Written item n b out₀ out at (i + 1)
   written-skip h z =
@@ -56,3 +62,7 @@ module _ (item : ℕ → List ℕ) (n b : ℕ) (out₀ out : List ℕ) (at i : �
 
   pub written-at : n ≤ i → at ≡ b + length (itemsFrom item n 0)
   written-at h = omega (arith, ap length (items-end item n i h))
+
+  -- the same, from the front of the buffer: the bytes written
+  pub written-size : b ≡ 0 → n ≤ i → at ≡ length (itemsFrom item n 0)
+  written-size z h = omega (arith, written-at h)

@@ -17,29 +17,37 @@ length-tail at l = length-take-le (length l - at) (drop at l) (rw length-drop (o
 pub length-between : (at end : ℕ) (l : List ℕ) → end ≤ length l → length (take (end - at) (drop at l)) ≡ end - at
 length-between at end l h = length-take-le (end - at) (drop at l) (rw length-drop (omega arith))
 
--- the lent part came back as `last`, which is the part with x put at i: then x is put there in the whole
-module _ (at n i : ℕ) (x l last : List ℕ) (e : last ≡ put i x (midOf at n l)) where
-  lent-by : postOf at n l ≡ drop n (put i x (drop at l)) → putMid at n l last ≡ put (at + i) x l
+-- The lent part came back as `last`, which is the part with x put at i: then x is put there in the whole. What was lent is l; the
+-- definition may say it otherwise, as m (what an earlier call left). Where they are the same, `refl` proves that premise.
+module _ (at n i : ℕ) (x l m last : List ℕ) (k : l ≡ m) (e : last ≡ put i x (midOf at n l)) where
+  lent-by : postOf at n l ≡ drop n (put i x (drop at l)) → putMid at n l last ≡ put (at + i) x m
   lent-by d =
       let split = take-append-drop at (put (at + i) x l) in
       let front : take at (put (at + i) x l) ≡ take at l = take-before at (at + i) x l (omega arith) in
       let back : last ++ postOf at n l ≡ put i x (drop at l) = rw (e, ← take-put, d) (take-append-drop n (put i x (drop at l))) in
-      rw back (rw (front, drop-put) at split)
+      rw (← k, back) (rw (front, drop-put) at split)
 
-  pub lent-at : i + length x ≤ n → putMid at n l last ≡ put (at + i) x l
+  pub lent-at : i + length x ≤ n → putMid at n l last ≡ put (at + i) x m
   lent-at h = lent-by (sym (drop-after n i x (drop at l) h))
 
--- at the front of what is lent
-pub lent-front : (at n : ℕ) (x l last : List ℕ) → last ≡ put 0 x (midOf at n l) → length x ≤ n → putMid at n l last ≡ put at x l
-lent-front at n x l last e h = lent-at at n 0 x l last e (omega arith) ∙ rw add-zero
+-- written from the front of what is lent
+pub lent-front : (at n : ℕ) (x l m last : List ℕ) → l ≡ m → last ≡ put 0 x (midOf at n l) → length x ≤ n → putMid at n l last ≡ put at x m
+lent-front at n x l m last k e h = lent-at at n 0 x l m last k e (omega arith) ∙ rw add-zero
 
--- lent to the end of the buffer
-pub lent-tail-at : (at i : ℕ) (x l last : List ℕ) → last ≡ put i x (midOf at (length l - at) l)
-    → putMid at (length l - at) l last ≡ put (at + i) x l
-lent-tail-at at i x l last e =
+-- lent as `&mut l[at..at + n]`, and written whole
+pub lent-sized : (at n : ℕ) (x l m last : List ℕ) → l ≡ m → last ≡ put 0 x (midOf at (at + n - at) l) → length x ≡ n
+    → putMid at (at + n - at) l last ≡ put at x m
+lent-sized at n x l m last k e s = lent-front at (at + n - at) x l m last k e (omega arith)
+
+-- lent to the end of the buffer, `&mut l[at..]`
+pub lent-tail-at : (at i : ℕ) (x l m last : List ℕ) → l ≡ m → last ≡ put i x (midOf at (length l - at) l)
+    → putMid at (length l - at) l last ≡ put (at + i) x m
+lent-tail-at at i x l m last k e =
     let n : length (drop at l) ≤ length l - at = rw length-drop (omega arith) in
-    let m : length (put i x (drop at l)) ≤ length l - at = rw length-put n in
-    lent-by at (length l - at) i x l last e (drop-of-length-le (drop at l) n ∙ sym (drop-of-length-le (put i x (drop at l)) m))
+    let w : length (put i x (drop at l)) ≤ length l - at = rw length-put n in
+    lent-by at (length l - at) i x l m last k e
+    (drop-of-length-le (drop at l) n ∙ sym (drop-of-length-le (put i x (drop at l)) w))
 
-pub lent-tail : (at : ℕ) (x l last : List ℕ) → last ≡ put 0 x (midOf at (length l - at) l) → putMid at (length l - at) l last ≡ put at x l
-lent-tail at x l last e = lent-tail-at at 0 x l last e ∙ rw add-zero
+pub lent-tail : (at : ℕ) (x l m last : List ℕ) → l ≡ m → last ≡ put 0 x (midOf at (length l - at) l)
+    → putMid at (length l - at) l last ≡ put at x m
+lent-tail at x l m last k e = lent-tail-at at 0 x l m last k e ∙ rw add-zero
