@@ -6,7 +6,7 @@ use native.Mathlib.Nat.{zero-add, add-zero, pow-succ'}
 use native.Mathlib.Numerals.{add-one}
 use native.Mathlib.Omega.{arith}
 use lib.ListN.{length, getD, take, drop}
-use lib.Seq.{take-nil, drop-nil, drop-cons, drop-drop, take-take}
+use lib.Seq.{take-nil, drop-nil, drop-cons, drop-drop, take-length}
 use Rattle.theory.specs.Bytes.{part, put}
 use Rattle.theory.proofs.Bytes.{part-before, part-after, part-put-as, part-part}
 use Rattle.wire.specs.Le.{le, bytes, number}
@@ -73,6 +73,16 @@ module _ (l : List ℕ) (small : (i : ℕ) → getD l i 0 < 256) where
       let low : (getD l at 0 + 256 * number (at + 1) n l) % 256 ≡ getD l at 0 = omega (arith, small at) in
       let high : (getD l at 0 + 256 * number (at + 1) n l) / 256 ≡ number (at + 1) n l = omega (arith, small at) in
       rw (number-step, low, high, drop-cons l at 0 k, bytes-number n (at + 1) (omega arith), add-one)
+
+  le-whole : le l ≡ number 0 (length l) l
+  unfolding number
+  le-whole = rw take-length
+
+  pub le-below : le l < 256 ^ length l
+  le-below = rw le-whole (number-below (length l) 0)
+
+  pub bytes-le : bytes (length l) (le l) ≡ l
+  bytes-le = rw le-whole (bytes-number (length l) 0 (omega arith) ∙ take-length l)
 
 -- ---- the number at a place where something was put ----
 
