@@ -1,0 +1,105 @@
+-- The head and the result of a reply, written one after the other. Assumes nothing.
+use mathlib.Core.Path.{_≡_, refl, ap, sym, _∙_}
+use mathlib.Core.Bool.{Bool, true, false, not}
+use mathlib.Core.List.{List, [], _∷_, _++_, append-nil}
+use Prim.Native.Nat.{ℕ, _+_, _-_, _≤_, _<_}
+use native.Mathlib.Omega.{arith}
+use lib.Dec.{leb}
+use lib.ListN.{length, replicate, length-append}
+use borrow.Author.Tests.{le-leb, lt-leb, leb-true, not-true, not-false}
+use Rattle.theory.specs.Logic.{if_then_else_, unless_answer_then_}
+use Rattle.theory.specs.Bytes.{put}
+use Rattle.theory.proofs.Tests.{by-cases}
+use Rattle.theory.proofs.Bytes.{put-append}
+use Rattle.wire.specs.Le.{bytes}
+use Rattle.protocol.specs.declared.Answer.{Answer}
+use Rattle.protocol.specs.declared.Answer.the-variants.{ShortReply}
+use Rattle.protocol.specs.Answers.{statusOf, qualifierOf, isDone}
+use Rattle.reply.specs.declared.Written.{Written}
+use Rattle.reply.specs.Reply.{headOf, finalOf, replyOf, writtenOf, concludeOf}
+
+pub head-long : (a : Answer) → length (headOf a) ≡ 8
+unfolding headOf bytes
+head-long a = refl
+
+-- three writes make the head
+pub head-written : (a : Answer) (s q : ℕ) (l l₁ l₂ l₃ : List ℕ) → s ≡ statusOf a → q ≡ qualifierOf a
+    → l₁ ≡ put 0 (bytes 2 s) l → l₂ ≡ put 2 (bytes 2 q) l₁ → l₃ ≡ put 4 (bytes 4 0) l₂ → l₃ ≡ put 0 (headOf a) l
+unfolding headOf bytes
+head-written a s q l l₁ l₂ l₃ es eq e₁ e₂ e₃ =
+    let x = bytes 2 (statusOf a) in
+    let y = bytes 2 (qualifierOf a) in
+    rw (e₃, e₂, e₁, es, eq) (sym (put-append 0 x (y ++ replicate 4 0) l ∙ put-append 2 y (replicate 4 0) (put 0 x l)))
+
+-- ---- step 11 ----
+
+module _ (a : Answer) (size room : ℕ) (b : Bool) (said : b ≡ isDone a) where
+  pub final-refused : not b ≡ true → a ≡ finalOf a size room
+  unfolding finalOf if_then_else_
+  final-refused n = rw (sym said ∙ not-true b n)
+
+  pub final-short : not b ≡ false → 8 ≤ room → room - 8 < size → ShortReply ≡ finalOf a size room
+  unfolding finalOf if_then_else_ unless_answer_then_
+  final-short n h k = rw (sym said ∙ not-false b n, lt-leb (8 + size) room (omega arith))
+
+  pub final-fits : not b ≡ false → 8 ≤ room → size ≤ room - 8 → a ≡ finalOf a size room
+  unfolding finalOf if_then_else_ unless_answer_then_
+  final-fits n h k = rw (sym said ∙ not-false b n, le-leb (8 + size) room (omega arith))
+
+-- a success in the end has room
+pub final-room : (a : Answer) (size room : ℕ) → isDone (finalOf a size room) ≡ true → 8 + size ≤ room
+unfolding finalOf if_then_else_ unless_answer_then_
+final-room a size room =
+    by-cases (isDone a)
+    (λ d. rw d (by-cases (leb (8 + size) room) (λ l. rw l (λ e. leb-true (8 + size) room l)) (λ l. rw l (λ e. absurd-false e))))
+    (λ d. rw d (λ e. absurd-false (sym d ∙ e)))
+  where
+    absurd-false : false ≡ true → 8 + size ≤ room
+    absurd-false e = let z : _≡_ {A = ℕ} 0 1 = cc in absurd (omega arith)
+
+-- ---- what is written ----
+
+-- a refusal, and a success with no result, is the head alone
+pub reply-refused : (a : Answer) (x : List ℕ) → isDone a ≡ false → replyOf a x ≡ headOf a
+unfolding replyOf if_then_else_
+reply-refused a x d = rw (d, append-nil)
+
+pub reply-empty : (a : Answer) → replyOf a [] ≡ headOf a
+unfolding replyOf if_then_else_
+reply-empty a = by-cases (isDone a) (λ d. rw (d, append-nil)) (λ d. rw (d, append-nil))
+
+pub reply-done : (a : Answer) (x : List ℕ) → isDone a ≡ true → replyOf a x ≡ headOf a ++ x
+unfolding replyOf if_then_else_
+reply-done a x d = rw d
+
+-- the answer in the end is `last`, of which the code was told b; x is the result
+module _ (a last : Answer) (x l : List ℕ) (size : ℕ) (b : Bool)
+    (settled : last ≡ finalOf a size (length l)) (sized : size ≡ length x) (said : b ≡ isDone last) where
+  pub refused-written : (l′ : List ℕ) → not b ≡ true → l′ ≡ put 0 (headOf last) l
+      → _≡_ {A = Written × List ℕ} (record { answer = last; bytes = 8 }, l′) (concludeOf a x l)
+  unfolding concludeOf
+  refused-written l′ n e =
+      rw (← sized, ← settled, e, reply-refused last x (sym said ∙ not-true b n), head-long last)
+
+  pub result-written : (l₁ l₂ : List ℕ) (k : ℕ) → not b ≡ false → l₁ ≡ put 0 (headOf last) l → l₂ ≡ put 8 x l₁
+      → k ≡ 8 + size → _≡_ {A = Written × List ℕ} (record { answer = last; bytes = k }, l₂) (concludeOf a x l)
+  unfolding concludeOf
+  result-written l₁ l₂ k n e₁ e₂ e₃ =
+      let p : put 0 (headOf last ++ x) l ≡ put 8 x (put 0 (headOf last) l) = put-append 0 (headOf last) x l ∙ rw (head-long last) in
+      rw (← sized, ← settled, e₃, e₂, e₁, reply-done last x (sym said ∙ not-false b n), length-append, head-long last, p, sized)
+
+-- there is room for the result, in the buffer as the head left it
+pub result-fits : (a last : Answer) (l l′ : List ℕ) (size : ℕ) (b : Bool) → last ≡ finalOf a size (length l)
+    → b ≡ isDone last → not b ≡ false → length l′ ≡ length l → 8 + size ≤ length l′
+result-fits a last l l′ size b settled said n e =
+    rw e (final-room a size (length l) (rw (← settled) (sym said ∙ not-false b n)))
+
+-- a reply with no result always fits
+pub answer-only : (a : Answer) (l l′ : List ℕ) → 8 ≤ length l → l′ ≡ put 0 (headOf a) l
+    → _≡_ {A = Written × List ℕ} (record { answer = a; bytes = 8 }, l′) (concludeOf a [] l)
+unfolding concludeOf finalOf if_then_else_ unless_answer_then_
+answer-only a l l′ h e =
+    let f : leb (8 + 0) (length l) ≡ true = le-leb 8 (length l) h in
+    by-cases (isDone a)
+    (λ d. rw (e, d, f, reply-empty a, head-long a))
+    (λ d. rw (e, d, reply-empty a, head-long a))
