@@ -1,1 +1,5 @@
 pub mod Walk
+pub mod Questions
+pub mod Places
+pub mod Applies
+pub mod Next

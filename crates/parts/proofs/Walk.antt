@@ -24,17 +24,6 @@ module _ (form : ListForm) (l : List ℕ) (at : ℕ) where
   unfolding stepAt unless_answer_then_
   step-end h = rw (le-ltb at (length l) h)
 
-  pub step-short : at < length l → length l - at < 16 → stepAt form l at ≡ step.Cut
-  unfolding stepAt unless_answer_then_
-  step-short h h′ = rw (lt-ltb at (length l) h, lt-leb 16 (length l - at) h′)
-
-  pub step-cut : at + 16 ≤ length l → length l - (at + 16) < valueSize form l at → stepAt form l at ≡ step.Cut
-  unfolding stepAt unless_answer_then_
-  step-cut h h′ =
-      let i : at < length l = omega arith in
-      let r : 16 ≤ length l - at = omega arith in
-      rw (lt-ltb at (length l) i, le-leb 16 (length l - at) r, lt-leb (valueSize form l at) (length l - (at + 16)) h′)
-
   pub step-found : at + 16 ≤ length l → valueSize form l at ≤ length l - (at + 16) → stepAt form l at ≡ headerAt form l at
   unfolding stepAt unless_answer_then_
   step-found h h′ =

@@ -44,8 +44,11 @@ pub data PartList : Type 0 where
   cut : PartList
   part : Part → PartList → PartList
 
+abbrev pub partWith : ℕ → ℕ → ℕ → List ℕ → Part
+partWith t f s v = record { partType = t; flags = f; selector = s; value = v }
+
 abbrev pub partIn : List ℕ → ℕ → ℕ → ℕ → ℕ → ℕ → Part
-partIn l t f s start len = record { partType = t; flags = f; selector = s; value = bytesAt start len l }
+partIn l t f s start len = partWith t f s (bytesAt start len l)
 
 abbrev pub onStep {ℓ} : {A : Type ℓ} → Step → (ℕ → ℕ → ℕ → ℕ → ℕ → A) → A → A → A
 onStep (step.Part t f s start len) p c e = p t f s start len

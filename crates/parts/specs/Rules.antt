@@ -8,6 +8,8 @@ use Rattle.theory.specs.Logic.{unless_answer_then_, _and_, _or_}
 use Rattle.theory.specs.Bytes.{same}
 use Rattle.inventory.specs.Inventory.{rowAt, deviceFeatures, placeOf, onPlace}
 use Rattle.parts.specs.declared.ListForm.the-variants.{Parts, Headers}
+use Rattle.parts.specs.declared.Rule.{Rule}
+use Rattle.parts.specs.declared.Rule.the-variants.{KnownOrSkipped, LengthRight, FeaturesSame, AsksKnown}
 use Rattle.parts.specs.declared.Cause.{Cause}
 use Rattle.parts.specs.declared.Cause.the-variants.{Accepted, Cut, Unknown, Length, Features, Twice}
 use Rattle.parts.specs.List.{Part, PartList, end, cut, part, partsOf}
@@ -36,6 +38,13 @@ featuresSame features p = not (eqb (p .partType) deviceFeatures) or same (p .val
 -- an asked header "that names a part the member has not got"
 unfoldable pub asksKnown : ℕ → Part → Bool
 asksKnown queues p = known queues (p .partType) (p .selector)
+
+-- the four rules by name
+abbrev pub obeys : Rule → ℕ → List ℕ → Part → Bool
+obeys KnownOrSkipped queues features = knownOrSkipped queues
+obeys LengthRight queues features = lengthRight queues
+obeys FeaturesSame queues features = featuresSame features
+obeys AsksKnown queues features = asksKnown queues
 
 -- ---- rules of a list ----
 
