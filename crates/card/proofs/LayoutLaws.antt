@@ -8,12 +8,11 @@ use native.Mathlib.Nat.{zero-add}
 use native.Mathlib.Omega.{arith}
 use lib.Dec.{leb}
 use lib.ListN.{length, getD, take, drop, replicate, length-append, length-take, length-drop}
-use lib.Seq.{take-take, take-all, take-at, take-add, drop-at, drop-append-add, length-take-le, getD-take}
+use lib.Seq.{take-take, take-all, take-at, take-add, drop-at, drop-append-add, drop-drop, length-take-le, getD-take}
 use borrow.Rule.Slice.PartMut.{putMid}
 use Rattle.theory.specs.Bytes.{part, put, repeat}
 use Rattle.theory.proofs.Tests.{by-cases, tests}
 use Rattle.theory.proofs.Bytes.{length-put, put-put, put-comm, put-undo, put-part, put-out, put-eq, put-all, part-before, part-after, part-put-as, length-part, length-part-le, part-part, length-repeat, part-repeat}
-use Rattle.theory.proofs.Lent.{lent-front}
 use Rattle.wire.specs.Le.{le, bytes, number}
 use Rattle.wire.proofs.Le.{length-bytes, le-bytes, number-before, number-put}
 use Rattle.protocol.specs.Opcodes.{freshMask}
@@ -114,9 +113,7 @@ module _ (c : List ℕ) (m : ℕ) (r : List ℕ) where
   -- as code leaves it that lends the record's place, n bytes, and gets r back
   pub record-lent : (n : ℕ) (last : List ℕ) → n ≡ recordSize → last ≡ r → length r ≡ recordSize → HasRecord c m
       → putMid (recordAt m) n c last ≡ withRecord c m r
-  record-lent n last k q e h =
-      let w : length (part (recordAt m) n c) ≡ length r = rw k (length-part (recordAt m) recordSize c (h .high) ∙ sym e) in
-      lent-front (recordAt m) n r c last (q ∙ sym (put-all r (part (recordAt m) n c) (sym w))) (omega arith) ∙ record-put e
+  record-lent n last k q e h = rw (k, q, drop-drop recordSize (recordAt m) c) (sym (record-eq h e))
 
 -- ---- the list in use ----
 
@@ -155,17 +152,38 @@ module _ (c : List ℕ) (mask : ℕ) where
 -- ---- the setup ----
 
 -- as code reads it
-pub setup-read : (c : List ℕ) → inUseAt ≤ length c
-    → record { members = getD c 0 0; queues = getD c 1 0; gets = getD c 2 0; sets = getD c 3 0; features = part featuresAt 16 c } ≡ setupOf c
-unfolding setupOf setupIn
-setup-read c h =
-    let f : drop featuresAt (take inUseAt c) ≡ part featuresAt 16 c =
-    ap (drop featuresAt) (take-add featuresAt 16 c) ∙ drop-at (take featuresAt c) (part featuresAt 16 c) featuresAt (length-take-le featuresAt c (omega arith)) in
-    let g : (i : ℕ) → i < inUseAt → getD (take inUseAt c) i 0 ≡ getD c i 0 = λ i l. getD-take inUseAt c i 0 l in
-    rw (f, g 0 (omega arith), g 1 (omega arith), g 2 (omega arith), g 3 (omega arith))
+module _ (c : List ℕ) where
+  number-read : (i : ℕ) → i < inUseAt → getD c i 0 ≡ getD (take inUseAt c) i 0
+  number-read i h = sym (getD-take inUseAt c i 0 h)
+
+  pub members-read : getD c 0 0 ≡ setupOf c .members
+  unfolding setupOf setupIn
+  members-read = number-read 0 (omega arith)
+
+  pub queues-read : getD c 1 0 ≡ setupOf c .queues
+  unfolding setupOf setupIn
+  queues-read = number-read 1 (omega arith)
+
+  pub gets-read : getD c 2 0 ≡ setupOf c .gets
+  unfolding setupOf setupIn
+  gets-read = number-read 2 (omega arith)
+
+  pub sets-read : getD c 3 0 ≡ setupOf c .sets
+  unfolding setupOf setupIn
+  sets-read = number-read 3 (omega arith)
+
+  pub features-read : inUseAt ≤ length c → part featuresAt 16 c ≡ setupOf c .features
+  unfolding setupOf setupIn
+  features-read h =
+      sym (ap (drop featuresAt) (take-add featuresAt 16 c)
+      ∙ drop-at (take featuresAt c) (part featuresAt 16 c) featuresAt (length-take-le featuresAt c (omega arith)))
+
+  pub setup-read : inUseAt ≤ length c
+      → record { members = getD c 0 0; queues = getD c 1 0; gets = getD c 2 0; sets = getD c 3 0; features = part featuresAt 16 c } ≡ setupOf c
+  setup-read h = rw (members-read, queues-read, gets-read, sets-read, features-read h)
 
 pub features-long : (c : List ℕ) → inUseAt ≤ length c → length (setupOf c .features) ≡ 16
-features-long c h = rw (← setup-read c h) (length-part featuresAt 16 c h)
+features-long c h = rw (← features-read c h) (length-part featuresAt 16 c h)
 
 -- the same bytes before a record hold the same setup and list in use
 module _ (c d : List ℕ) (m : ℕ) (e : take (recordAt m) c ≡ take (recordAt m) d) where

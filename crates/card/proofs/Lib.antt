@@ -1,2 +1,4 @@
 pub mod LayoutLaws
 pub mod SoundLaws
+pub mod ReadLaws
+pub mod WriteLaws

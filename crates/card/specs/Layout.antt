@@ -4,7 +4,7 @@ use mathlib.Core.Bool.{Bool}
 use mathlib.Core.List.{List, _∷_, _++_}
 use Prim.Native.Nat.{ℕ, _+_, _*_, _-_, _≤_}
 use lib.ListN.{length, getD, take, drop}
-use Rattle.theory.specs.Logic.{within}
+use Rattle.theory.specs.Logic.{if_then_else_, within}
 use Rattle.theory.specs.Bytes.{part, put, repeat}
 use Rattle.wire.specs.Le.{bytes, number}
 use Rattle.protocol.specs.Opcodes.{freshMask}
@@ -25,6 +25,10 @@ headSize = 28
 
 abbrev pub cardSize : ℕ → ℕ
 cardSize members = headSize + recordSize * members
+
+-- the exact length of a card's buffer; 0 where there is no such card
+unfoldable pub cardBytes : ℕ → ℕ
+cardBytes members = if within 1 16 members then cardSize members else 0
 
 unfoldable pub setupIn : List ℕ → Setup
 setupIn h =

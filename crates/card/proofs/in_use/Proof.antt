@@ -1,0 +1,8 @@
+use borrow.Author.Needs.{needs}
+use Rattle.card.specs.Layout.{inUseOf}
+use Rattle.card.proofs.in_use.Statement.{statement}
+use Rattle.card.proofs.in_use.Tie as tie
+
+pub in-use-spec : {M : Type 1} → statement M
+unfolding inUseOf
+in-use-spec = tie.close (tie.spec (λ c κs. search needs) (λ c. search needs))
