@@ -1,16 +1,17 @@
 -- Counting the bytes of a list, and whether each is at most a number: one byte changed, and what a loop has counted
 -- so far. Assumes nothing.
 use mathlib.Core.Path.{_≡_, refl, ap}
-use mathlib.Core.Bool.{true}
+use mathlib.Core.Bool.{Bool, true}
 use mathlib.Core.List.{List, [], _∷_, map}
 use Prim.Native.Nat.{ℕ, zero, suc, _+_, _-_, _≤_, _<_}
 use native.Mathlib.Omega.{arith}
-use lib.Dec.{leb, ltb}
-use lib.ListN.{drop, set, replicate}
-use lib.Seq.{drop-set-lt, drop-set-add}
+use lib.Dec.{leb, ltb, eqb}
+use native.Mathlib.Numerals.{add-one}
+use lib.ListN.{length, getD, drop-of-length-le, drop, set, replicate}
+use lib.Seq.{drop-cons, drop-set-lt, drop-set-add}
 use borrow.Author.Tests.{leb-true, le-leb, ne-eqb}
 use Rattle.theory.specs.Logic.{_and_, one}
-use Rattle.theory.proofs.Tests.{by-cases, both, and-i, one-false, tests}
+use Rattle.theory.proofs.Tests.{by-cases, both, and-i, one-false, one-le, tests}
 use Rattle.member.specs.Record.{objectsSize}
 use Rattle.member.specs.Objects.{count, allUpTo, withinLimits}
 
@@ -64,3 +65,24 @@ none-live = refl
 pub none-counted : (gets sets : ℕ) → withinLimits gets sets (replicate objectsSize 0) ≡ true
 unfolding withinLimits count one
 none-counted gets sets = and-i _ _ (le-leb 0 gets (omega arith)) (le-leb 0 sets (omega arith))
+
+-- ---- a loop that counts ----
+
+-- n of the first i bytes are v
+module _ (v : ℕ) (bs : List ℕ) (i n k : ℕ) (e : count v bs ≡ n + count v (drop i bs)) (l : length bs ≡ k) where
+  pub count-on : (h : ℕ) → h ≡ one (eqb (getD bs i 0) v) → i < k → count v bs ≡ (n + h) + count v (drop (i + 1) bs)
+  unfolding count
+  count-on h q a =
+      let b : i < length bs = omega arith in
+      let x : count v (drop i bs) ≡ h + count v (drop (i + 1) bs) = rw (drop-cons bs i 0 b, add-one i, q) in
+      omega arith
+
+  pub counted : k ≤ i → n ≡ count v bs
+  unfolding count
+  counted a =
+      let b : length bs ≤ i = omega arith in
+      let z : count v (drop i bs) ≡ 0 = rw (drop-of-length-le bs b) in
+      omega arith
+
+pub hit-le : (t : Bool) (h : ℕ) → h ≡ one t → h ≤ 1
+hit-le t h e = rw e (one-le t)

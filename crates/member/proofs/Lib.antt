@@ -1,3 +1,6 @@
 pub mod Record
 pub mod Counts
 pub mod Sound
+pub mod Objects
+pub mod Arrays
+pub mod Strays

@@ -1,16 +1,16 @@
 -- A member comes back from its record, and a sound record from its member. Assumes nothing.
-use mathlib.Core.Path.{_≡_, refl, _∙_}
+use mathlib.Core.Path.{_≡_, refl, sym, _∙_}
 use mathlib.Core.Bool.{true}
-use mathlib.Core.List.{List, [], _∷_, map}
-use Prim.Native.Nat.{ℕ, zero, suc, _≤_}
+use mathlib.Core.List.{List, [], _∷_, _++_, map}
+use Prim.Native.Nat.{ℕ, zero, suc, _+_, _≤_}
 use native.Mathlib.Omega.{arith}
 use borrow.Author.Tests.{leb-true}
 use lib.Dec.{leb}
-use lib.ListN.{length, getD, take, drop, length-append, length-map, length-set, length-drop, take-append-drop}
+use lib.ListN.{length, getD, take, drop, set, replicate, length-append, length-map, length-set, length-drop, take-append-drop}
 use lib.Seq.{take-at, drop-at, take-all}
-use Rattle.theory.specs.Bytes.{part}
+use Rattle.theory.specs.Bytes.{part, put}
 use Rattle.theory.proofs.Tests.{both, and-i}
-use Rattle.theory.proofs.Bytes.{length-part}
+use Rattle.theory.proofs.Bytes.{length-put, length-part, put-all, put-cons, put-append, put-front}
 use Rattle.inventory.specs.Inventory.{valuesSize}
 use Rattle.protocol.specs.declared.Mode.{Mode}
 use Rattle.protocol.specs.declared.Mode.the-variants.{Running, Stopped}
@@ -128,3 +128,28 @@ record-back [] e h a = cc
 record-back (b ∷ r) e h a =
     let v : part objectsSize valuesSize r ≡ drop objectsSize r = take-all valuesSize (drop objectsSize r) (rw length-drop (omega arith)) in
     rw (byte-of-mode b (leb-true b 1 h), bytes-of-objects (take objectsSize r) a, v, take-append-drop objectsSize r)
+
+-- ---- load and save ----
+
+-- a part of a list, stored over an array of its size
+pub part-loaded : (at n : ℕ) (s l : List ℕ) → at + n ≤ length s → length l ≡ n → put 0 (part at n s) l ≡ part at n s
+part-loaded at n s l h e = put-all (part at n s) l (length-part at n s h ∙ sym e)
+
+-- mode, objects and values, stored one after the other
+module _ (m : Member) (s : Shaped m) (r : List ℕ) (e : length r ≡ recordSize) (b : ℕ) (os : List ℕ) (q : os ≡ map objectByte (m .objects)) where
+  pub objects-fit : objectsAt + length os ≤ length (set r 0 b)
+  objects-fit = rw (q, length-set r 0 b) (omega (arith, bytes-long m s))
+
+  module _ (r₁ : List ℕ) (p : r₁ ≡ put objectsAt os (set r 0 b)) where
+    pub values-fit : valuesAt + length (m .values) ≤ length r₁
+    values-fit = rw (p, length-put, length-set r 0 b) (omega (arith, s .long))
+
+    pub member-saved : b ≡ modeByte (m .mode) → (r₂ : List ℕ) → r₂ ≡ put valuesAt (m .values) r₁ → r₂ ≡ recordOf m
+    unfolding recordOf
+    member-saved h r₂ p₂ =
+        let k : objectsAt + length os ≡ valuesAt = rw q (omega (arith, bytes-long m s)) in
+        let w : put 0 (b ∷ (os ++ m .values)) r ≡ r₂ = put-cons 0 b (os ++ m .values) r ∙ put-append 1 os (m .values) _ ∙ rw (k, p₂, p) in
+        sym w ∙ rw (h, q) (put-all (recordOf m) r (length-record m s ∙ sym e))
+
+pub fresh-values : (f : List ℕ) → length f ≡ 16 → put 0 f (replicate valuesSize 0) ≡ f ++ replicate 189 0
+fresh-values f e = put-front f (replicate valuesSize 0) (omega arith) ∙ rw e

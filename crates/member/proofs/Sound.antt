@@ -1,21 +1,25 @@
 -- What keeps a member sound. `SoundMember` says in plain facts what the test on its record says; each law is over a sound
 -- member. Assumes nothing.
 use mathlib.Core.Path.{_≡_, refl, _∙_}
-use mathlib.Core.Bool.{true}
+use mathlib.Core.Bool.{Bool, true, false, not}
 use mathlib.Core.List.{List, map}
-use Prim.Native.Nat.{ℕ, _+_, _<_}
+use Prim.Native.Nat.{ℕ, _+_, _≤_, _<_}
 use native.Mathlib.Omega.{arith}
-use lib.ListN.{length, drop, replicate, length-append}
+use lib.Dec.{leb}
+use lib.ListN.{length, getD, drop, replicate, length-append}
 use lib.Seq.{take-at, drop-set-lt}
-use Rattle.theory.specs.Bytes.{part}
-use Rattle.theory.proofs.Tests.{both, and-i, same-true, eq-same}
+use borrow.Author.Tests.{not-true, not-false}
+use Rattle.theory.specs.Logic.{_and_}
+use Rattle.theory.specs.Bytes.{part, same}
+use Rattle.theory.proofs.Tests.{both, and-i, and-assoc, same-true, eq-same}
+use Rattle.theory.proofs.Ladder.{ladder}
 use Rattle.inventory.specs.Inventory.{valuesSize}
 use Rattle.protocol.specs.declared.Mode.{Mode}
 use Rattle.member.specs.declared.Slot.{Slot}
 use Rattle.member.specs.declared.Slot.the-variants.{Free}
 use Rattle.member.specs.declared.Member.{Member}
-use Rattle.member.specs.Record.{objectsSize, recordSize, objectByte, memberOf, recordOf}
-use Rattle.member.specs.Objects.{allUpTo, roomIn, withObject}
+use Rattle.member.specs.Record.{objectsSize, valuesAt, recordSize, objectByte, objectBytes, memberOf, recordOf}
+use Rattle.member.specs.Objects.{allUpTo, withinLimits, roomIn, withObject}
 use Rattle.member.specs.Member.{freshOf, featuresIn, withMode, withValues}
 use Rattle.member.specs.Sound.{soundRecord}
 use Rattle.member.proofs.Record.{Shaped, mode-low, objects-low, record-mode, record-objects, record-values, record-back, member-shaped, shaped-mode, shaped-values, shaped-object}
@@ -92,3 +96,21 @@ module _ (gets sets : ℕ) (features : List ℕ) where
           room = rw map-set (limits-set gets sets _ id (s .room));
           kept = s .kept;
         }
+
+-- ---- the test, one step after the other ----
+
+module _ (gets sets : ℕ) (features r : List ℕ) where
+  pub bad-mode : 1 < getD r 0 0 → false ≡ soundRecord gets sets features r
+  unfolding soundRecord
+  bad-mode h = search ladder
+
+  module _ (bs : List ℕ) (b : Bool) (p : bs ≡ objectBytes r) (q : b ≡ allUpTo 2 bs and allUpTo 0 (drop (gets + sets) bs) and withinLimits gets sets bs) where
+    steps : leb (getD r 0 0) 1 and (b and same (part valuesAt 16 r) features) ≡ soundRecord gets sets features r
+    unfolding soundRecord
+    steps = rw (q, p) (simp and-assoc)
+
+    pub bad-objects : not b ≡ true → false ≡ soundRecord gets sets features r
+    bad-objects h = rw (← steps, not-true b h) (search ladder)
+
+    pub sound-rest : getD r 0 0 ≤ 1 → not b ≡ false → (x : Bool) → x ≡ same (part valuesAt 16 r) features → x ≡ soundRecord gets sets features r
+    sound-rest l h x e = rw (← steps, not-false b h) (search ladder)

@@ -1,4 +1,16 @@
 // A member of the card: its record as a struct by value, its bytes, and its resource objects.
+ghost use mathlib.Core.Path.{_≡_};
+ghost use mathlib.Core.List.{map};
+ghost use Prim.Native.Nat.{_+_};
+ghost use lib.Dec.{eqb, ltb};
+ghost use lib.ListN.{length, drop};
+ghost use Rattle.theory.specs.Logic.{if_then_else_, _and_, one};
+ghost use Rattle.theory.specs.Bytes.{part};
+ghost use Rattle.inventory.specs.Inventory.{valuesSize};
+ghost use Rattle.member.specs.Record.{valuesAt, recordSize, modeOf, modeByte, objectOf, objectByte, objectBytes, memberOf, recordOf};
+ghost use Rattle.member.specs.Objects.{slotFor, foundIn, lookupOf, withObject, count, allUpTo, withinLimits, roomIn};
+ghost use Rattle.member.specs.Member.{freshOf, withMode};
+ghost use Rattle.member.specs.Sound.{soundRecord};
 use protocol::Mode;
 use protocol::ObjectKind;
 
@@ -24,4 +36,290 @@ pub struct Member {
 pub enum Found {
     Live(ObjectKind),
     Nothing,
+}
+
+// ---- a byte and what it stands for ----
+
+fn mode_in(b: u8) -> Mode
+    ensures { λ r. ⌜ r ≡ modeOf b ⌝ }
+{
+    if b == 0 { Mode::Running } else { Mode::Stopped }
+}
+
+pub fn mode_byte(mode: Mode) -> u8
+    ensures { λ r. ⌜ r ≡ modeByte mode ⌝ }
+{
+    match mode {
+        Mode::Running => 0,
+        Mode::Stopped => 1,
+    }
+}
+
+fn object_in(b: u8) -> ObjectRecord
+    ensures { λ r. ⌜ r ≡ objectOf b ⌝ }
+{
+    match b {
+        0 => ObjectRecord { slot: Slot::Free },
+        1 => ObjectRecord { slot: Slot::Get },
+        _ => ObjectRecord { slot: Slot::Set },
+    }
+}
+
+fn object_byte(o: ObjectRecord) -> u8
+    ensures { λ r. ⌜ r ≡ objectByte o ⌝ }
+{
+    let slot = o.slot;
+    match slot {
+        Slot::Free => 0,
+        Slot::Get => 1,
+        Slot::Set => 2,
+    }
+}
+
+fn objects_in(bytes: [u8; 16]) -> [ObjectRecord; 16]
+    ensures { λ r. ⌜ r ≡ map objectOf bytes ⌝ }
+{
+    let mut objects = [ObjectRecord { slot: Slot::Free }; 16];
+    let mut i = 0;
+    while i < 16 {
+        let o = object_in(bytes[i]);
+        objects[i] = o;
+        i += 1;
+    }
+    objects
+}
+
+fn object_bytes(objects: [ObjectRecord; 16]) -> [u8; 16]
+    ensures { λ r. ⌜ r ≡ map objectByte objects ⌝ }
+{
+    let mut bytes = [0u8; 16];
+    let mut i = 0;
+    while i < 16 {
+        let o = objects[i];
+        bytes[i] = object_byte(o);
+        i += 1;
+    }
+    bytes
+}
+
+// ---- counting object bytes, without branches ----
+
+fn hit(b: u8, v: u8) -> u8
+    ensures { λ r. ⌜ r ≡ one (eqb b v) ⌝ }
+{
+    if b == v { 1 } else { 0 }
+}
+
+fn count_of(v: u8, bytes: [u8; 16]) -> u8
+    ensures { λ r. ⌜ r ≡ count v bytes ⌝ }
+{
+    let mut n: u8 = 0;
+    let mut i = 0;
+    while i < 16 {
+        n += hit(bytes[i], v);
+        i += 1;
+    }
+    n
+}
+
+fn is_within_limits(bytes: [u8; 16], gets: u8, sets: u8) -> bool
+    ensures { λ r. ⌜ r ≡ withinLimits gets sets bytes ⌝ }
+{
+    if gets < count_of(1, bytes) {
+        return false;
+    }
+    count_of(2, bytes) <= sets
+}
+
+fn over(b: u8, n: u8) -> u8
+    ensures { λ r. ⌜ r ≡ one (ltb n b) ⌝ }
+{
+    if n < b { 1 } else { 0 }
+}
+
+// 1 for a byte that id i cannot hold: none from ids on is live.
+fn stray(b: u8, i: u16, ids: u16) -> u8
+    ensures { λ r. ⌜ r ≡ (if ltb i ids then one (ltb 2 b) else one (ltb 0 b)) ⌝ }
+{
+    if i < ids { over(b, 2) } else { over(b, 0) }
+}
+
+fn are_ids_valid(bytes: [u8; 16], ids: u16) -> bool
+    ensures { λ r. ⌜ r ≡ allUpTo 2 bytes and allUpTo 0 (drop ids bytes) ⌝ }
+{
+    let mut n: u8 = 0;
+    let mut i = 0;
+    while i < 16 {
+        n += stray(bytes[i], i as u16, ids);
+        i += 1;
+    }
+    n == 0
+}
+
+fn are_objects_sound(bytes: [u8; 16], gets: u8, sets: u8) -> bool
+    ensures { λ r. ⌜ r ≡ allUpTo 2 bytes and allUpTo 0 (drop (gets + sets) bytes) and withinLimits gets sets bytes ⌝ }
+{
+    if !are_ids_valid(bytes, gets as u16 + sets as u16) {
+        return false;
+    }
+    is_within_limits(bytes, gets, sets)
+}
+
+// ---- resource objects ----
+
+pub fn slot_for(kind: ObjectKind) -> Slot
+    ensures { λ r. ⌜ r ≡ slotFor kind ⌝ }
+{
+    match kind {
+        ObjectKind::Get => Slot::Get,
+        ObjectKind::Set => Slot::Set,
+    }
+}
+
+fn found_in(slot: Slot) -> Found
+    ensures { λ r. ⌜ r ≡ foundIn slot ⌝ }
+{
+    match slot {
+        Slot::Free => Found::Nothing,
+        Slot::Get => Found::Live(ObjectKind::Get),
+        Slot::Set => Found::Live(ObjectKind::Set),
+    }
+}
+
+// The live object of an id.
+pub fn lookup(m: Member, id: usize) -> Found
+    ensures { λ r. ⌜ r ≡ lookupOf m id ⌝ }
+{
+    if 16 <= id {
+        return Found::Nothing;
+    }
+    let o = m.objects[id];
+    let slot = o.slot;
+    found_in(slot)
+}
+
+// The member with this at the id; an id that no record has changes nothing.
+pub fn put_object(m: Member, id: usize, slot: Slot) -> Member
+    ensures { λ r. ⌜ r ≡ withObject m id slot ⌝ }
+{
+    if 16 <= id {
+        return m;
+    }
+    let mut n = m;
+    n.objects[id] = ObjectRecord { slot };
+    n
+}
+
+// Whether the member has at most so many get and set objects.
+pub fn has_room(m: Member, gets: u8, sets: u8) -> bool
+    ensures { λ r. ⌜ r ≡ roomIn gets sets m ⌝ }
+{
+    let objects = m.objects;
+    let bytes = object_bytes(objects);
+    is_within_limits(bytes, gets, sets)
+}
+
+// ---- the record ----
+
+fn object_bytes_in(rec: &[u8]) -> [u8; 16]
+    requires { ⌜ length (now rec) ≡ recordSize ⌝ }
+    ensures { λ r. ⌜ r ≡ objectBytes (now (rec .entry)) ⌝ }
+{
+    let mut bytes = [0u8; 16];
+    wire::copy(&mut bytes, 0, &rec[1..17]);
+    bytes
+}
+
+fn values_in(rec: &[u8]) -> [u8; 205]
+    requires { ⌜ length (now rec) ≡ recordSize ⌝ }
+    ensures { λ r. ⌜ r ≡ part valuesAt valuesSize (now (rec .entry)) ⌝ }
+{
+    let mut values = [0u8; 205];
+    wire::copy(&mut values, 0, &rec[17..222]);
+    values
+}
+
+pub fn load(rec: &[u8]) -> Member
+    requires { ⌜ length (now rec) ≡ recordSize ⌝ }
+    ensures { λ r. ⌜ r ≡ memberOf (now (rec .entry)) ⌝ }
+{
+    let mode = mode_in(rec[0]);
+    let objects = objects_in(object_bytes_in(rec));
+    let values = values_in(rec);
+    Member {
+        mode,
+        objects,
+        values,
+    }
+}
+
+pub fn save(m: Member, rec: &mut [u8])
+    requires { ⌜ length (now rec) ≡ recordSize ⌝ }
+    ensures { λ _. ⌜ now (rec .exit) ≡ recordOf m ⌝ }
+{
+    let mode = m.mode;
+    rec[0] = mode_byte(mode);
+    let objects = m.objects;
+    let bytes = object_bytes(objects);
+    wire::copy(rec, 1, &bytes);
+    let values = m.values;
+    wire::copy(rec, 17, &values);
+}
+
+pub fn is_sound_record(rec: &[u8], gets: u8, sets: u8, features: &[u8]) -> bool
+    requires { ⌜ length (now rec) ≡ recordSize ⌝ }
+    ensures { λ r. ⌜ r ≡ soundRecord gets sets (now (features .entry)) (now (rec .entry)) ⌝ }
+{
+    if 1 < rec[0] {
+        return false;
+    }
+    if !are_objects_sound(object_bytes_in(rec), gets, sets) {
+        return false;
+    }
+    wire::equal(&rec[17..33], features)
+}
+
+impl Member {
+    pub fn fresh(features: [u8; 16]) -> Member
+        ensures { λ r. ⌜ r ≡ freshOf features ⌝ }
+    {
+        let objects = [ObjectRecord { slot: Slot::Free }; 16];
+        let mut values = [0u8; 205];
+        wire::copy(&mut values, 0, &features);
+        Member {
+            mode: Mode::Running,
+            objects,
+            values,
+        }
+    }
+
+    pub fn reset(self, features: [u8; 16]) -> Member
+        ensures { λ r. ⌜ r ≡ freshOf features ⌝ }
+    {
+        Member::fresh(features)
+    }
+
+    pub fn stop(self) -> Member
+        ensures { λ r. ⌜ r ≡ withMode self Mode.Stopped ⌝ }
+    {
+        let objects = self.objects;
+        let values = self.values;
+        Member {
+            mode: Mode::Stopped,
+            objects,
+            values,
+        }
+    }
+
+    pub fn resume(self) -> Member
+        ensures { λ r. ⌜ r ≡ withMode self Mode.Running ⌝ }
+    {
+        let objects = self.objects;
+        let values = self.values;
+        Member {
+            mode: Mode::Running,
+            objects,
+            values,
+        }
+    }
 }

@@ -1,0 +1,10 @@
+use borrow.Author.Needs.{needs}
+use Rattle.member.proofs.Objects.{found-get, found-set}
+use Rattle.member.proofs.found_in.Statement.{statement}
+use Rattle.member.proofs.found_in.Tie as tie
+
+pub found-in-spec : {M : Type 1} → statement M
+found-in-spec =
+    tie.close
+    (tie.spec (λ c. search needs) (λ c. search needs) (λ c. search needs) (λ c. search needs)
+    (λ c. search (needs, found-get)) (λ c. search (needs, found-set)))

@@ -1,0 +1,9 @@
+use borrow.Author.Needs.{needs}
+use Rattle.member.proofs.has_room.Statement.{statement}
+use Rattle.member.proofs.has_room.Tie as tie
+
+returns : tie.Need-returns
+returns c = cc
+
+pub has-room-spec : {M : Type 1} → statement M
+has-room-spec = tie.close (tie.spec (λ c κs. search needs) (λ c κs. search needs) returns)

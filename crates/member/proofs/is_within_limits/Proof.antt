@@ -1,0 +1,16 @@
+use Rattle.theory.proofs.Ladder.{ladder}
+use borrow.Author.Needs.{needs}
+use Rattle.member.specs.Objects.{withinLimits}
+use Rattle.member.proofs.is_within_limits.Statement.{statement}
+use Rattle.member.proofs.is_within_limits.Tie as tie
+
+returns : tie.Need-returns
+unfolding withinLimits
+returns c = search ladder
+
+returns-2 : tie.Need-returns-2
+unfolding withinLimits
+returns-2 c = search ladder
+
+pub is-within-limits-spec : {M : Type 1} → statement M
+is-within-limits-spec = tie.close (tie.spec (λ c κs. search needs) returns (λ c κs. search needs) returns-2)
