@@ -74,7 +74,8 @@ respond c r room =
     conclude c room (perform c r (askIn c r))
 
 -- the same as a call leaves it: the bytes written, the card, and the buffer, whose other bytes keep their values
+unfoldable pub delivered : List ℕ × List ℕ → List ℕ → ℕ × (List ℕ × List ℕ)
+delivered x buffer = (length (x .1), (x .0, put 0 (x .1) buffer))
+
 unfoldable pub commandOf : List ℕ → List ℕ → List ℕ → ℕ × (List ℕ × List ℕ)
-commandOf c r buffer =
-    let x = respond c r (length buffer) in
-    (length (x .1), (x .0, put 0 (x .1) buffer))
+commandOf c r buffer = delivered (respond c r (length buffer)) buffer
