@@ -1,12 +1,12 @@
 -- The laws of `part`, `put` and `repeat` of specs/Bytes.antt. `put` never writes past the end, so most ask no length.
 -- Assumes nothing.
-use mathlib.Core.Path.{_≡_, refl, ap, sym, _∙_}
+use mathlib.Core.Path.{_≡_, refl, ap, _∙_}
 use mathlib.Core.List.{List, [], _∷_, _++_, append-nil}
 use Prim.Native.Nat.{ℕ, zero, suc, _+_, _*_, _-_, _≤_, _<_}
-use native.Mathlib.Nat.{zero-add, add-zero, add-suc, suc-add}
+use native.Mathlib.Nat.{zero-add, add-zero, suc-add}
 use native.Mathlib.Omega.{arith}
 use lib.ListN.{length, getD, take, drop, set, length-append, length-take, length-drop, drop-of-length-le}
-use lib.Seq.{length-take-le, take-at, drop-at, take-nil, drop-nil, drop-append-add, drop-drop, take-take, getD-drop, getD-take}
+use lib.Seq.{length-take-le, take-at, drop-at, take-nil, drop-append-add, drop-drop, take-take, getD-drop, getD-take}
 use Rattle.theory.specs.Bytes.{part, put, repeat}
 
 -- ---- put ----
