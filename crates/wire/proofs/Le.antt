@@ -1,8 +1,8 @@
 -- The laws of `le`, `bytes` and `number`, each once, over the width. Assumes nothing.
-use mathlib.Core.Path.{_≡_, refl, ap, sym, _∙_}
+use mathlib.Core.Path.{_≡_, refl, ap, _∙_}
 use mathlib.Core.List.{List, [], _∷_}
 use Prim.Native.Nat.{ℕ, zero, suc, _+_, _*_, _/_, _%_, _^_, _≤_, _<_}
-use native.Mathlib.Nat.{zero-add, add-zero, pow-succ'}
+use native.Mathlib.Nat.{pow-succ'}
 use native.Mathlib.Numerals.{add-one}
 use native.Mathlib.Omega.{arith}
 use lib.ListN.{length, getD, take, drop}
@@ -23,6 +23,12 @@ unfolding bytes le
 le-bytes zero x h = omega arith
 le-bytes (suc n) x h = rw (le-bytes n (x / 256) (let k = rw pow-succ' at h in omega arith)) (omega arith)
 
+pub take-bytes : (k n x : ℕ) → k ≤ n → take k (bytes n x) ≡ bytes k x
+unfolding bytes
+take-bytes zero n x h = refl
+take-bytes (suc k) zero x h = absurd (omega arith)
+take-bytes (suc k) (suc n) x h = ap (x % 256 ∷_) (take-bytes k n (x / 256) (omega arith))
+
 -- ---- the number at a place; a byte past the end counts as 0 ----
 
 pub number-none : (at : ℕ) (l : List ℕ) → number at 0 l ≡ 0
@@ -37,18 +43,6 @@ number-step (suc at) n (x ∷ l) = number-step at n l ∙ rw (add-one, add-one)
 
 pub number-byte : (at : ℕ) (l : List ℕ) → number at 1 l ≡ getD l at 0
 number-byte at l = number-step at 0 l ∙ rw number-none (omega arith)
-
--- the low bytes and the high ones
-pub number-split : (a b at : ℕ) (l : List ℕ) → number at (a + b) l ≡ number at a l + 256 ^ a * number (at + a) b l
-number-split zero b at l = rw (zero-add, add-zero, number-none) (omega arith)
-number-split (suc a) b at l =
-    let e : suc a + b ≡ suc (a + b) = omega arith in
-    let f : at + 1 + a ≡ at + suc a = omega arith in
-    rw (e, number-step at (a + b) l, number-step at a l, number-split a b (at + 1) l, f, pow-succ') (omega arith)
-
--- a number read in halves, in the form in which a need asks it
-pub halves : (w at low high : ℕ) (l : List ℕ) → low ≡ number at w l → high ≡ number (at + w) w l → low + 256 ^ w * high ≡ number at (w + w) l
-halves w at low high l e f = rw (number-split w w at l, e, f)
 
 -- in a part of a list
 pub number-drop : (at n b : ℕ) (l : List ℕ) → number at n (drop b l) ≡ number (b + at) n l

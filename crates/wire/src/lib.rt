@@ -29,32 +29,26 @@ pub fn read(s: &[u8], at: usize, n: usize) -> u64
     r
 }
 
-// The fixed widths are written out in halves: each becomes one load.
+// Each of the fixed widths becomes one load.
 pub fn read_u16(s: &[u8], at: usize) -> u16
     requires { ⌜ at + 2 ≤ length (now s) ⌝ }
     ensures { λ r. ⌜ r ≡ number at 2 (now (s .entry)) ⌝ }
 {
-    let low = byte(s, at);
-    let high = byte(s, at + 1);
-    (low + 0x100 * high) as u16
+    read(s, at, 2) as u16
 }
 
 pub fn read_u32(s: &[u8], at: usize) -> u32
     requires { ⌜ at + 4 ≤ length (now s) ⌝ }
     ensures { λ r. ⌜ r ≡ number at 4 (now (s .entry)) ⌝ }
 {
-    let low = read_u16(s, at) as u32;
-    let high = read_u16(s, at + 2) as u32;
-    low + 0x1_0000 * high
+    read(s, at, 4) as u32
 }
 
 pub fn read_u64(s: &[u8], at: usize) -> u64
     requires { ⌜ at + 8 ≤ length (now s) ⌝ }
     ensures { λ r. ⌜ r ≡ number at 8 (now (s .entry)) ⌝ }
 {
-    let low = read_u32(s, at) as u64;
-    let high = read_u32(s, at + 4) as u64;
-    low + 0x1_0000_0000 * high
+    read(s, at, 8)
 }
 
 // The n low bytes of x.
@@ -75,10 +69,10 @@ pub fn copy(dst: &mut [u8], at: usize, src: &[u8])
     requires { ⌜ at + length (now src) ≤ length (now dst) ⌝ }
     ensures { λ _. ⌜ now (dst .exit) ≡ put at (now (src .entry)) (now (dst .entry)) ⌝ }
 {
-    let mut i = 0;
-    while i < src.len() {
-        dst[at + i] = src[i];
-        i += 1;
+    let mut done = 0;
+    while done < src.len() {
+        dst[at + done] = src[done];
+        done += 1;
     }
 }
 

@@ -9,11 +9,11 @@ use Rattle.wire.proofs.copy.Statement.{statement}
 use Rattle.wire.proofs.copy.Tie as tie
 
 abbrev Inv-loop : tie.InvT-loop
-Inv-loop dst₀ at src i₀ dst i =
-    (i ≤ length src) × (length dst ≡ length dst₀) × (put at src dst₀ ≡ put (at + i) (drop i src) dst)
+Inv-loop dst₀ at src done₀ dst done =
+    (done ≤ length src) × (length dst ≡ length dst₀) × (put at src dst₀ ≡ put (at + done) (drop done src) dst)
 
 abbrev μ-loop : tie.MeasureT-loop
-μ-loop dst₀ at src i₀ dst i = length src - i
+μ-loop dst₀ at src done₀ dst done = length src - done
 
 pub copy-spec : {M : Type 1} → statement M
 copy-spec =

@@ -12,13 +12,13 @@ abbrev μ-loop : tie.MeasureT-loop
 μ-loop s at n r₀ i₀ r i = i
 
 mul-r : tie.Need-mul-r Inv-loop μ-loop
-mul-r c = let l = c .before .loop in omega (arith, reading-fits _ _ _ _ _ (l .inv) (c .loop-test .taken) (omega arith))
+mul-r c = omega (arith, reading-fits _ _ _ _ _ (c .before .loop .inv) (omega arith) (omega arith))
 
 add-r : tie.Need-add-r Inv-loop μ-loop
-add-r c = let l = c .before .before .loop in omega (arith, reading-fits _ _ _ _ _ (l .inv) (c .before .loop-test .taken) (omega arith))
+add-r c = omega (arith, reading-fits _ _ _ _ _ (c .before .before .loop .inv) (omega arith) (omega arith))
 
 pub read-spec : {M : Type 1} → statement M
 read-spec =
     tie.close
     (tie.spec Inv-loop μ-loop (λ c. search reading-start) (λ c. search needs) mul-r (λ c. search needs) (λ c κs. search needs)
-    add-r (λ c. search needs) (λ c. search (needs, reading-on)) (λ c. reading-end _ _ _ _ _ (c .before .loop .inv) (c .loop-test .left)))
+    add-r (λ c. search needs) (λ c. search (needs, reading-on)) (λ c. reading-end _ _ _ _ _ (c .before .loop .inv) (omega arith)))
