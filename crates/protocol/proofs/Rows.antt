@@ -73,7 +73,7 @@ module _ (op : ℕ) where
 
 -- data of the right length for opcode o is at least k bytes long, where k is at most the row's least
 pub data-long : (op o n k : ℕ) → lengthFits op n ≡ true → op ≡ o
-    → T (unfold opcodeRows in leb k (getD leasts o 0)) → k ≤ n
+    → T (leb k (getD leasts o 0)) → k ≤ n
 unfolding lengthFits opcodeRows
 data-long op o n k f e t =
     let m : getD leasts op 0 ≤ n = rw (least-is op) (within-low _ _ _ (both _ _ f .0)) in
