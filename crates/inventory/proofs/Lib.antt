@@ -1,3 +1,4 @@
 pub mod Columns
 pub mod Rules
 pub mod Find
+pub mod Headers

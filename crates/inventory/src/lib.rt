@@ -53,6 +53,20 @@ pub enum Place {
     Absent,
 }
 
+pub fn type_of(i: usize) -> u16
+    requires { ⌜ i < rowCount ⌝ }
+    ensures { λ r. ⌜ r ≡ rowAt i .partType ⌝ }
+{
+    TYPES[i]
+}
+
+pub fn row_selector(i: usize) -> u64
+    requires { ⌜ i < rowCount ⌝ }
+    ensures { λ r. ⌜ r ≡ rowAt i .selector ⌝ }
+{
+    SELECTORS[i] as u64
+}
+
 pub fn size_of(i: usize) -> usize
     requires { ⌜ i < rowCount ⌝ }
     ensures { λ r. ⌜ r ≡ rowAt i .size ⌝ }
