@@ -1,6 +1,16 @@
 // From the bytes of a request to what it asks: steps 2 to 7 of document 01's table of statuses.
+ghost use mathlib.Core.Path.{_≡_};
+ghost use mathlib.Core.Bool.{true};
+ghost use Prim.Native.Nat.{_≤_};
+ghost use lib.ListN.{length};
+ghost use Rattle.protocol.specs.Opcodes.{supported, lengthFits};
+ghost use Rattle.frame.specs.Fields.{idOf, objectValid, flagsValid, kindValid, kindIn, metadataIs, modeIs, createIn, modifyIn, queryIn, destroyIn, metadataIn, getIn, setIn, modeIn, useIn, fieldsOf};
+ghost use Rattle.frame.specs.Ask.{usable, reaches, framedOf, askOf};
 use protocol::Answer;
 use protocol::ChangeOp;
+use protocol::Metadata;
+use protocol::Mode;
+use protocol::ObjectKind;
 use protocol::ReadOp;
 
 // What a request asks. Read and Change name a member of the card.
@@ -10,4 +20,251 @@ pub enum Ask {
     UseList(u64),
     Read(u64, ReadOp),
     Change(u64, ChangeOp),
+}
+
+// The object header: type 0, and an id below G + S.
+fn object_valid(ids: u8, d: &[u8]) -> bool
+    requires { ⌜ 8 ≤ length (now d) ⌝ }
+    ensures { λ r. ⌜ r ≡ objectValid ids (now (d .entry)) ⌝ }
+{
+    if wire::read_u16(d, 0) != 0 {
+        return false;
+    }
+    wire::read_u32(d, 4) < ids as u32
+}
+
+fn flags_valid(d: &[u8]) -> bool
+    requires { ⌜ 16 ≤ length (now d) ⌝ }
+    ensures { λ r. ⌜ r ≡ flagsValid (now (d .entry)) ⌝ }
+{
+    wire::read_u64(d, 8) == 0
+}
+
+fn kind_valid(ids: u8, d: &[u8]) -> bool
+    requires { ⌜ 24 ≤ length (now d) ⌝ }
+    ensures { λ r. ⌜ r ≡ kindValid ids (now (d .entry)) ⌝ }
+{
+    if !object_valid(ids, d) {
+        return false;
+    }
+    if !flags_valid(d) {
+        return false;
+    }
+    d[16] <= 1
+}
+
+fn id_of(d: &[u8]) -> usize
+    requires { ⌜ 8 ≤ length (now d) ⌝ }
+    ensures { λ r. ⌜ r ≡ idOf (now (d .entry)) ⌝ }
+{
+    wire::read_u32(d, 4) as usize
+}
+
+fn kind_in(b: u8) -> ObjectKind
+    ensures { λ r. ⌜ r ≡ kindIn b ⌝ }
+{
+    if b == 0 {
+        ObjectKind::Get
+    } else {
+        ObjectKind::Set
+    }
+}
+
+fn create_in(ids: u8, m: u64, d: &[u8]) -> Ask
+    requires { ⌜ 24 ≤ length (now d) ⌝ }
+    ensures { λ r. ⌜ r ≡ createIn ids m (now (d .entry)) ⌝ }
+{
+    if !kind_valid(ids, d) {
+        return Ask::Refused(Answer::BadField);
+    }
+    Ask::Change(m, ChangeOp::Create(id_of(d), kind_in(d[16])))
+}
+
+fn modify_in(ids: u8, m: u64, d: &[u8]) -> Ask
+    requires { ⌜ 24 ≤ length (now d) ⌝ }
+    ensures { λ r. ⌜ r ≡ modifyIn ids m (now (d .entry)) ⌝ }
+{
+    if !kind_valid(ids, d) {
+        return Ask::Refused(Answer::BadField);
+    }
+    Ask::Change(m, ChangeOp::Modify(id_of(d), kind_in(d[16])))
+}
+
+fn query_in(ids: u8, m: u64, d: &[u8]) -> Ask
+    requires { ⌜ 16 ≤ length (now d) ⌝ }
+    ensures { λ r. ⌜ r ≡ queryIn ids m (now (d .entry)) ⌝ }
+{
+    if !object_valid(ids, d) {
+        return Ask::Refused(Answer::BadField);
+    }
+    if !flags_valid(d) {
+        return Ask::Refused(Answer::BadField);
+    }
+    Ask::Read(m, ReadOp::QueryObject(id_of(d)))
+}
+
+fn destroy_in(ids: u8, m: u64, d: &[u8]) -> Ask
+    requires { ⌜ 8 ≤ length (now d) ⌝ }
+    ensures { λ r. ⌜ r ≡ destroyIn ids m (now (d .entry)) ⌝ }
+{
+    if !object_valid(ids, d) {
+        return Ask::Refused(Answer::BadField);
+    }
+    Ask::Change(m, ChangeOp::Destroy(id_of(d)))
+}
+
+fn metadata_is(b: u8) -> Metadata
+    ensures { λ r. ⌜ r ≡ metadataIs b ⌝ }
+{
+    match b {
+        0 => Metadata::Size,
+        1 => Metadata::Count,
+        _ => Metadata::List,
+    }
+}
+
+fn metadata_in(ids: u8, m: u64, d: &[u8]) -> Ask
+    requires { ⌜ 16 ≤ length (now d) ⌝ }
+    ensures { λ r. ⌜ r ≡ metadataIn ids m (now (d .entry)) ⌝ }
+{
+    if !object_valid(ids, d) {
+        return Ask::Refused(Answer::BadField);
+    }
+    if 2 < d[8] {
+        return Ask::Refused(Answer::BadField);
+    }
+    Ask::Read(m, ReadOp::GetMetadata(id_of(d), metadata_is(d[8])))
+}
+
+fn get_in(ids: u8, m: u64, d: &[u8]) -> Ask
+    requires { ⌜ 16 ≤ length (now d) ⌝ }
+    ensures { λ r. ⌜ r ≡ getIn ids m (now (d .entry)) ⌝ }
+{
+    if !object_valid(ids, d) {
+        return Ask::Refused(Answer::BadField);
+    }
+    if d[8] == 0 {
+        return Ask::Read(m, ReadOp::GetSelected(id_of(d)));
+    }
+    if d[8] != 1 {
+        return Ask::Refused(Answer::BadField);
+    }
+    if d.len() != 16 {
+        return Ask::Refused(Answer::BadField);
+    }
+    Ask::Read(m, ReadOp::GetAll(id_of(d)))
+}
+
+fn set_in(ids: u8, m: u64, d: &[u8]) -> Ask
+    requires { ⌜ 8 ≤ length (now d) ⌝ }
+    ensures { λ r. ⌜ r ≡ setIn ids m (now (d .entry)) ⌝ }
+{
+    if !object_valid(ids, d) {
+        return Ask::Refused(Answer::BadField);
+    }
+    Ask::Change(m, ChangeOp::SetParts(id_of(d)))
+}
+
+fn mode_is(b: u8) -> Mode
+    ensures { λ r. ⌜ r ≡ modeIs b ⌝ }
+{
+    if b == 0 { Mode::Running } else { Mode::Stopped }
+}
+
+fn mode_in(m: u64, d: &[u8]) -> Ask
+    requires { ⌜ 1 ≤ length (now d) ⌝ }
+    ensures { λ r. ⌜ r ≡ modeIn m (now (d .entry)) ⌝ }
+{
+    if 1 < d[0] {
+        return Ask::Refused(Answer::BadField);
+    }
+    Ask::Change(m, ChangeOp::SetMode(mode_is(d[0])))
+}
+
+fn use_in(d: &[u8]) -> Ask
+    requires { ⌜ 8 ≤ length (now d) ⌝ }
+    ensures { λ r. ⌜ r ≡ useIn (now (d .entry)) ⌝ }
+{
+    let mask = wire::read_u64(d, 0);
+    if !protocol::supported_only(mask) {
+        return Ask::Refused(Answer::BadField);
+    }
+    Ask::UseList(mask)
+}
+
+// Step 7: the fields of each command's data.
+fn fields(ids: u8, m: u64, op: usize, d: &[u8]) -> Ask
+    requires { ⌜ (supported op ≡ true) × (lengthFits op (length (now d)) ≡ true) ⌝ }
+    ensures { λ r. ⌜ r ≡ fieldsOf ids m op (now (d .entry)) ⌝ }
+{
+    match op {
+        0x00 => Ask::QueryList,
+        0x01 => use_in(d),
+        0x0a => create_in(ids, m, d),
+        0x0b => modify_in(ids, m, d),
+        0x0c => query_in(ids, m, d),
+        0x0d => destroy_in(ids, m, d),
+        0x0e => metadata_in(ids, m, d),
+        0x0f => get_in(ids, m, d),
+        0x10 => set_in(ids, m, d),
+        _ => mode_in(m, d),
+    }
+}
+
+// Step 4: supported and in use.
+fn usable(in_use: u64, op: usize) -> bool
+    ensures { λ r. ⌜ r ≡ usable in_use op ⌝ }
+{
+    if !protocol::supported(op) {
+        return false;
+    }
+    protocol::bit(in_use, op)
+}
+
+// Step 5: a command that names a member names one of the card's.
+fn reaches(members: u8, op: usize, m: u64) -> bool
+    ensures { λ r. ⌜ r ≡ reaches members op m ⌝ }
+{
+    if !protocol::names_member(op) {
+        return true;
+    }
+    if m < 1 {
+        return false;
+    }
+    m <= members as u64
+}
+
+// Steps 3 to 7, on the fields of the frame.
+fn framed(members: u8, ids: u8, in_use: u64, group: u16, op: usize, m: u64, d: &[u8]) -> Ask
+    ensures { λ r. ⌜ r ≡ framedOf members ids in_use group op m (now (d .entry)) ⌝ }
+{
+    if group != 1 {
+        return Ask::Refused(Answer::BadGroup);
+    }
+    if !usable(in_use, op) {
+        return Ask::Refused(Answer::BadOpcode);
+    }
+    if !reaches(members, op, m) {
+        return Ask::Refused(Answer::NoMember);
+    }
+    if !protocol::length_fits(op, d.len()) {
+        return Ask::Refused(Answer::BadLength);
+    }
+    fields(ids, m, op, d)
+}
+
+// Steps 2 to 7: what a request asks of a card with these members, ids and opcodes in use.
+pub fn decode(members: u8, ids: u8, in_use: u64, request: &[u8]) -> Ask
+    ensures { λ r. ⌜ r ≡ askOf members ids in_use (now (request .entry)) ⌝ }
+{
+    if request.len() < 24 {
+        return Ask::Refused(Answer::BadLength);
+    }
+    if 4096 < request.len() {
+        return Ask::Refused(Answer::BadLength);
+    }
+    let op = wire::read_u16(request, 0) as usize;
+    let group = wire::read_u16(request, 2);
+    let m = wire::read_u64(request, 16);
+    framed(members, ids, in_use, group, op, m, &request[24..])
 }

@@ -1,0 +1,119 @@
+-- What is known of a request by what it asks: whom it names, and that its fields are in range. Isolation and soundness
+-- start from here. Assumes nothing.
+use mathlib.Core.Path.{_≡_, refl}
+use mathlib.Core.Bool.{Bool, true, false, not}
+use mathlib.Core.List.{List}
+use Prim.Native.Nat.{ℕ, _≤_, _<_}
+use borrow.Author.Tests.{ltb-true, eqb-true, eqb-false}
+use lib.Dec.{eqb, lit<}
+use lib.ListN.{length}
+use Rattle.theory.specs.Logic.{if_then_else_, unless_answer_then_, within}
+use Rattle.theory.proofs.Tests.{if-cases, unless-cases, both, either, below, within-low, within-high, tests}
+use Rattle.protocol.specs.declared.Answer.{Answer}
+use Rattle.protocol.specs.declared.ReadOp.{ReadOp}
+use Rattle.protocol.specs.declared.ReadOp.the-variants.{QueryObject, GetMetadata, GetSelected, GetAll}
+use Rattle.protocol.specs.declared.ChangeOp.{ChangeOp}
+use Rattle.protocol.specs.declared.ChangeOp.the-variants.{Create, Modify, Destroy, SetParts, SetMode}
+use Rattle.protocol.specs.Opcodes.{supported, supportedOnly, namesMember}
+use Rattle.frame.proofs.Steps.{names-one}
+use Rattle.frame.specs.declared.Ask.{Ask}
+use Rattle.frame.specs.declared.Ask.the-variants.{Refused, QueryList, UseList, Read, Change}
+use Rattle.frame.specs.Frame.{opcodeOf, groupOf, targetOf, dataOf}
+use Rattle.frame.specs.Fields.{idOf, objectValid, kindValid, createIn, modifyIn, queryIn, destroyIn, metadataIn, getIn, setIn, modeIn, useIn, fieldsOf}
+use Rattle.frame.specs.Ask.{usable, reaches, framedOf, askOf}
+
+-- the object id in an operation is below ids
+abbrev pub ReadBelow : ℕ → ReadOp → Type 0
+ReadBelow ids (QueryObject id) = id < ids
+ReadBelow ids (GetMetadata id what) = id < ids
+ReadBelow ids (GetSelected id) = id < ids
+ReadBelow ids (GetAll id) = id < ids
+
+abbrev pub ChangeBelow : ℕ → ChangeOp → Type 0
+ChangeBelow ids (Create id kind) = id < ids
+ChangeBelow ids (Modify id kind) = id < ids
+ChangeBelow ids (Destroy id) = id < ids
+ChangeBelow ids (SetParts id) = id < ids
+ChangeBelow ids (SetMode mode) = Unit {0}
+
+-- the request names m, document 01's term, and m is a member of the card
+pub record Named (members : ℕ) (r : List ℕ) (m : ℕ) : Type 0 where
+  pub long : 24 ≤ length r
+  pub short : length r ≤ 4096
+  pub group : groupOf r ≡ 1
+  pub opcode : namesMember (opcodeOf r) ≡ true
+  pub target : targetOf r ≡ m
+  pub low : 1 ≤ m
+  pub high : m ≤ members
+
+-- what each thing that is asked says of the request
+abbrev pub Facts : ℕ → ℕ → List ℕ → Ask → Type 0
+Facts members ids r (Refused a) = Unit {0}
+Facts members ids r QueryList = namesMember (opcodeOf r) ≡ false
+Facts members ids r (UseList mask) = (namesMember (opcodeOf r) ≡ false) × (supportedOnly mask ≡ true)
+Facts members ids r (Read m op) = Named members r m × ReadBelow ids op
+Facts members ids r (Change m op) = Named members r m × ChangeBelow ids op
+
+-- the id in an object header that passes
+id-below : (ids : ℕ) (d : List ℕ) → objectValid ids d ≡ true → idOf d < ids
+unfolding objectValid
+id-below ids d e = ltb-true _ _ (both _ _ e .1)
+
+kind-below : (ids : ℕ) (d : List ℕ) → kindValid ids d ≡ true → idOf d < ids
+unfolding kindValid
+kind-below ids d e = id-below ids d (both _ _ (both _ _ e .0) .0)
+
+-- the two commands on the list
+names-none : (op k : ℕ) → eqb op k ≡ true → k < 0x0a → namesMember op ≡ false
+unfolding namesMember
+names-none op k e h = below 0x0a 0x11 op (omega tests)
+
+module _ (members ids : ℕ) (r : List ℕ) where
+  guarded : (t : Bool) (a : Answer) (x : Ask) → (t ≡ true → Facts members ids r x)
+      → Facts members ids r (unless t answer Refused a then x)
+  guarded t a x f = unless-cases (Facts members ids r) t (Refused a) x (λ e. tt) f
+
+  branch : (t : Bool) (x y : Ask) → Facts members ids r x → Facts members ids r y → Facts members ids r (if t then x else y)
+  branch t x y f g = if-cases (Facts members ids r) t x y (λ e. f) (λ e. g)
+
+  -- step 7
+  fields-told : (m op : ℕ) (d : List ℕ) → op ≡ opcodeOf r → supported op ≡ true
+      → (namesMember op ≡ true → Named members r m) → Facts members ids r (fieldsOf ids m op d)
+  unfolding fieldsOf createIn modifyIn queryIn destroyIn metadataIn getIn setIn modeIn useIn
+  fields-told m op d o s f =
+      if-cases (Facts members ids r) _ _ _ (λ e. rw o at (names-none op 0 e (lit< tt)))
+      (λ n0. if-cases (Facts members ids r) _ _ _
+      (λ e. guarded _ _ _ (λ t. (rw o at (names-none op 1 e (lit< tt)), t)))
+      (λ n1. let n = f (names-one op s (eqb-false _ _ n0) (eqb-false _ _ n1)) in
+      branch _ _ _ (guarded _ _ _ (λ e. (n, kind-below ids d e)))
+      (branch _ _ _ (guarded _ _ _ (λ e. (n, kind-below ids d e)))
+      (branch _ _ _ (guarded _ _ _ (λ e. (n, id-below ids d (both _ _ e .0))))
+      (branch _ _ _ (guarded _ _ _ (λ e. (n, id-below ids d e)))
+      (branch _ _ _ (guarded _ _ _ (λ e. (n, id-below ids d (both _ _ e .0))))
+      (branch _ _ _ (guarded _ _ _ (λ e. let b = id-below ids d e in branch _ _ _ (n, b) (guarded _ _ _ (λ _. (n, b)))))
+      (branch _ _ _ (guarded _ _ _ (λ e. (n, id-below ids d e)))
+      (guarded _ _ _ (λ e. (n, tt)))))))))))
+
+  named : within 24 4096 (length r) ≡ true → eqb (groupOf r) 1 ≡ true → reaches members (opcodeOf r) (targetOf r) ≡ true
+      → namesMember (opcodeOf r) ≡ true → Named members r (targetOf r)
+  unfolding reaches
+  named l g t n =
+      let w : within 1 members (targetOf r) ≡ true = either (not (namesMember (opcodeOf r))) _ t (λ e. cc) (λ e. e) in
+      record {
+        long = within-low _ _ _ l;
+        short = within-high _ _ _ l;
+        group = eqb-true _ _ g;
+        opcode = n;
+        target = refl;
+        low = within-low _ _ _ w;
+        high = within-high _ _ _ w;
+      }
+
+  facts : (inUse : ℕ) → Facts members ids r (askOf members ids inUse r)
+  unfolding askOf framedOf usable
+  facts inUse =
+      guarded _ _ _ (λ l. guarded _ _ _ (λ g. guarded _ _ _ (λ u. guarded _ _ _ (λ t. guarded _ _ _
+      (λ _. fields-told (targetOf r) (opcodeOf r) (dataOf r) refl (both _ _ u .0) (named l g t))))))
+
+  pub asked : (inUse : ℕ) (a : Ask) → askOf members ids inUse r ≡ a → Facts members ids r a
+  asked inUse a e = rw e at (facts inUse)

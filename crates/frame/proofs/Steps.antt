@@ -1,0 +1,92 @@
+-- What the returns of the code ask, beside the ladder. Assumes nothing.
+use mathlib.Core.Path.{_≡_, refl, sym, _∙_}
+use mathlib.Core.Bool.{Bool, true, false, not}
+use mathlib.Core.List.{List}
+use Prim.Native.Nat.{ℕ, zero, suc, _-_, _≤_}
+use native.Mathlib.Nat.{le-antisymm}
+use native.Mathlib.Omega.{arith}
+use borrow.Author.Tests.{not-false}
+use lib.Dec.{ltb}
+use lib.ListN.{length, take, drop, length-drop}
+use lib.Seq.{take-all}
+use Rattle.theory.specs.Logic.{if_then_else_, unless_answer_then_}
+use Rattle.theory.proofs.Tests.{both, either, inside, within-low, within-high, tests}
+use Rattle.theory.proofs.Ladder.{pass}
+use Rattle.wire.specs.Le.{number}
+use Rattle.protocol.specs.declared.Answer.the-variants.{BadField}
+use Rattle.protocol.specs.declared.Mode.the-variants.{Stopped}
+use Rattle.protocol.specs.declared.ObjectKind.the-variants.{Set}
+use Rattle.protocol.specs.declared.Metadata.the-variants.{List as Headers}
+use Rattle.protocol.specs.Opcodes.{opcodeRows, supported, supportedOnly, lengthFits, namesMember}
+use Rattle.protocol.proofs.Rows.{supported-is, data-long}
+use Rattle.frame.specs.declared.Ask.{Ask}
+use Rattle.frame.specs.declared.Ask.the-variants.{Refused, UseList}
+use Rattle.frame.specs.Frame.{opcodeOf, groupOf, targetOf}
+use Rattle.frame.specs.Fields.{kindIn, modeIs, metadataIs, modeIn, useIn, fieldsOf}
+use Rattle.frame.specs.Ask.{usable, framedOf, askOf}
+
+-- a byte other than those before
+pub kind-set : (b : ℕ) → (b ≡ 0 → ⊥) → Set ≡ kindIn b
+kind-set zero n = absurd (n refl)
+kind-set (suc b) n = refl
+
+pub mode-stopped : (b : ℕ) → (b ≡ 0 → ⊥) → Stopped ≡ modeIs b
+mode-stopped zero n = absurd (n refl)
+mode-stopped (suc b) n = refl
+
+pub metadata-list : (b : ℕ) → (b ≡ 0 → ⊥) → (b ≡ 1 → ⊥) → Headers ≡ metadataIs b
+metadata-list zero n o = absurd (n refl)
+metadata-list (suc zero) n o = absurd (o refl)
+metadata-list (suc (suc b)) n o = refl
+
+-- the mask that was read
+pub mask-read : (mask : ℕ) (d : List ℕ) (x : Ask) → mask ≡ number 0 8 d
+    → x ≡ unless supportedOnly mask answer Refused BadField then UseList mask → x ≡ useIn d
+unfolding useIn
+mask-read mask d x e h = rw e at h
+
+-- step 7, at an opcode that was found
+pub at-opcode : (ids m op o : ℕ) (d : List ℕ) (x : Ask) → op ≡ o → x ≡ fieldsOf ids m o d → x ≡ fieldsOf ids m op d
+at-opcode ids m op o d x e h = rw e h
+
+-- and at the last one, which none of the others is
+pub names-one : (op : ℕ) → supported op ≡ true → (op ≡ 0x00 → ⊥) → (op ≡ 0x01 → ⊥) → namesMember op ≡ true
+names-one op s n0 n1 = either (ltb op 2) _ (sym (supported-is op) ∙ s) (λ e. absurd (omega tests)) (λ e. e)
+
+past : (op k : ℕ) → k ≤ op → (op ≡ k → ⊥) → suc k ≤ op
+past op k h n = omega arith
+
+module _ (op : ℕ) (s : supported op ≡ true) (n0 : op ≡ 0x00 → ⊥) (n1 : op ≡ 0x01 → ⊥) (na : op ≡ 0x0a → ⊥)
+    (nb : op ≡ 0x0b → ⊥) (nc : op ≡ 0x0c → ⊥) (nd : op ≡ 0x0d → ⊥) (ne : op ≡ 0x0e → ⊥) (nf : op ≡ 0x0f → ⊥)
+    (ng : op ≡ 0x10 → ⊥) where
+  is-last : op ≡ 0x11
+  unfolding namesMember
+  is-last =
+      let n = names-one op s n0 n1 in
+      le-antisymm (within-high _ _ _ n)
+      (past _ _ (past _ _ (past _ _ (past _ _ (past _ _ (past _ _ (past _ _ (within-low _ _ _ n) na) nb) nc) nd) ne) nf) ng)
+
+  pub last-long : (n : ℕ) → lengthFits op n ≡ true → 1 ≤ n
+  unfolding opcodeRows
+  last-long n f = data-long op 0x11 n 1 f is-last tt
+
+  pub at-last-opcode : (ids m : ℕ) (d : List ℕ) (x : Ask) → x ≡ modeIn m d → x ≡ fieldsOf ids m op d
+  unfolding fieldsOf if_then_else_
+  at-last-opcode ids m d x h = rw is-last h
+
+-- the code tests `!b`, where b is what a function answered
+pub not-of : (t b v : Bool) → b ≡ t → not b ≡ v → not t ≡ v
+not-of t b v e h = rw (← e) h
+
+pub usable-supported : (used op : ℕ) (b : Bool) → b ≡ usable used op → not b ≡ false → supported op ≡ true
+unfolding usable
+usable-supported used op b e h = both _ _ (sym e ∙ not-false b h) .0
+
+-- the numbers that were read, and the part of the request from byte 24
+pub framed-is : (members ids used g op m : ℕ) (r : List ℕ) (x : Ask) → 24 ≤ length r → length r ≤ 4096
+    → g ≡ groupOf r → op ≡ opcodeOf r → m ≡ targetOf r
+    → x ≡ framedOf members ids used g op m (take (length r - 24) (drop 24 r)) → x ≡ askOf members ids used r
+unfolding askOf
+framed-is members ids used g op m r x a b eg eo em h =
+    let l : length (drop 24 r) ≤ length r - 24 = omega (arith, length-drop 24 r) in
+    pass _ _ _ x (inside 24 4096 (length r) a b) (h ∙ rw (eg, eo, em, take-all _ _ l))
