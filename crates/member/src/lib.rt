@@ -7,9 +7,12 @@ ghost use lib.ListN.{length, drop};
 ghost use Rattle.theory.specs.Logic.{if_then_else_, _and_, one};
 ghost use Rattle.theory.specs.Bytes.{part};
 ghost use Rattle.inventory.specs.Inventory.{valuesSize};
+ghost use Rattle.parts.specs.declared.ListForm.the-variants.{Parts};
+ghost use Rattle.parts.specs.List.{partsOf};
+ghost use Rattle.parts.specs.Apply.{applied};
 ghost use Rattle.member.specs.Record.{valuesAt, recordSize, modeOf, modeByte, objectOf, objectByte, objectBytes, memberOf, recordOf};
 ghost use Rattle.member.specs.Objects.{slotFor, foundIn, lookupOf, withObject, count, allUpTo, withinLimits, roomIn};
-ghost use Rattle.member.specs.Member.{freshOf, withMode};
+ghost use Rattle.member.specs.Member.{freshOf, withMode, withValues, withPart};
 ghost use Rattle.member.specs.Sound.{soundRecord};
 use protocol::Mode;
 use protocol::ObjectKind;
@@ -318,6 +321,36 @@ impl Member {
         let values = self.values;
         Member {
             mode: Mode::Running,
+            objects,
+            values,
+        }
+    }
+
+    // A card store: one part of the member, where it can be stored.
+    pub fn store(self, queues: u8, t: u16, selector: u64, value: &[u8]) -> Member
+        ensures { λ r. ⌜ r ≡ withPart queues self t selector (now (value .entry)) ⌝ }
+    {
+        let mode = self.mode;
+        let objects = self.objects;
+        let mut values = self.values;
+        parts::store_part(&mut values, queues, t, selector, value);
+        Member {
+            mode,
+            objects,
+            values,
+        }
+    }
+
+    // The parts of an accepted list.
+    pub fn set_parts(self, queues: u8, list: &[u8]) -> Member
+        ensures { λ r. ⌜ r ≡ withValues self (applied queues (partsOf Parts (now (list .entry))) (self .values)) ⌝ }
+    {
+        let mode = self.mode;
+        let objects = self.objects;
+        let mut values = self.values;
+        parts::apply(&mut values, queues, list);
+        Member {
+            mode,
             objects,
             values,
         }
