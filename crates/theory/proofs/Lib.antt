@@ -5,3 +5,5 @@ pub mod Lent
 pub mod Copies
 pub mod Items
 pub mod Table
+pub mod Unwinding
+pub mod Example

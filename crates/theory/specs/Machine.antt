@@ -17,6 +17,10 @@ pub data Observation (State Call Reply : Type 0) : Type 0 where
   exposed : Call → Reply → State → Observation State Call Reply
 
 module _ {State Call Reply : Type 0} where
+  -- a machine that acts only in a state that passes a test: in any other it changes nothing, and replies so
+  unfoldable pub guarded : (State → Bool) → (Call → Reply) → (State → Call → State × Reply) → State → Call → State × Reply
+  guarded test refusal step s c = if test s then step s c else (s, refusal c)
+
   -- each call works on the state that the last one left
   unfoldable pub trace : (State → Call → State × Reply) → State → List Call → List (Event State Call Reply)
   trace step s [] = []
