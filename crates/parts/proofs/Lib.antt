@@ -1,5 +1,6 @@
 pub mod Walk
-pub mod Questions
+pub mod Turns
+pub mod Tests
 pub mod Places
-pub mod Applies
-pub mod Next
+pub mod Causes
+pub mod Kept

@@ -2,17 +2,17 @@
 -- parts after it. Assumes nothing.
 use mathlib.Core.Path.{_≡_, refl, ap, sym, _∙_}
 use mathlib.Core.Bool.{Bool, true, false}
-use mathlib.Core.List.{List, [], _∷_}
+use mathlib.Core.List.{List}
 use Prim.Native.Nat.{ℕ, zero, suc, _+_, _-_, _<_, _≤_}
 use native.Mathlib.Omega.{arith}
-use types.Run.{OneOf, miss}
-use denote.Enum.Declared.{tagOf}
 use lib.Dec.{leb, ltb}
-use lib.ListN.{length, length-drop}
+use lib.ListN.{length, getD, length-drop}
 use lib.Seq.{length-take-le}
-use borrow.Author.Tests.{lt-ltb, le-ltb, le-leb, lt-leb, ltb-true, leb-true}
+use borrow.Author.Tests.{lt-ltb, le-ltb, le-leb, leb-true}
 use Rattle.theory.specs.Logic.{unless_answer_then_}
 use Rattle.theory.specs.Bytes.{part as bytesAt}
+use Rattle.wire.specs.Le.{number}
+use Rattle.inventory.specs.Inventory.{selectorOf}
 use Rattle.parts.specs.declared.ListForm.{ListForm}
 use Rattle.parts.specs.declared.Step.{Step}
 use Rattle.parts.specs.declared.Step.the-variants as step
@@ -30,6 +30,13 @@ module _ (form : ListForm) (l : List ℕ) (at : ℕ) where
       let i : at < length l = omega arith in
       let r : 16 ≤ length l - at = omega arith in
       rw (lt-ltb at (length l) i, le-leb 16 (length l - at) r, le-leb (valueSize form l at) (length l - (at + 16)) h′)
+
+-- the header there, read field by field
+pub header-is : (form : ListForm) (l : List ℕ) (at t x s n : ℕ) → n ≡ valueSize form l at
+    → t ≡ number at 2 l → x ≡ number (at + 4) 8 l → s ≡ selectorOf t x
+    → step.Part t (getD l (at + 2) 0) s (at + 16) n ≡ headerAt form l at
+unfolding headerAt
+header-is form l at t x s n size type-is selector-bytes selector-is = rw (selector-is, type-is, selector-bytes, size)
 
 -- a part that is found lies within the list
 pub record Within (l : List ℕ) (at start len : ℕ) : Type 0 where

@@ -10,7 +10,7 @@ ghost use Rattle.wire.specs.Le.{number};
 ghost use Rattle.inventory.specs.Inventory.{selectorOf, placeOf, onPlace, rowAt, offsetOf};
 ghost use Rattle.parts.specs.List.{valueSize, stepAt, partsOf, partWith};
 ghost use Rattle.parts.specs.declared.ListForm.the-variants.{Parts};
-ghost use Rattle.parts.specs.Rules.{known, obeys, whole, every, among, repeated, isAccepted, askedOf};
+ghost use Rattle.parts.specs.Rules.{known, obeys, whole, every, among, repeated, causeOf, isAccepted, askedOf};
 ghost use Rattle.parts.specs.Apply.{storable, stored, applied};
 use inventory::Place;
 use protocol::EventAnswer;
@@ -284,6 +284,34 @@ pub fn repeats(form: ListForm, list: &[u8], queues: u8) -> bool
         }
     }
     true
+}
+
+// What is said of a list given to be set.
+pub fn check_list(queues: u8, features: &[u8], list: &[u8]) -> Cause
+    ensures { λ r. ⌜ r ≡ causeOf queues (now (features .entry)) (now (list .entry)) ⌝ }
+{
+    if !is_whole(ListForm::Parts, list) {
+        return Cause::Cut;
+    }
+    if !every_obeys(
+        Rule::KnownOrSkipped,
+        ListForm::Parts,
+        list,
+        queues,
+        features,
+    ) {
+        return Cause::Unknown;
+    }
+    if !every_obeys(Rule::LengthRight, ListForm::Parts, list, queues, features) {
+        return Cause::Length;
+    }
+    if !every_obeys(Rule::FeaturesSame, ListForm::Parts, list, queues, features) {
+        return Cause::Features;
+    }
+    if repeats(ListForm::Parts, list, queues) {
+        return Cause::Twice;
+    }
+    Cause::Accepted
 }
 
 pub fn is_accepted(c: Cause) -> bool

@@ -1,21 +1,22 @@
+-- `parts::check_asked` meets its contract. Assumes nothing.
+use borrow.Author.Needs.{needs}
 use Rattle.theory.proofs.Ladder.{ladder}
 use Rattle.parts.specs.Rules.{askedIn}
-use Rattle.parts.proofs.Places.{not-yes, not-no, not-of}
-use borrow.Author.Needs.{needs}
+use Rattle.parts.proofs.Tests.{not-of}
 use Rattle.parts.proofs.check_asked.Statement.{statement}
 use Rattle.parts.proofs.check_asked.Tie as tie
 
 returns : tie.Need-returns
 unfolding askedIn
-returns c = search (ladder, not-yes, not-no, not-of)
+returns c = search ladder
 
 returns-2 : tie.Need-returns-2
 unfolding askedIn
-returns-2 c = search (ladder, not-yes, not-no, not-of)
+returns-2 c = search ladder
 
 returns-3 : tie.Need-returns-3
 unfolding askedIn
-returns-3 c = search (ladder, not-yes, not-no, not-of)
+returns-3 c = search (ladder, not-of)
 
 pub check-asked-spec : {M : Type 1} → statement M
 check-asked-spec =

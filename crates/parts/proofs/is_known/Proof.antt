@@ -1,6 +1,7 @@
+-- `parts::is_known` meets its contract. Assumes nothing.
+use borrow.Author.Needs.{needs}
 use Rattle.parts.specs.Rules.{known}
 use Rattle.parts.proofs.Places.{at-row, at-none}
-use borrow.Author.Needs.{needs}
 use Rattle.parts.proofs.is_known.Statement.{statement}
 use Rattle.parts.proofs.is_known.Tie as tie
 

@@ -1,10 +1,11 @@
-use mathlib.Core.Path.{_≡_, refl, sym, _∙_}
+-- `parts::is_whole` meets its contract. The loop keeps that the parts that are left answer for the whole list. Assumes nothing.
+use mathlib.Core.Path.{_≡_, refl, sym}
 use Prim.Native.Nat.{_-_}
+use borrow.Author.Needs.{needs}
 use lib.ListN.{length}
 use Rattle.parts.specs.List.{partsOf, partsFrom}
 use Rattle.parts.specs.Rules.{whole}
-use Rattle.parts.proofs.Questions.{found, whole-on, whole-end, whole-cut}
-use borrow.Author.Needs.{needs}
+use Rattle.parts.proofs.Turns.{walk, whole-on, whole-end, whole-cut}
 use Rattle.parts.proofs.is_whole.Statement.{statement}
 use Rattle.parts.proofs.is_whole.Tie as tie
 
@@ -14,30 +15,9 @@ Inv-loop form list at₀ at = whole (partsOf form list) ≡ whole (partsFrom for
 abbrev μ-loop : tie.MeasureT-loop
 μ-loop form list at₀ at = length list - at
 
-loop-holds : tie.Need-loop-holds Inv-loop μ-loop
-loop-holds c = refl
-
-next-part-requires : tie.Need-next-part-requires Inv-loop μ-loop
-next-part-requires c κs = search found
-
-enum-told : tie.Need-enum-told Inv-loop μ-loop
-enum-told c = search found
-
-enum-told-2 : tie.Need-enum-told-2 Inv-loop μ-loop
-enum-told-2 c = search found
-
-enum-known-start : tie.Need-enum-known-start Inv-loop μ-loop
-enum-known-start c = search found
-
-add-at : tie.Need-add-at Inv-loop μ-loop
-add-at c = search found
-
-loop-less : tie.Need-loop-less Inv-loop μ-loop
-loop-less c = search found
-
 pub is-whole-spec : {M : Type 1} → statement M
 is-whole-spec =
     tie.close
-    (tie.spec Inv-loop μ-loop loop-holds next-part-requires enum-told (λ c. search (needs, sym, whole-end))
-    enum-told-2 (λ c. search (needs, sym, whole-cut)) enum-known-start add-at loop-less
-    (λ c. search (needs, whole-on)))
+    (tie.spec Inv-loop μ-loop (λ c. refl) (λ c κs. search needs) (λ c. search needs) (λ c. search (sym, whole-end))
+    (λ c. search needs) (λ c. search (sym, whole-cut)) (λ c. search needs) (λ c. search walk) (λ c. search walk)
+    (λ c. search whole-on))

@@ -1,7 +1,8 @@
+-- `parts::next_part` meets its contract. Each return is a step of the definition. Assumes nothing.
+use borrow.Author.Needs.{needs}
 use Rattle.theory.proofs.Ladder.{ladder}
 use Rattle.parts.specs.List.{stepAt}
-use Rattle.parts.proofs.Next.{header-is}
-use borrow.Author.Needs.{needs}
+use Rattle.parts.proofs.Walk.{header-is}
 use Rattle.parts.proofs.next_part.Statement.{statement}
 use Rattle.parts.proofs.next_part.Tie as tie
 

@@ -1,5 +1,6 @@
-use Rattle.parts.specs.Rules.{knownOrSkipped, lengthRight, featuresSame, asksKnown}
+-- `parts::obeys` meets its contract. Assumes nothing.
 use borrow.Author.Needs.{needs}
+use Rattle.parts.specs.Rules.{knownOrSkipped, lengthRight, featuresSame, asksKnown}
 use Rattle.parts.proofs.obeys.Statement.{statement}
 use Rattle.parts.proofs.obeys.Tie as tie
 

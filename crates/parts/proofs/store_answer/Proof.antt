@@ -1,7 +1,9 @@
+-- `parts::store_answer` meets its contract. Assumes nothing.
+use borrow.Author.Needs.{needs}
 use Rattle.theory.proofs.Ladder.{ladder}
 use Rattle.parts.specs.Apply.{storable}
-use Rattle.parts.proofs.Places.{row-in, at-row, at-none, row-first, row-later, from-eq, from-ne}
-use borrow.Author.Needs.{needs}
+use Rattle.parts.proofs.Places.{row-in, at-row, at-none}
+use Rattle.parts.proofs.Tests.{row-first, row-later, from-eq, from-ne}
 use Rattle.parts.proofs.store_answer.Statement.{statement}
 use Rattle.parts.proofs.store_answer.Tie as tie
 
@@ -13,19 +15,16 @@ returns-2 : tie.Need-returns-2
 unfolding storable
 returns-2 c = search (ladder, at-row, row-first)
 
-size-of-requires : tie.Need-size-of-requires
-size-of-requires c κs = search row-in
-
 returns-3 : tie.Need-returns-3
 unfolding storable
-returns-3 c = search (ladder, at-row, row-later, from-eq, from-ne)
+returns-3 c = search (ladder, at-row, row-later, from-ne)
 
 returns-4 : tie.Need-returns-4
 unfolding storable
-returns-4 c = search (ladder, at-row, row-later, from-eq, from-ne)
+returns-4 c = search (ladder, at-row, row-later, from-eq)
 
 pub store-answer-spec : {M : Type 1} → statement M
 store-answer-spec =
     tie.close
-    (tie.spec (λ c κs. search needs) (λ c. search needs) (λ c. search needs) returns returns-2 size-of-requires
-    returns-3 returns-4)
+    (tie.spec (λ c κs. search needs) (λ c. search needs) (λ c. search needs) returns returns-2
+    (λ c κs. search row-in) returns-3 returns-4)

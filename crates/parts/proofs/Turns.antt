@@ -1,32 +1,44 @@
--- What a walk has answered at a position, turn by turn: what the parts that are left answer gives the whole.
--- `x` is the answer over the whole list, `r` what next_part answered. Assumes nothing.
+-- The turns and returns of a walk: what the parts that are left answer gives what the whole list answers.
+-- `r` is what next_part answered at `at`, `x` what the whole list answers. Assumes nothing.
 use mathlib.Core.Path.{_≡_, refl, ap, sym, _∙_}
 use mathlib.Core.Bool.{Bool, true, false, not}
 use mathlib.Core.List.{List, [], _∷_}
 use Prim.Native.Nat.{ℕ, _+_, _-_, _^_, _<_, _≤_}
-use borrow.Author.Needs.{needs}
-use mir.Val.{Fits}
-use mir.Syntax.{w64}
 use native.Mathlib.Nat.{add-sub-cancel-left}
 use native.Mathlib.Omega.{arith}
 use types.Run.{OneOf, miss}
 use denote.Enum.Declared.{tagOf}
+use mir.Val.{Fits}
+use mir.Syntax.{w64}
+use borrow.Author.Needs.{needs}
+use borrow.Author.Tests.{not-true, not-false}
 use lib.Dec.{eqb}
 use lib.ListN.{length, take, drop}
-use borrow.Author.Tests.{not-true, not-false}
 use Rattle.theory.specs.Logic.{_and_, _or_}
+use Rattle.theory.specs.Bytes.{part as bytesAt}
 use Rattle.theory.proofs.Tests.{true-and, false-and, true-or, false-or}
 use Rattle.parts.specs.declared.ListForm.{ListForm}
 use Rattle.parts.specs.declared.Step.{Step}
 use Rattle.parts.specs.declared.Step.the-variants as step
-use Rattle.parts.specs.List.{stepAt, Part, PartList, end, cut, part, partWith, partIn, partsFrom, partsOf}
+use Rattle.parts.specs.List.{stepAt, Part, PartList, end, cut, part, partWith, partIn, partsFrom}
 use Rattle.parts.specs.Rules.{known, whole, every, among, repeated}
+use Rattle.parts.specs.Apply.{stored, applied}
 use Rattle.parts.proofs.Walk.{Within, step-part, parts-end, parts-cut, parts-part}
 
 module _ (form : ListForm) (l : List ℕ) (at : ℕ) (r : Step) (here : r ≡ stepAt form l at) where
-  -- no part is found
+  -- ---- no part is found ----
+
+  pub whole-end : (x : Bool) → r ≡ step.End → x ≡ whole (partsFrom form l at) → x ≡ true
+  unfolding whole
+  whole-end x e h = h ∙ rw (parts-end form l at (sym here ∙ e))
+
+  pub whole-cut : (x : Bool) → r ≡ step.Cut → x ≡ whole (partsFrom form l at) → x ≡ false
+  unfolding whole
+  whole-cut x e h = h ∙ rw (parts-cut form l at (sym here ∙ e))
+
+  -- of the end and of a part that is cut short the same is said
   module _ (none : OneOf (1 ∷ 2 ∷ []) (tagOf Rattle.parts.proofs.Step.the-type r)) where
-    pub stopped : {A : Type 0} (ask : PartList → A) (a : A) → ask cut ≡ a → ask end ≡ a → ask (partsFrom form l at) ≡ a
+    stopped : {A : Type 0} (ask : PartList → A) (a : A) → ask cut ≡ a → ask end ≡ a → ask (partsFrom form l at) ≡ a
     stopped ask a at-cut at-end = cases r none here
       where
         cases : (r : Step) → OneOf (1 ∷ 2 ∷ []) (tagOf Rattle.parts.proofs.Step.the-type r) → r ≡ stepAt form l at
@@ -47,16 +59,25 @@ module _ (form : ListForm) (l : List ℕ) (at : ℕ) (r : Step) (here : r ≡ st
     unfolding repeated
     repeated-stop queues x e = e ∙ stopped (repeated queues) false refl refl
 
-  -- a part is found
+    pub applied-stop : (queues : ℕ) (x v : List ℕ) → x ≡ applied queues (partsFrom form l at) v → x ≡ v
+    unfolding applied
+    applied-stop queues x v e = e ∙ stopped (λ ps. applied queues ps v) v refl refl
+
+  -- ---- a part is found ----
+
   module _ (t f s start len : ℕ) (found : r ≡ step.Part t f s start len) where
     within : Within l at start len
     within = step-part form l at (sym here ∙ found)
 
-    pub found-end : start + len ≤ length l
-    found-end = within .ends
+    opened : partsFrom form l at ≡ part (partIn l t f s start len) (partsFrom form l (start + len))
+    opened = parts-part form l at (sym here ∙ found)
 
+    -- it lies within the list, and the walk gets on
     pub found-start : start ≤ length l
     found-start = omega (arith, within .ends)
+
+    pub found-end : start + len ≤ length l
+    found-end = within .ends
 
     pub found-fits : length l < 2 ^ 64 → Fits w64 (start + len)
     found-fits h = record { fits = omega (arith, within .ends) }
@@ -64,35 +85,32 @@ module _ (form : ListForm) (l : List ℕ) (at : ℕ) (r : Step) (here : r ≡ st
     pub found-less : length l - (start + len) < length l - at
     found-less = omega (arith, within .starts, within .ends)
 
-    pub opened : partsFrom form l at ≡ part (partIn l t f s start len) (partsFrom form l (start + len))
-    opened = parts-part form l at (sym here ∙ found)
-
     pub whole-on : (x : Bool) → x ≡ whole (partsFrom form l at) → x ≡ whole (partsFrom form l (start + len))
     unfolding whole
     whole-on x e = rw opened at e
 
-    -- b is whether this is the part that is looked for
+    -- b: it is the part that is looked for
     module _ (u v : ℕ) (b x y : Bool) (e : x ≡ among u v (partsFrom form l at) or y) (named : b ≡ eqb t u and eqb s v) where
       pub among-on : b ≡ false → x ≡ among u v (partsFrom form l (start + len)) or y
       unfolding among
-      among-on h = e ∙ rw (opened, ← named, h) (ap (_or y) (false-or _))
+      among-on h = e ∙ rw (opened, ← named, h, false-or)
 
       pub among-hit : b ≡ true → x ≡ true
       unfolding among
-      among-hit h = e ∙ rw (opened, ← named, h) (ap (_or y) (true-or _) ∙ true-or y)
+      among-hit h = e ∙ rw (opened, ← named, h, true-or, true-or)
 
-    -- b is whether it obeys the rule; its value was lent
+    -- b: it obeys the rule. Its value is lent, to start + len
     module _ (rule : Part → Bool) (b x : Bool) (e : x ≡ every rule (partsFrom form l at))
         (told : b ≡ rule (partWith t f s (take (start + len - start) (drop start l)))) where
       pub every-on : not b ≡ false → x ≡ every rule (partsFrom form l (start + len))
       unfolding every
-      every-on h = e ∙ rw (opened, ← add-sub-cancel-left start len, ← told, not-false b h) (true-and _)
+      every-on h = e ∙ rw (opened, ← add-sub-cancel-left start len, ← told, not-false b h, true-and)
 
       pub every-out : not b ≡ true → x ≡ false
       unfolding every
-      every-out h = e ∙ rw (opened, ← add-sub-cancel-left start len, ← told, not-true b h) (false-and _)
+      every-out h = e ∙ rw (opened, ← add-sub-cancel-left start len, ← told, not-true b h, false-and)
 
-    -- b is whether it is known
+    -- b: it is known
     module _ (queues : ℕ) (b x : Bool) (e : x ≡ repeated queues (partsFrom form l at)) (told : b ≡ known queues t s) where
       pub repeated-skip : not b ≡ true → x ≡ repeated queues (partsFrom form l (start + len))
       unfolding repeated
@@ -103,15 +121,14 @@ module _ (form : ListForm) (l : List ℕ) (at : ℕ) (r : Step) (here : r ≡ st
       unfolding repeated
       repeated-rest h = e ∙ rw (opened, ← told, not-false b h, true-and)
 
-pub whole-end : (form : ListForm) (l : List ℕ) (at : ℕ) (r : Step) (x : Bool) → r ≡ stepAt form l at → r ≡ step.End
-    → x ≡ whole (partsFrom form l at) → x ≡ true
-unfolding whole
-whole-end form l at r x here e h = h ∙ rw (parts-end form l at (sym here ∙ e))
+    -- w: the values with its value stored
+    pub applied-on : (queues : ℕ) (x v w : List ℕ) → x ≡ applied queues (partsFrom form l at) v
+        → w ≡ stored queues t s (take (start + len - start) (drop start l)) v
+        → x ≡ applied queues (partsFrom form l (start + len)) w
+    unfolding applied
+    applied-on queues x v w e told =
+        let here : w ≡ stored queues t s (bytesAt start len l) v = rw add-sub-cancel-left at told in
+        e ∙ rw (opened, here)
 
-pub whole-cut : (form : ListForm) (l : List ℕ) (at : ℕ) (r : Step) (x : Bool) → r ≡ stepAt form l at → r ≡ step.Cut
-    → x ≡ whole (partsFrom form l at) → x ≡ false
-unfolding whole
-whole-cut form l at r x here e h = h ∙ rw (parts-cut form l at (sym here ∙ e))
-
--- `search found` closes what the code asks of a part that was found
-pub ruleset found = (needs, found-end, found-start, found-fits, found-less)
+-- `search walk` closes what the code asks of a part that is found
+pub ruleset walk = (needs, found-start, found-end, found-fits, found-less)
