@@ -65,6 +65,7 @@ pub fn write(s: &mut [u8], at: usize, n: usize, x: u64)
     }
 }
 
+// All of src, from a place of dst on.
 pub fn copy(dst: &mut [u8], at: usize, src: &[u8])
     requires { ⌜ at + length (now src) ≤ length (now dst) ⌝ }
     ensures { λ _. ⌜ now (dst .exit) ≡ put at (now (src .entry)) (now (dst .entry)) ⌝ }
@@ -76,6 +77,7 @@ pub fn copy(dst: &mut [u8], at: usize, src: &[u8])
     }
 }
 
+// One byte more of a comparison.
 fn still(alike: bool, x: u8, y: u8) -> bool
     ensures { λ r. ⌜ r ≡ alike and eqb x y ⌝ }
 {
