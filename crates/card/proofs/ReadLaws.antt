@@ -1,23 +1,101 @@
--- What code reads of the header and of a member's record. Assumes nothing.
+-- What code reads of a card: its header, a member's record, and whether it is sound. Each law is in the form in which
+-- a need asks it. Assumes nothing.
 use mathlib.Core.Path.{_≡_, refl, ap, sym, _∙_}
-use mathlib.Core.Bool.{Bool}
+use mathlib.Core.Bool.{Bool, true, false, not}
 use mathlib.Core.List.{List}
-use Prim.Native.Nat.{ℕ, _+_, _-_, _≤_}
+use Prim.Native.Nat.{ℕ, zero, suc, _+_, _*_, _-_, _≤_, _<_}
+use native.Mathlib.Nat.{add-sub-cancel-left}
 use native.Mathlib.Omega.{arith}
-use lib.Dec.{leb}
+use borrow.Author.Tests.{not-true, not-false, eqb-true, ne-eqb}
+use lib.Dec.{leb, eqb}
 use lib.ListN.{length, getD}
+use Rattle.theory.specs.Logic.{_and_}
 use Rattle.theory.specs.Bytes.{part, put}
+use Rattle.theory.proofs.Tests.{true-and, false-and}
 use Rattle.theory.proofs.Bytes.{length-part, put-all}
 use Rattle.theory.proofs.Ladder.{last-end}
+use Rattle.member.specs.declared.Member.{Member}
+use Rattle.member.specs.Record.{recordSize, memberOf}
+use Rattle.member.specs.Sound.{soundRecord}
 use Rattle.card.specs.declared.Setup.{Setup}
-use Rattle.card.specs.Layout.{featuresAt, inUseAt, headSize, setupOf, isMember}
-use Rattle.card.proofs.LayoutLaws.{setup-read, members-read}
+use Rattle.card.specs.Layout.{featuresAt, inUseAt, headSize, cardSize, setupOf, isMember, recordAt, HasRecord, recordIn, memberIn}
+use Rattle.card.specs.Sound.{inNumbers, soundSetup, soundAt, soundUpTo}
+use Rattle.card.proofs.LayoutLaws.{setup-read, members-read, queues-read, gets-read, sets-read, features-read}
+
+-- ---- the header ----
 
 -- the features were copied into l
 pub setup-copied : (c f l : List ℕ) → headSize ≤ length c → length l ≡ 16 → f ≡ put 0 (part featuresAt 16 c) l
     → record { members = getD c 0 0; queues = getD c 1 0; gets = getD c 2 0; sets = getD c 3 0; features = f } ≡ setupOf c
-setup-copied c f l h n e = rw (e, put-all (part featuresAt 16 c) l (length-part featuresAt 16 c (omega arith) ∙ sym n)) (setup-read c (omega arith))
+setup-copied c f l h n e =
+    rw (e, put-all (part featuresAt 16 c) l (length-part featuresAt 16 c (omega arith) ∙ sym n)) (setup-read c (omega arith))
 
--- the last test of a member's number
-pub member-high : (c : List ℕ) (m : ℕ) → 1 ≤ m → leb m (getD c 0 0) ≡ isMember c m
-member-high c m h = rw (members-read c) (last-end 1 (setupOf c .members) m h)
+-- n is the card's first byte
+module _ (c : List ℕ) (n : ℕ) (e : n ≡ getD c 0 0) where
+  is-members : n ≡ setupOf c .members
+  is-members = e ∙ members-read c
+
+  -- the last test of a member's number
+  pub member-high : (m : ℕ) → 1 ≤ m → leb m n ≡ isMember c m
+  member-high m h = rw is-members (last-end 1 (setupOf c .members) m h)
+
+  pub length-tested : eqb (length c) (headSize + recordSize * n) ≡ eqb (length c) (cardSize (setupOf c .members))
+  length-tested = rw is-members
+
+-- a card without a header is too short
+pub length-short : (c : List ℕ) → length c < headSize → false ≡ eqb (length c) (cardSize (setupOf c .members))
+length-short c h = sym (ne-eqb (length c) (cardSize (setupOf c .members)) (λ e. omega arith))
+
+pub numbers-tested : (c : List ℕ) (n q g s : ℕ) (t : Bool) → n ≡ getD c 0 0 → q ≡ getD c 1 0 → g ≡ getD c 2 0 → s ≡ getD c 3 0
+    → t ≡ inNumbers n q g s → t ≡ soundSetup (setupOf c)
+unfolding soundSetup
+numbers-tested c n q g s t a b d e f = f ∙ rw (a, b, d, e, members-read c, queues-read c, gets-read c, sets-read c)
+
+-- ---- a member's record, from its place ----
+
+module _ (c : List ℕ) (m at : ℕ) (e : at ≡ recordAt m) where
+  record-read : part at (at + recordSize - at) c ≡ recordIn c m
+  unfolding recordIn
+  record-read = rw (e, add-sub-cancel-left (recordAt m) recordSize)
+
+  pub member-loaded : (x : Member) → x ≡ memberOf (part at (at + recordSize - at) c) → x ≡ memberIn c m
+  unfolding memberIn
+  member-loaded x q = q ∙ rw record-read
+
+  pub record-tested : (t : Bool) → HasRecord c m
+      → t ≡ soundRecord (getD c 2 0) (getD c 3 0) (part featuresAt 16 c) (part at (at + recordSize - at) c) → t ≡ soundAt (setupOf c) c m
+  record-tested t h q = q ∙ rw (record-read, gets-read c, sets-read c, features-read c (omega arith))
+
+-- ---- the pass over the members ----
+
+sound-step : (s : Setup) (c : List ℕ) (m : ℕ) → 0 < m → soundUpTo s c m ≡ soundAt s c m and soundUpTo s c (m - 1)
+unfolding soundUpTo
+sound-step s c zero h = absurd (omega arith)
+sound-step s c (suc m) h = let e : suc m - 1 ≡ m = omega arith in rw e
+
+-- members above m are sound
+pub record Checked (c : List ℕ) (m : ℕ) : Type 0 where
+  pub high : m ≤ setupOf c .members
+  pub whole : soundUpTo (setupOf c) c (setupOf c .members) ≡ soundUpTo (setupOf c) c m
+
+pub checked-start : (c : List ℕ) (m : ℕ) → m ≡ getD c 0 0 → Checked c m
+checked-start c m e = rw (is-members c m e) (record { high = omega arith; whole = refl })
+
+module _ (c : List ℕ) (m : ℕ) (k : Checked c m) where
+  pub checked-stop : (t : Bool) → 0 < m → not t ≡ true → t ≡ soundAt (setupOf c) c m → false ≡ soundUpTo (setupOf c) c (setupOf c .members)
+  checked-stop t h n e = sym (k .whole ∙ sound-step _ c m h ∙ rw (sym e ∙ not-true t n) (false-and _))
+
+  pub checked-on : (t : Bool) → 0 < m → not t ≡ false → t ≡ soundAt (setupOf c) c m → Checked c (m - 1)
+  checked-on t h n e = record { high = let l = k .high in omega arith; whole = k .whole ∙ sound-step _ c m h ∙ rw (sym e ∙ not-false t n) (true-and _) }
+
+  pub checked-end : m ≤ 0 → true ≡ soundUpTo (setupOf c) c (setupOf c .members)
+  unfolding soundUpTo
+  checked-end h = let e : m ≡ 0 = omega arith in sym (k .whole ∙ rw e)
+
+-- t tested the card's length
+module _ (c : List ℕ) (t : Bool) (n : not t ≡ false) (e : t ≡ eqb (length c) (cardSize (setupOf c .members))) where
+  pub long-as-said : length c ≡ cardSize (setupOf c .members)
+  long-as-said = eqb-true _ _ (sym e ∙ not-false t n)
+
+  pub long-enough : headSize ≤ length c
+  long-enough = let l = long-as-said in omega arith

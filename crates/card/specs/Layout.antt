@@ -74,3 +74,7 @@ unfoldable pub freshCard : Setup → List ℕ
 freshCard s =
     (s .members ∷ s .queues ∷ s .gets ∷ s .sets ∷ s .features)
     ++ (bytes 8 freshMask ++ repeat (s .members) (recordOf (freshOf (s .features))))
+
+-- its header alone
+unfoldable pub freshHead : Setup → List ℕ
+freshHead s = (s .members ∷ s .queues ∷ s .gets ∷ s .sets ∷ s .features) ++ bytes 8 freshMask

@@ -17,10 +17,14 @@ inNumbers members queues gets sets = within 1 16 members and within 1 4 queues a
 unfoldable pub soundSetup : Setup → Bool
 soundSetup s = inNumbers (s .members) (s .queues) (s .gets) (s .sets)
 
+-- member m's record is sound
+abbrev pub soundAt : Setup → List ℕ → ℕ → Bool
+soundAt s c m = soundRecord (s .gets) (s .sets) (s .features) (recordIn c m)
+
 -- members 1 to k
 unfoldable pub soundUpTo : Setup → List ℕ → ℕ → Bool
 soundUpTo s c zero = true
-soundUpTo s c (suc k) = soundRecord (s .gets) (s .sets) (s .features) (recordIn c (suc k)) and soundUpTo s c k
+soundUpTo s c (suc k) = soundAt s c (suc k) and soundUpTo s c k
 
 -- "its setup is in these numbers, its list in use has supported bits only, and each member" is sound; and it is as long
 -- as its header and N records

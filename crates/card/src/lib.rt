@@ -2,13 +2,15 @@
 ghost use mathlib.Core.Path.{_≡_};
 ghost use mathlib.Core.Bool.{true};
 ghost use mathlib.Core.List.{_++_};
-ghost use Prim.Native.Nat.{_+_, _≤_};
+ghost use Prim.Native.Nat.{_+_, _^_, _≤_, _<_};
 ghost use lib.Dec.{eqb};
 ghost use lib.ListN.{length, replicate};
 ghost use Rattle.theory.specs.Logic.{_and_};
 ghost use Rattle.theory.specs.Bytes.{put};
-ghost use Rattle.card.specs.Layout.{headSize, cardSize, cardBytes, setupOf, inUseOf, withInUse, isMember};
-ghost use Rattle.card.specs.Sound.{inNumbers};
+ghost use Rattle.protocol.specs.Opcodes.{supportedOnly};
+ghost use Rattle.card.specs.Layout.{headSize, cardSize, cardBytes, setupOf, inUseOf, withInUse, isMember, recordAt, HasRecord, memberIn, withMember, freshHead};
+ghost use Rattle.card.specs.Sound.{inNumbers, soundSetup, soundAt, soundUpTo, isSound};
+use member::Member;
 use protocol::EventAnswer;
 
 // A card's setup, from its header.
@@ -28,7 +30,15 @@ const HEAD_SIZE: usize = 28;
 
 const RECORD_SIZE: usize = 222;
 
+const FRESH_MASK: u64 = 3;
+
 // ---- the layout ----
+
+fn wide(b: u8) -> u64
+    ensures { λ r. ⌜ (r ≡ b) × (r < 256) ⌝ }
+{
+    b as u64
+}
 
 // The exact length of a card, 0 if there is none with so many members.
 pub fn card_bytes(members: u64) -> usize
@@ -81,7 +91,31 @@ pub fn is_member(card: &[u8], m: u64) -> bool
     if m < 1 {
         return false;
     }
-    m <= card[0] as u64
+    m <= wide(card[0])
+}
+
+// The place of member m's record.
+fn record_at(m: u64) -> usize
+    requires { ⌜ (1 ≤ m) × (recordAt m < 2 ^ 64) ⌝ }
+    ensures { λ r. ⌜ r ≡ recordAt m ⌝ }
+{
+    HEAD_SIZE + RECORD_SIZE * (m as usize - 1)
+}
+
+pub fn load_member(card: &[u8], m: u64) -> Member
+    requires { ⌜ HasRecord (now card) m ⌝ }
+    ensures { λ r. ⌜ r ≡ memberIn (now (card .entry)) m ⌝ }
+{
+    let at = record_at(m);
+    member::load(&card[at..at + RECORD_SIZE])
+}
+
+pub fn save_member(card: &mut [u8], m: u64, x: Member)
+    requires { ⌜ HasRecord (now card) m ⌝ }
+    ensures { λ _. ⌜ now (card .exit) ≡ withMember (now (card .entry)) m x ⌝ }
+{
+    let at = record_at(m);
+    member::save(x, &mut card[at..at + RECORD_SIZE]);
 }
 
 // ---- soundness ----
@@ -107,6 +141,72 @@ fn in_numbers(members: u64, queues: u64, gets: u64, sets: u64) -> bool
     sets <= 8
 }
 
+fn is_setup_sound(card: &[u8]) -> bool
+    requires { ⌜ headSize ≤ length (now card) ⌝ }
+    ensures { λ r. ⌜ r ≡ soundSetup (setupOf (now (card .entry))) ⌝ }
+{
+    in_numbers(wide(card[0]), wide(card[1]), wide(card[2]), wide(card[3]))
+}
+
+fn is_sound_at(card: &[u8], m: u64) -> bool
+    requires { ⌜ HasRecord (now card) m ⌝ }
+    ensures { λ r. ⌜ r ≡ soundAt (setupOf (now (card .entry))) (now (card .entry)) m ⌝ }
+{
+    let at = record_at(m);
+    member::is_sound_record(
+        &card[at..at + RECORD_SIZE],
+        card[2],
+        card[3],
+        &card[FEATURES_AT..IN_USE_AT],
+    )
+}
+
+// One pass over the members, the last one first.
+fn are_members_sound(card: &[u8]) -> bool
+    requires { ⌜ length (now card) ≡ cardSize (setupOf (now card) .members) ⌝ }
+    ensures { λ r. ⌜ r ≡ soundUpTo (setupOf (now (card .entry))) (now (card .entry)) (setupOf (now (card .entry)) .members) ⌝ }
+{
+    let mut m = wide(card[0]);
+    while 0 < m {
+        if !is_sound_at(card, m) {
+            return false;
+        }
+        m -= 1;
+    }
+    true
+}
+
+fn is_length_right(card: &[u8]) -> bool
+    ensures { λ r. ⌜ r ≡ eqb (length (now (card .entry))) (cardSize (setupOf (now (card .entry)) .members)) ⌝ }
+{
+    if card.len() < HEAD_SIZE {
+        return false;
+    }
+    card.len() == HEAD_SIZE + RECORD_SIZE * (wide(card[0]) as usize)
+}
+
+fn is_use_supported(card: &[u8]) -> bool
+    requires { ⌜ headSize ≤ length (now card) ⌝ }
+    ensures { λ r. ⌜ r ≡ supportedOnly (inUseOf (now (card .entry))) ⌝ }
+{
+    protocol::supported_only(in_use(card))
+}
+
+pub fn is_sound(card: &[u8]) -> bool
+    ensures { λ r. ⌜ r ≡ isSound (now (card .entry)) ⌝ }
+{
+    if !is_length_right(card) {
+        return false;
+    }
+    if !is_setup_sound(card) {
+        return false;
+    }
+    if !is_use_supported(card) {
+        return false;
+    }
+    are_members_sound(card)
+}
+
 // ---- setup ----
 
 // Every byte is 0.
@@ -118,4 +218,16 @@ fn clear(card: &mut [u8])
         card[i] = 0;
         i += 1;
     }
+}
+
+// The header of a fresh card: the setup, and commands 0x0 and 0x1 in use.
+fn write_head(card: &mut [u8], s: Setup)
+    requires { ⌜ headSize ≤ length (now card) ⌝ }
+    ensures { λ _. ⌜ now (card .exit) ≡ put 0 (freshHead s) (now (card .entry)) ⌝ }
+{
+    let numbers = [s.members, s.queues, s.gets, s.sets];
+    let features = s.features;
+    wire::copy(card, 0, &numbers);
+    wire::copy(card, FEATURES_AT, &features);
+    wire::write(card, IN_USE_AT, 8, FRESH_MASK);
 }

@@ -1,5 +1,4 @@
 use borrow.Author.Needs.{needs}
-use native.Mathlib.Omega.{arith}
 use Rattle.theory.proofs.Ladder.{ladder}
 use Rattle.card.proofs.ReadLaws.{member-high}
 use Rattle.card.proofs.is_member.Statement.{statement}
@@ -8,5 +7,4 @@ use Rattle.card.proofs.is_member.Tie as tie
 pub is-member-spec : {M : Type 1} → statement M
 is-member-spec =
     tie.close
-    (tie.spec (λ c. search ladder) (λ c. search needs) (λ c. omega (arith, c .shared-slice-known .given 0))
-    (λ c. search (needs, member-high)))
+    (tie.spec (λ c. search ladder) (λ c. search needs) (λ c κs. search needs) (λ c. search (needs, member-high)))

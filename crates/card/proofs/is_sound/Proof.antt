@@ -1,0 +1,13 @@
+use borrow.Author.Needs.{needs}
+use Rattle.theory.proofs.Ladder.{ladder}
+use Rattle.card.specs.Sound.{isSound}
+use Rattle.card.proofs.ReadLaws.{long-as-said, long-enough}
+use Rattle.card.proofs.is_sound.Statement.{statement}
+use Rattle.card.proofs.is_sound.Tie as tie
+
+pub is-sound-spec : {M : Type 1} → statement M
+unfolding isSound
+is-sound-spec =
+    tie.close
+    (tie.spec (λ c κs. search needs) (λ c. search ladder) (λ c κs. search (needs, long-enough)) (λ c. search ladder)
+    (λ c κs. search (needs, long-enough)) (λ c. search ladder) (λ c κs. search (needs, long-as-said)) (λ c. search ladder))

@@ -1,0 +1,11 @@
+use borrow.Author.Needs.{needs}
+use Rattle.card.proofs.ReadLaws.{record-tested}
+use Rattle.card.proofs.is_sound_at.Statement.{statement}
+use Rattle.card.proofs.is_sound_at.Tie as tie
+
+pub is-sound-at-spec : {M : Type 1} → statement M
+is-sound-at-spec =
+    tie.close
+    (tie.spec (λ c κs. search needs) (λ c. search needs) (λ c. search needs) (λ c. search needs) (λ c. search needs)
+    (λ c. search needs) (λ c. search needs) (λ c. search needs) (λ c. search needs) (λ c. search needs)
+    (λ c κs. search needs) (λ c. search (needs, record-tested)))
