@@ -1,0 +1,92 @@
+//! Which rows of the tables of document 01 a comparison has reached.
+
+use std::collections::BTreeMap;
+use std::fmt;
+
+use plain_card::frame::u16_at;
+use plain_card::opcode::Opcode;
+
+use crate::call::Call;
+use crate::device::Seen;
+
+/// Statuses in the order of their steps; 0 bytes written stand first.
+const STATUSES: [&str; 12] =
+    ["none", "22/1", "22/4", "22/2", "22/5", "22/3", "17/1", "6/1", "28/1", "11/7", "12/6", "0/0"];
+/// Answers of events in their order.
+const ANSWERS: [&str; 6] = ["9", "1", "2", "3", "4", "0"];
+
+const COMMANDS: [&str; 11] = [
+    "list query",
+    "list use",
+    "object create",
+    "object modify",
+    "object query",
+    "object destroy",
+    "parts metadata",
+    "parts get",
+    "parts set",
+    "mode set",
+    "other requests",
+];
+const EVENTS: [&str; 4] = ["setup", "reset of a member", "reset of the card", "card store"];
+
+/// How often a kind of call was answered in one way.
+#[derive(Default)]
+pub struct Coverage(BTreeMap<(&'static str, String), u64>);
+
+impl Coverage {
+    /// Counts a call and its answer.
+    pub fn note(&mut self, call: &Call, seen: &Seen) {
+        let (kind, answer) = match call {
+            Call::CardBytes(_) | Call::Card(_) => return,
+            Call::Command { request, .. } => (command(request), status(seen)),
+            Call::Setup { .. } => (EVENTS[0], seen.answer.to_string()),
+            Call::ResetMember(_) => (EVENTS[1], seen.answer.to_string()),
+            Call::ResetCard => (EVENTS[2], seen.answer.to_string()),
+            Call::Store { .. } => (EVENTS[3], seen.answer.to_string()),
+        };
+        *self.0.entry((kind, answer)).or_default() += 1;
+    }
+
+    /// A table of the counts.
+    fn table(
+        &self,
+        f: &mut fmt::Formatter,
+        rows: &[&'static str],
+        columns: &[&str],
+    ) -> fmt::Result {
+        write!(f, "{:<18}", "")?;
+        columns.iter().try_for_each(|column| write!(f, "{column:>7}"))?;
+        writeln!(f)?;
+        for row in rows {
+            write!(f, "{row:<18}")?;
+            for column in columns {
+                let count = self.0.get(&(*row, column.to_string())).copied().unwrap_or(0);
+                write!(f, "{count:>7}")?;
+            }
+            writeln!(f)?;
+        }
+        Ok(())
+    }
+}
+
+/// The command that a request's opcode is of.
+fn command(request: &[u8]) -> &'static str {
+    let opcode = (request.len() >= 2).then(|| u16_at(request, 0));
+    let row = Opcode::ALL.iter().position(|known| Some(*known as u16) == opcode);
+    COMMANDS[row.unwrap_or(COMMANDS.len() - 1)]
+}
+
+fn status(seen: &Seen) -> String {
+    match seen.answer {
+        0 => "none".into(),
+        _ => format!("{}/{}", u16_at(&seen.reply, 0), u16_at(&seen.reply, 2)),
+    }
+}
+
+impl fmt::Display for Coverage {
+    fn fmt(&self, f: &mut fmt::Formatter) -> fmt::Result {
+        self.table(f, &COMMANDS, &STATUSES)?;
+        self.table(f, &EVENTS, &ANSWERS)
+    }
+}

@@ -1,0 +1,121 @@
+//! Random setups and cards.
+
+use plain_card::bytes::{self, HEADER, RECORD};
+use plain_card::member::{Member, Mode};
+use plain_card::object::{Kind, IDS};
+use plain_card::opcode::SUPPORTED;
+use plain_card::part::{inventory, Part, MAX_QUEUES};
+use plain_card::{Card, Setup};
+
+use crate::random::Random;
+
+/// The numbers of a setup in range, more often at an end of it.
+pub fn setup_numbers(random: &mut Random) -> [u64; 4] {
+    let members = random.pick(&[1, 1, 2, 2, 2, 3, 5, 16]);
+    let queues = 1 + random.below(4) as u64;
+    let objects = [0, 1, 1, 2, 3, 5, 8];
+    [members, queues, random.pick(&objects), random.pick(&objects)]
+}
+
+/// A sound card in any state.
+pub fn sound_card(random: &mut Random) -> Card {
+    let [members, queues, gets, sets] = setup_numbers(random);
+    let features = random.bytes(16).try_into().expect("there are 16 bytes");
+    let setup = Setup::new(members, queues, gets, sets, features).expect("it is in range");
+    let mut card = Card::fresh(setup);
+    card.in_use = match random.weighted(&[70, 15, 10, 5]) {
+        0 => SUPPORTED,
+        1 => random.bits() & SUPPORTED | 0b11,
+        2 => random.bits() & SUPPORTED,
+        _ => 0,
+    };
+    for member in 0..card.members.len() {
+        card.members[member] = other_record(random, &card.setup);
+    }
+    card
+}
+
+/// A record that may stand in a sound card of this setup.
+pub fn other_record(random: &mut Random, setup: &Setup) -> Member {
+    let mut member = Member::fresh(setup);
+    if random.chance(50) {
+        member.mode = Mode::Stopped;
+    }
+    let mut ids: Vec<u32> = (0..u32::from(setup.gets) + u32::from(setup.sets)).collect();
+    random.shuffle(&mut ids);
+    let room = [(Kind::Get, usize::from(setup.gets)), (Kind::Set, usize::from(setup.sets))];
+    for (kind, limit) in room {
+        let count = if random.chance(40) { limit } else { random.below(limit + 1) };
+        for id in ids.drain(..count) {
+            member.objects.put(id, kind);
+        }
+    }
+    for part in inventory(MAX_QUEUES).filter(|part| *part != Part::DeviceFeatures) {
+        if random.chance(50) {
+            let value = random.bytes(part.length() as usize);
+            member.values.get_mut(part).copy_from_slice(&value);
+        }
+    }
+    member
+}
+
+/// Bytes as a card: a sound card with one rule of soundness broken or a few
+/// bytes changed, one of a wrong length or number of members, or random bytes.
+pub fn any_bytes(random: &mut Random) -> Vec<u8> {
+    let mut card = bytes::write(&sound_card(random));
+    match random.weighted(&[50, 15, 15, 12, 8]) {
+        0 => break_rule(random, &mut card),
+        1 => {
+            for _ in 0..1 + random.below(3) {
+                let at = random.below(card.len());
+                card[at] = random.byte();
+            }
+        }
+        2 => change_length(random, &mut card),
+        3 => card = fresh_bytes(random.below(20)),
+        _ => {
+            let members = random.below(4);
+            card = random.bytes(HEADER + RECORD * members);
+            card[0] = members as u8;
+        }
+    }
+    card
+}
+
+/// Breaks one rule of soundness, if the setup leaves room for it.
+fn break_rule(random: &mut Random, card: &mut [u8]) {
+    let record = HEADER + RECORD * random.below((card.len() - HEADER) / RECORD);
+    let (objects, features) = (record + 1, record + 17);
+    let valid = usize::from(card[2] + card[3]);
+    match random.below(9) {
+        0 => card[1] = random.pick(&[0, 5, 255]),
+        1 => card[2 + random.below(2)] = random.pick(&[9, 16, 255]),
+        2 => card[4 + random.below(16)] ^= 1 << random.below(8),
+        3 => card[20 + random.below(8)] |= 1 << random.below(8),
+        4 => card[record] = random.pick(&[2, 3, 128, 255]),
+        5 => card[objects + random.below(IDS)] = random.pick(&[3, 4, 128, 255]),
+        6 => card[objects + valid.min(IDS - 1)..features].fill(1 + random.byte() % 2),
+        7 => card[objects..objects + valid].fill(1 + random.byte() % 2),
+        _ => card[features + random.below(16)] ^= 1 << random.below(8),
+    }
+}
+
+fn change_length(random: &mut Random, card: &mut Vec<u8>) {
+    let length = card.len();
+    let lengths = [0, 4, HEADER - 1, HEADER, length - 1, length + 1];
+    let wrong = match random.below(3) {
+        0 => length - RECORD,
+        1 => length + RECORD,
+        _ => random.pick(&lengths),
+    };
+    card.resize(wrong, 0);
+}
+
+/// Any number of fresh members; they are a sound card from 1 to 16.
+fn fresh_bytes(members: usize) -> Vec<u8> {
+    let setup = Setup::new(1, 1, 1, 1, [0; 16]).expect("it is in range");
+    let mut card = bytes::write(&Card::fresh(setup));
+    card[0] = members as u8;
+    card.resize(HEADER + RECORD * members, 0);
+    card
+}

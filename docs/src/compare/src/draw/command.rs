@@ -1,0 +1,130 @@
+//! Random commands.
+
+use plain_card::member::Mode;
+use plain_card::object::{Kind, IDS};
+use plain_card::opcode::{Opcode, SUPPORTED};
+use plain_card::Card;
+
+use super::{list, member, spoil};
+use crate::call::Call;
+use crate::random::Random;
+use crate::request::{
+    object, object_and_flags, object_and_parts, object_and_type, object_of_kind, request,
+};
+
+/// Room for any reply.
+const LARGE: usize = 480;
+
+/// A command: a good request, spoiled at no, one or a few places.
+pub fn command(random: &mut Random, card: &Card) -> Call {
+    let mut request = if random.chance(1) { any_request(random) } else { good(random, card) };
+    for _ in 0..random.weighted(&[66, 20, 9, 5]) {
+        spoil::spoil(random, card, &mut request);
+    }
+    let room = room(random, card, &request);
+    Call::Command { request, room }
+}
+
+/// Random bytes.
+fn any_request(random: &mut Random) -> Vec<u8> {
+    let length = random.pick(&[0, 1, 8, 23, 24, 25, 32, 48, 64, 4096, 4097]);
+    random.bytes(length)
+}
+
+/// The length of the reply buffer: often exactly what is needed, or a byte
+/// more or less.
+fn room(random: &mut Random, card: &Card, request: &[u8]) -> usize {
+    match random.weighted(&[60, 20, 20]) {
+        0 => LARGE,
+        1 => random.pick(&[0, 7, 8, 9, 15, 16, 17, 24, 100, 160]),
+        _ => {
+            let need = plain_card::command(&mut card.clone(), request, &mut [0; LARGE]);
+            random.pick(&[need, need.saturating_sub(1), need + 1])
+        }
+    }
+}
+
+/// A request that is likely to succeed.
+fn good(random: &mut Random, card: &Card) -> Vec<u8> {
+    match opcode(random, card) {
+        opcode @ Opcode::ListQuery => request(opcode, member_unread(random), &[]),
+        opcode @ Opcode::ListUse => {
+            let mask = mask(random);
+            request(opcode, member_unread(random), &mask.to_le_bytes())
+        }
+        opcode @ Opcode::ModeSet => {
+            let stop = u8::from(random.chance(65));
+            request(opcode, member(random, card), &[stop])
+        }
+        opcode => on_object(random, card, opcode),
+    }
+}
+
+/// A request for an object that is as the command needs it.
+fn on_object(random: &mut Random, card: &Card, opcode: Opcode) -> Vec<u8> {
+    let kind = random.pick(&[Kind::Get, Kind::Set]);
+    let wanted = match opcode {
+        Opcode::Create => None,
+        Opcode::Metadata | Opcode::PartsGet => Some(Kind::Get),
+        Opcode::PartsSet => Some(Kind::Set),
+        _ => Some(kind),
+    };
+    let (member, id) = member_and_id(random, card, wanted, opcode == Opcode::PartsSet);
+    let data = match opcode {
+        Opcode::Query => object_and_flags(id),
+        Opcode::Destroy => object(id),
+        Opcode::Metadata => object_and_type(id, random.below(3) as u8, &[]),
+        Opcode::PartsGet if random.chance(33) => object_and_type(id, 1, &[]),
+        Opcode::PartsGet => object_and_type(id, 0, &list::asked(random, card)),
+        Opcode::PartsSet => object_and_parts(id, &list::given(random, card)),
+        _ => object_of_kind(id, random.below(2) as u8),
+    };
+    request(opcode, member, &data)
+}
+
+/// An opcode; a list that lacks some is likely to be widened.
+fn opcode(random: &mut Random, card: &Card) -> Opcode {
+    if card.in_use != SUPPORTED && random.chance(30) {
+        return Opcode::ListUse;
+    }
+    const WEIGHTS: [usize; 10] = [2, 3, 13, 10, 6, 7, 10, 18, 23, 8];
+    Opcode::ALL[random.weighted(&WEIGHTS)]
+}
+
+/// A member field for the two commands that do not read it.
+fn member_unread(random: &mut Random) -> u64 {
+    random.pick(&[0, 0, 1, u64::MAX])
+}
+
+/// A mask for list use, with supported bits only.
+fn mask(random: &mut Random) -> u64 {
+    match random.weighted(&[75, 13, 8, 4]) {
+        0 => SUPPORTED,
+        1 => random.bits() & SUPPORTED | 0b11,
+        2 => random.bits() & SUPPORTED,
+        _ => 0,
+    }
+}
+
+/// A member and an id that is free, or live and of a kind, on it; and the
+/// member stopped, if that is asked. Sometimes, or if there is none, any.
+fn member_and_id(
+    random: &mut Random,
+    card: &Card,
+    wanted: Option<Kind>,
+    stopped: bool,
+) -> (u64, u32) {
+    let valid = u32::from(card.setup.gets) + u32::from(card.setup.sets);
+    let mut fitting = vec![];
+    for (member, record) in (1..).zip(&card.members) {
+        if !stopped || record.mode == Mode::Stopped {
+            let ids = (0..valid.min(IDS as u32)).filter(|id| record.objects.find(*id) == wanted);
+            fitting.extend(ids.map(|id| (member, id)));
+        }
+    }
+    if fitting.is_empty() || random.chance(20) {
+        (member(random, card), random.below(valid as usize + 1) as u32)
+    } else {
+        random.pick(&fitting)
+    }
+}

@@ -1,0 +1,170 @@
+//! Random lists of parts, asked and given.
+
+use plain_card::opcode::Opcode;
+use plain_card::part::{inventory, Part, OPTIONAL};
+use plain_card::Card;
+
+use crate::random::Random;
+use crate::request::{any_part, part, request, unread_selector};
+
+/// The headers of a parts get.
+pub fn asked(random: &mut Random, card: &Card) -> Vec<u8> {
+    let mut headers: Vec<Vec<u8>> =
+        some_parts(random, card).into_iter().map(|part| part.header().to_vec()).collect();
+    if random.chance(25) {
+        headers.iter_mut().for_each(|header| add_noise(random, header));
+        headers.iter_mut().for_each(|header| header[12..16].fill(0xff));
+    }
+    if random.chance(25) {
+        let bad = match random.below(2) {
+            0 if !headers.is_empty() => repeated(random, &headers),
+            _ => unknown_part(random, card, OPTIONAL)[..16].to_vec(),
+        };
+        insert(random, &mut headers, bad);
+    }
+    headers.concat()
+}
+
+/// The parts of a parts set: those of a member, or of random values.
+pub fn given(random: &mut Random, card: &Card) -> Vec<u8> {
+    let from = random.below(card.members.len().max(1));
+    let captured = random.chance(40);
+    let mut parts: Vec<Vec<u8>> = some_parts(random, card)
+        .into_iter()
+        .map(|name| match card.members.get(from) {
+            Some(record) if captured || name == Part::DeviceFeatures => {
+                part(name, record.values.get(name))
+            }
+            _ => part(name, &random.bytes(name.length() as usize)),
+        })
+        .collect();
+    if random.chance(25) {
+        parts.iter_mut().for_each(|part| add_noise(random, part));
+    }
+    while random.chance(30) {
+        let skipped = unknown_part(random, card, OPTIONAL);
+        insert(random, &mut parts, skipped.clone());
+        if random.chance(30) {
+            insert(random, &mut parts, skipped);
+        }
+    }
+    if random.chance(40) {
+        make_bad(random, card, &mut parts);
+    }
+    if random.chance(3) {
+        fill_up(random, &mut parts);
+    }
+    parts.concat()
+}
+
+/// Some or all parts that a member has, in any order.
+fn some_parts(random: &mut Random, card: &Card) -> Vec<Part> {
+    let mut parts: Vec<Part> = inventory(card.setup.queues).collect();
+    if random.chance(25) {
+        return parts;
+    }
+    random.shuffle(&mut parts);
+    let length = match random.chance(70) {
+        true => random.below(parts.len().min(4) + 1),
+        false => random.below(parts.len() + 1),
+    };
+    parts.truncate(length);
+    parts
+}
+
+/// Fills what is not read of a known part: flags, reserved, unread selector.
+fn add_noise(random: &mut Random, part: &mut [u8]) {
+    part[2] = random.byte();
+    part[3] = random.byte();
+    let part_type = u16::from_le_bytes([part[0], part[1]]);
+    for at in unread_selector(part_type) {
+        if random.chance(50) {
+            part[4 + at] = random.byte();
+        }
+    }
+}
+
+/// A part that the members have not got.
+fn unknown_part(random: &mut Random, card: &Card, flags: u8) -> Vec<u8> {
+    let queues = u64::from(card.setup.queues);
+    let (part_type, selector) = match random.below(6) {
+        0 => (0x104 + random.below(2) as u16, queues + random.below(3) as u64),
+        1 => (0x104 + random.below(2) as u16, random.below(4) as u64 | 1 << (8 + random.below(8))),
+        2 => (0x102, random.pick(&[1, 4, 12, 18, 20, 23, 8 | 1 << 16, 16 | 1 << 31])),
+        3 => (random.pick(&[0, 0xff, 0x106, 0x1ff, 0x200, 0x5ff]), 0),
+        _ => (random.below(0x100) as u16, random.bits()),
+    };
+    let length = random.pick(&[0, 1, 4, 8, 16, 32]);
+    any_part(part_type, flags, selector, &random.bytes(length))
+}
+
+/// One of the parts again, perhaps under other unread selector bytes.
+fn repeated(random: &mut Random, parts: &[Vec<u8>]) -> Vec<u8> {
+    let mut again = parts[random.below(parts.len())].clone();
+    if random.chance(40) {
+        add_noise(random, &mut again);
+    }
+    again
+}
+
+/// Makes a given list bad in one way.
+fn make_bad(random: &mut Random, card: &Card, parts: &mut Vec<Vec<u8>>) {
+    if parts.is_empty() || random.chance(15) {
+        let flags = random.pick(&[0, 0, 2, 0xfe]);
+        let mandatory = unknown_part(random, card, flags);
+        return insert(random, parts, mandatory);
+    }
+    let at = random.below(parts.len());
+    let value = parts[at].len() - 16;
+    match random.below(8) {
+        0 => {
+            let again = repeated(random, parts);
+            insert(random, parts, again);
+        }
+        1 => {
+            // Another length, with as many value bytes.
+            let given = random.pick(&[0, value.saturating_sub(1), value + 1, 16, 40]);
+            parts[at].resize(16 + given, 0);
+            parts[at][12..16].copy_from_slice(&(given as u32).to_le_bytes());
+        }
+        2 => parts[at][12 + random.below(4)] ^= 1 << random.below(8),
+        3 => {
+            let part_type = random.pick(&[0x600, 0x601, 0x700, 0xffff]);
+            let reserved = any_part(part_type, OPTIONAL, 0, &[]);
+            insert(random, parts, reserved);
+        }
+        4 => {
+            let mut features = card.setup.features;
+            features[random.below(16)] ^= 1 << random.below(8);
+            insert(random, parts, part(Part::DeviceFeatures, &features));
+        }
+        5 => parts.push(vec![0; 1 + random.below(15)]),
+        6 => {
+            let last = parts.len() - 1;
+            let cut = random.below(parts[last].len());
+            parts[last].truncate(cut);
+        }
+        _ => {
+            // A length whose sum with the position passes 16 or 32 bits.
+            let mut skipped = any_part(0x200, OPTIONAL, 0, &[]);
+            let back = random.below(100) as u32;
+            let length = random.pick(&[u32::MAX - back, 0x1_0000, 0x8000_0000]);
+            skipped[12..16].copy_from_slice(&length.to_le_bytes());
+            insert(random, parts, skipped);
+        }
+    }
+}
+
+/// Brings the request to the longest length, or one byte beyond.
+fn fill_up(random: &mut Random, parts: &mut Vec<Vec<u8>>) {
+    let length = request(Opcode::PartsSet, 0, &[0; 8]).len() + parts.concat().len();
+    let target = random.pick(&[4095, 4096, 4097]);
+    if length + 16 <= target {
+        parts.push(any_part(0x5ff, OPTIONAL, 0, &vec![0; target - length - 16]));
+    }
+}
+
+fn insert(random: &mut Random, parts: &mut Vec<Vec<u8>>, part: Vec<u8>) {
+    let at = random.below(parts.len() + 1);
+    parts.insert(at, part);
+}

@@ -1,0 +1,166 @@
+//! The fastest plain Rust over bytes, for the timing of a full capture.
+//!
+//! A get-all that succeeds is carried out here, after every check that the
+//! plain card makes, soundness of the whole card included. All else is left to
+//! the plain card.
+
+use plain_card::bytes::{HEADER, RECORD};
+use plain_card::exported;
+use plain_card::frame::{array_at, u16_at, u32_at, u64_at};
+use plain_card::opcode::{Opcode, SUPPORTED};
+
+/// A one in each byte.
+const ONES: u64 = 0x0101_0101_0101_0101;
+/// The request of a get-all has this length.
+const REQUEST: usize = 40;
+/// The longest reply of a get-all: four queues.
+const LONGEST: usize = 8 + 157 + 72 * 4;
+
+/// The same as [`exported::command`].
+pub fn command(card: &mut [u8], request: &[u8], reply: &mut [u8]) -> usize {
+    match capture(card, request, reply) {
+        Some(written) => written,
+        None => exported::command(card, request, reply),
+    }
+}
+
+/// A get-all, unless it is refused.
+fn capture(card: &[u8], request: &[u8], reply: &mut [u8]) -> Option<usize> {
+    let (header, records) = card.split_first_chunk::<HEADER>()?;
+    let request: &[u8; REQUEST] = request.try_into().ok()?;
+    let [members, queues, gets, sets] = array_at(header, 0);
+    if !sound(header, records) || u16_at(request, 0) != Opcode::PartsGet as u16 {
+        return None;
+    }
+    let in_use = u64_at(header, 20) & Opcode::PartsGet.bit() != 0;
+    let member = u64_at(request, 16);
+    let id = u32_at(request, 28);
+    let good = in_use
+        & (u16_at(request, 2) == 1)
+        & (member.wrapping_sub(1) < u64::from(members))
+        & (u16_at(request, 24) == 0)
+        & (id < u32::from(gets + sets))
+        & (request[32] == 1);
+    if !good {
+        return None;
+    }
+    let record = records[RECORD * (member as usize - 1)..].first_chunk::<RECORD>()?;
+    if record[1 + id as usize] != 1 {
+        return None;
+    }
+    match queues {
+        1 => write::<1>(record, reply),
+        2 => write::<2>(record, reply),
+        3 => write::<3>(record, reply),
+        _ => write::<4>(record, reply),
+    }
+}
+
+/// Soundness of the whole card.
+fn sound(header: &[u8; HEADER], records: &[u8]) -> bool {
+    let [members, queues, gets, sets] = array_at(header, 0);
+    let setup = (members.wrapping_sub(1) < 16)
+        & (queues.wrapping_sub(1) < 4)
+        & (gets <= 8)
+        & (sets <= 8)
+        & (u64_at(header, 20) & !SUPPORTED == 0);
+    if !setup || records.len() != RECORD * usize::from(members) {
+        return false;
+    }
+    let features = [u64_at(header, 4), u64_at(header, 12)];
+    let ids = u32::from(gets + sets);
+    let refused = [!object_bits(ids), !object_bits(ids.saturating_sub(8))];
+    let mut bad = 0;
+    let mut over = 0;
+    for record in records.chunks_exact(RECORD) {
+        let [low, high] = [u64_at(record, 1), u64_at(record, 9)];
+        bad |= u64::from(record[0] & !1);
+        bad |= low & refused[0] | high & refused[1];
+        bad |= (low & low >> 1 | high & high >> 1) & ONES;
+        bad |= (u64_at(record, 17) ^ features[0]) | (u64_at(record, 25) ^ features[1]);
+        // Bit 7 is set if there are more than may be.
+        over |= count(low, high) + 127 - u64::from(gets);
+        over |= count(low >> 1, high >> 1) + 127 - u64::from(sets);
+    }
+    bad == 0 && over & 128 == 0
+}
+
+/// The bits that the first eight object bytes may have if `ids` are valid.
+fn object_bits(ids: u32) -> u64 {
+    let below = u64::MAX.checked_shr(64 - 8 * ids.min(8)).unwrap_or(0);
+    (3 * ONES) & below
+}
+
+/// The number of bytes whose lowest bit is set.
+fn count(low: u64, high: u64) -> u64 {
+    ((low & ONES) + (high & ONES)).wrapping_mul(ONES) >> 56
+}
+
+/// Writes the reply of a get-all for Q queues, if there is room.
+fn write<const Q: usize>(record: &[u8; RECORD], reply: &mut [u8]) -> Option<usize> {
+    let length = 8 + 157 + 72 * Q;
+    let reply = reply.get_mut(..length)?;
+    let template = const { template(Q) };
+    reply.copy_from_slice(&template[..length]);
+    let values = &record[17..];
+    let mut copy = |to: usize, from: usize, length: usize| {
+        reply[to..to + length].copy_from_slice(&values[from..from + length]);
+    };
+    copy(24, 0, 16);
+    copy(56, 16, 16);
+    copy(88, 32, 4);
+    copy(108, 36, 4);
+    copy(128, 40, 2);
+    copy(146, 42, 2);
+    copy(164, 44, 1);
+    for queue in 0..Q {
+        copy(181 + 48 * queue, 45 + 32 * queue, 32);
+    }
+    for queue in 0..Q {
+        copy(181 + 48 * Q + 24 * queue, 173 + 8 * queue, 8);
+    }
+    Some(length)
+}
+
+/// The reply of a get-all with all values zero.
+const fn template(queues: usize) -> [u8; LONGEST] {
+    let mut reply = [0; LONGEST];
+    let fixed = [
+        (8, 0x00, 0, 16),
+        (40, 0x01, 0, 16),
+        (72, 0x02, 0, 4),
+        (92, 0x02, 8, 4),
+        (112, 0x02, 16, 2),
+        (130, 0x02, 22, 2),
+        (148, 0x03, 0, 1),
+    ];
+    let mut row = 0;
+    while row < fixed.len() {
+        let (at, part_type, selector, length) = fixed[row];
+        reply = with_header(reply, at, part_type, selector, length);
+        row += 1;
+    }
+    reply[10] = 1;
+    let mut queue = 0;
+    while queue < queues {
+        reply = with_header(reply, 165 + 48 * queue, 0x04, queue as u8, 32);
+        reply = with_header(reply, 165 + 48 * queues + 24 * queue, 0x05, queue as u8, 8);
+        queue += 1;
+    }
+    reply
+}
+
+/// The reply with a header; of type, selector and length one byte differs.
+const fn with_header(
+    mut reply: [u8; LONGEST],
+    at: usize,
+    part_type: u8,
+    selector: u8,
+    length: u8,
+) -> [u8; LONGEST] {
+    reply[at] = part_type;
+    reply[at + 1] = 1;
+    reply[at + 4] = selector;
+    reply[at + 12] = length;
+    reply
+}

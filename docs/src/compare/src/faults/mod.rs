@@ -1,0 +1,198 @@
+//! Planted faults: the plain card with one wrong behaviour around it.
+//!
+//! The plain card itself has no hooks. A fault refuses a request ahead of its
+//! turn, hears another request than was sent, leaves another outcome, or takes
+//! an unsound card for a sound one. A comparison has to find every one.
+
+// Changes of a request or card all have one type, whether they grow it or not.
+#![allow(clippy::ptr_arg)]
+
+mod events;
+mod frame;
+mod objects;
+mod order;
+mod parts;
+mod programs;
+mod soundness;
+mod tools;
+
+use std::collections::BTreeMap;
+
+use plain_card::status::Refusal;
+use plain_card::Card;
+
+use crate::call::Call;
+use crate::device::{Device, Plain};
+
+/// A planted fault.
+pub struct Fault {
+    /// Its name in the table.
+    pub name: &'static str,
+    /// What goes wrong.
+    pub plant: Plant,
+    /// Which check has to find it besides the comparison.
+    pub breaks: Option<Demand>,
+}
+
+/// A demand that is checked on the archive alone.
+#[derive(Clone, Copy, Debug, PartialEq, Eq)]
+pub enum Demand {
+    /// The round trip of demand 2.
+    RoundTrip,
+    /// Demand 3.
+    Isolation,
+}
+
+/// How a fault is planted.
+pub enum Plant {
+    /// Refuses a request ahead of its turn; the number is the reply buffer's.
+    Refuse(fn(&Card, &[u8], usize) -> Option<Refusal>),
+    /// Hears another request than was sent.
+    Mishear(fn(&Card, &mut Vec<u8>)),
+    /// Leaves another outcome than the plain card.
+    Leave(fn(&mut Outcome)),
+    /// Takes other bytes for the card before each call.
+    Repair(fn(&mut Vec<u8>)),
+}
+
+/// What the plain card left, to be changed.
+pub struct Outcome<'a> {
+    /// The call.
+    pub call: &'a Call,
+    /// The card before it.
+    pub before: &'a Plain,
+    /// The card after it.
+    pub after: &'a mut Plain,
+    /// The bytes written, or the answer of an event.
+    pub answer: &'a mut usize,
+    /// The reply buffer.
+    pub reply: &'a mut [u8],
+    /// What the fault keeps beside the card.
+    pub memory: &'a mut Memory,
+}
+
+/// What a fault keeps beside the card.
+#[derive(Default)]
+pub struct Memory {
+    /// Objects ever made, by member and kind byte.
+    made: BTreeMap<(u64, u8), usize>,
+    /// Whether a command has changed the card.
+    obeyed: bool,
+}
+
+/// The plain card, with a fault or without.
+#[derive(Default)]
+pub struct Faulty {
+    /// The plain card.
+    pub plain: Plain,
+    fault: Option<&'static Fault>,
+    memory: Memory,
+}
+
+impl Faulty {
+    /// The plain card with this fault; none is the correct plain card.
+    pub fn new(fault: Option<&'static Fault>) -> Faulty {
+        Faulty { fault, ..Faulty::default() }
+    }
+
+    /// The card, if it is sound and the reply buffer takes a refusal.
+    fn hearing(&self, reply: &[u8]) -> Option<&Card> {
+        match &self.plain {
+            Plain::Card(card) if card.is_sound() && reply.len() >= 8 => Some(card),
+            _ => None,
+        }
+    }
+
+    /// A refusal ahead of its turn.
+    fn refuse(
+        &self,
+        early: fn(&Card, &[u8], usize) -> Option<Refusal>,
+        call: &Call,
+        reply: &[u8],
+    ) -> Option<Refusal> {
+        match (call, self.hearing(reply)) {
+            (Call::Command { request, room }, Some(card)) => early(card, request, *room),
+            _ => None,
+        }
+    }
+
+    /// The call with another request.
+    fn mishear(&self, change: fn(&Card, &mut Vec<u8>), call: &Call, reply: &[u8]) -> Call {
+        match (call, self.hearing(reply)) {
+            (Call::Command { request, room }, Some(card)) => {
+                let mut request = request.clone();
+                change(card, &mut request);
+                Call::Command { request, room: *room }
+            }
+            _ => call.clone(),
+        }
+    }
+}
+
+impl Device for Faulty {
+    fn call(&mut self, call: &Call, reply: &mut [u8]) -> usize {
+        match self.fault.map(|fault| &fault.plant) {
+            None => self.plain.call(call, reply),
+            Some(Plant::Refuse(early)) => match self.refuse(*early, call, reply) {
+                Some(refusal) => {
+                    reply[..8].copy_from_slice(&refusal.reply());
+                    8
+                }
+                None => self.plain.call(call, reply),
+            },
+            Some(Plant::Mishear(change)) => {
+                let misheard = self.mishear(*change, call, reply);
+                self.plain.call(&misheard, reply)
+            }
+            Some(Plant::Leave(change)) => {
+                let before = self.plain.clone();
+                let mut answer = self.plain.call(call, reply);
+                change(&mut Outcome {
+                    call,
+                    before: &before,
+                    after: &mut self.plain,
+                    answer: &mut answer,
+                    reply,
+                    memory: &mut self.memory,
+                });
+                answer
+            }
+            Some(Plant::Repair(change)) => {
+                let mut bytes = self.plain.card();
+                change(&mut bytes);
+                self.plain = Plain::from_bytes(&bytes);
+                self.plain.call(call, reply)
+            }
+        }
+    }
+
+    fn card(&self) -> Vec<u8> {
+        self.plain.card()
+    }
+}
+
+/// Every planted fault, in the order of the table.
+pub fn all() -> Vec<&'static Fault> {
+    [
+        programs::FAULTS,
+        order::FAULTS,
+        frame::FAULTS,
+        objects::FAULTS,
+        parts::FAULTS,
+        events::FAULTS,
+        soundness::FAULTS,
+    ]
+    .into_iter()
+    .flatten()
+    .collect()
+}
+
+/// A fault that the comparison finds.
+const fn fault(name: &'static str, plant: Plant) -> Fault {
+    Fault { name, plant, breaks: None }
+}
+
+/// A fault that the comparison and the check of a demand find.
+const fn breaking(demand: Demand, name: &'static str, plant: Plant) -> Fault {
+    Fault { name, plant, breaks: Some(demand) }
+}

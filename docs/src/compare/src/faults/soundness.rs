@@ -1,0 +1,73 @@
+//! Cards that are not sound, taken for sound ones.
+
+use plain_card::bytes::{HEADER, RECORD};
+use plain_card::opcode::SUPPORTED;
+
+use super::{fault, Fault, Plant};
+
+pub const FAULTS: &[Fault] = &[
+    fault("sound: list bits not looked at", Plant::Repair(list_bits)),
+    fault("sound: mode byte over 1 is stopped", Plant::Repair(mode_byte)),
+    fault("sound: object byte over 2 is free", Plant::Repair(object_byte)),
+    fault("sound: ids from G + S not looked at", Plant::Repair(ids)),
+    fault("sound: get objects not counted", Plant::Repair(gets)),
+    fault("sound: queue count not looked at", Plant::Repair(queues)),
+    fault("sound: member's features not compared", Plant::Repair(features)),
+    fault("sound: bytes behind the last record", Plant::Repair(length)),
+];
+
+fn list_bits(card: &mut Vec<u8>) {
+    if let Some(list) = card.get_mut(20..28) {
+        for (byte, supported) in list.iter_mut().zip(SUPPORTED.to_le_bytes()) {
+            *byte &= supported;
+        }
+    }
+}
+
+fn records(card: &mut [u8]) -> impl Iterator<Item = &mut [u8]> {
+    card.get_mut(HEADER..).unwrap_or_default().chunks_exact_mut(RECORD)
+}
+
+fn mode_byte(card: &mut Vec<u8>) {
+    records(card).for_each(|record| record[0] = record[0].min(1));
+}
+
+fn object_byte(card: &mut Vec<u8>) {
+    for record in records(card) {
+        for object in record[1..17].iter_mut().filter(|object| **object > 2) {
+            *object = 0;
+        }
+    }
+}
+
+fn ids(card: &mut Vec<u8>) {
+    if let [_, _, gets @ 0..=8, sets @ 0..=8, ..] = card[..] {
+        let valid = usize::from(gets + sets);
+        records(card).for_each(|record| record[1 + valid..17].fill(0));
+    }
+}
+
+fn gets(card: &mut Vec<u8>) {
+    let limit = usize::from(card.get(2).copied().unwrap_or(0));
+    for record in records(card) {
+        record[1..17].iter_mut().filter(|object| **object == 1).skip(limit).for_each(|o| *o = 0);
+    }
+}
+
+fn queues(card: &mut Vec<u8>) {
+    if let Some(queues) = card.get_mut(1) {
+        *queues = (*queues).clamp(1, 4);
+    }
+}
+
+fn features(card: &mut Vec<u8>) {
+    if let Some(features) = card.get(4..20).map(<[u8]>::to_vec) {
+        records(card).for_each(|record| record[17..33].copy_from_slice(&features));
+    }
+}
+
+fn length(card: &mut Vec<u8>) {
+    if let Some(members) = card.first() {
+        card.truncate(HEADER + RECORD * usize::from(*members));
+    }
+}

@@ -1,0 +1,196 @@
+//! The comparison: random sequences of calls on the plain card and on another
+//! device, with everything that a call shows compared after each.
+
+use std::fmt;
+use std::time::Instant;
+
+use plain_card::bytes::{self, HEADER, RECORD};
+use plain_card::Card;
+
+use crate::call::Call;
+use crate::coverage::Coverage;
+use crate::device::{see, Device, Plain, Seen};
+use crate::draw;
+use crate::faults::{Fault, Faulty};
+use crate::random::Random;
+use crate::shrink::{shrink, simplify};
+
+/// Makes the device that the plain card is compared with.
+pub type Make<'a> = &'a dyn Fn() -> Box<dyn Device>;
+
+/// When to stop.
+#[derive(Clone, Copy, Debug)]
+pub struct Limit {
+    /// After so many calls, or trials.
+    pub count: u64,
+    /// At this time, even if some are left.
+    pub until: Option<Instant>,
+}
+
+impl Limit {
+    /// Whether it is time to stop after `count` of them.
+    pub fn reached(&self, count: u64) -> bool {
+        count >= self.count || self.until.is_some_and(|until| Instant::now() >= until)
+    }
+}
+
+/// A difference between plain card and device.
+pub struct Difference {
+    /// The number of the sequence under its seed.
+    pub sequence: u64,
+    /// The shortest sequence found that shows a difference.
+    pub calls: Vec<Call>,
+    /// What differs after the last call.
+    pub what: String,
+}
+
+/// What a comparison tells.
+#[derive(Default)]
+pub struct Comparison {
+    /// The number of calls made.
+    pub calls: u64,
+    /// What the device answered to them.
+    pub coverage: Coverage,
+    /// The first difference.
+    pub difference: Option<Difference>,
+}
+
+/// Compares the plain card, with a fault or without, with a device.
+pub fn compare(seed: u64, limit: Limit, fault: Option<&'static Fault>, make: Make) -> Comparison {
+    let mut comparison = Comparison::default();
+    for index in 0.. {
+        if limit.reached(comparison.calls) || comparison.difference.is_some() {
+            break;
+        }
+        let mut pair = Pair::new(fault, make);
+        let calls = pair.run(&mut Random::new(seed, index), &mut comparison.coverage);
+        comparison.calls += calls.len() as u64;
+        if pair.difference.is_some() {
+            comparison.difference = Some(Difference::shortest(index, calls, fault, make));
+        }
+    }
+    comparison
+}
+
+impl Difference {
+    fn shortest(
+        sequence: u64,
+        calls: Vec<Call>,
+        fault: Option<&'static Fault>,
+        make: Make,
+    ) -> Difference {
+        let difference = |calls: &[Call]| Pair::new(fault, make).replay(calls);
+        let mut calls = shrink(calls, |calls| difference(calls).is_some());
+        for at in 0..calls.len() {
+            let Call::Card(bytes) = &calls[at] else { continue };
+            let Some(card) = bytes::read(bytes).filter(Card::is_sound) else { continue };
+            let with = |card: &Card| {
+                let mut calls = calls.clone();
+                calls[at] = Call::Card(bytes::write(card));
+                calls
+            };
+            calls = with(&simplify(card, |card| difference(&with(card)).is_some()));
+        }
+        let what = difference(&calls).unwrap_or_default();
+        Difference { sequence, calls, what }
+    }
+}
+
+/// The plain card and the device it is compared with.
+struct Pair {
+    plain: Faulty,
+    device: Box<dyn Device>,
+    difference: Option<String>,
+}
+
+impl Pair {
+    fn new(fault: Option<&'static Fault>, make: Make) -> Pair {
+        Pair { plain: Faulty::new(fault), device: make(), difference: None }
+    }
+
+    /// Makes random calls up to the first difference and tells them.
+    fn run(&mut self, random: &mut Random, coverage: &mut Coverage) -> Vec<Call> {
+        let length = 1 + random.below(80);
+        let mut calls = vec![draw::first(random)];
+        loop {
+            let call = &calls[calls.len() - 1];
+            let (seen, card) = self.make(call);
+            coverage.note(call, &seen);
+            if self.difference.is_some() || calls.len() == length {
+                return calls;
+            }
+            calls.push(draw::next(random, card.as_ref()));
+        }
+    }
+
+    /// Makes these calls up to the first difference and tells it.
+    fn replay(mut self, calls: &[Call]) -> Option<String> {
+        for call in calls {
+            self.make(call);
+            if self.difference.is_some() {
+                break;
+            }
+        }
+        self.difference
+    }
+
+    /// Makes a call on both and notes a difference. Tells what is seen of the
+    /// device and the card that its bytes say.
+    fn make(&mut self, call: &Call) -> (Seen, Option<Card>) {
+        let expected = see(&mut self.plain, call);
+        let seen = see(self.device.as_mut(), call);
+        let read = Plain::from_bytes(&seen.card);
+        if expected != seen {
+            let answer = differs("answer or bytes written", expected.answer, seen.answer);
+            let reply = first_difference("reply", &expected.reply, &seen.reply);
+            let card = first_difference("card", &expected.card, &seen.card);
+            self.difference = Some([answer, reply, card].concat());
+        } else if read != self.plain.plain {
+            self.difference = Some("the card read from the bytes differs".into());
+        }
+        match read {
+            Plain::Card(card) => (seen, Some(card)),
+            Plain::NoCard(_) => (seen, None),
+        }
+    }
+}
+
+fn differs<T: PartialEq + fmt::Display>(what: &str, plain: T, device: T) -> String {
+    if plain == device {
+        String::new()
+    } else {
+        format!("  {what}: plain {plain}, archive {device}\n")
+    }
+}
+
+/// The first byte that differs, and where it stands.
+fn first_difference(what: &str, plain: &[u8], device: &[u8]) -> String {
+    let length = differs(&format!("length of the {what}"), plain.len(), device.len());
+    let at = plain.iter().zip(device).position(|(plain, device)| plain != device);
+    let byte = at.map_or(String::new(), |at| {
+        let place = if what == "card" { place(at) } else { String::new() };
+        differs(&format!("{what} byte {at}{place}"), plain[at], device[at])
+    });
+    length + &byte
+}
+
+/// What a byte of the card is.
+fn place(at: usize) -> String {
+    let Some(at) = at.checked_sub(HEADER) else { return " (header)".into() };
+    let member = 1 + at / RECORD;
+    match at % RECORD {
+        0 => format!(" (mode of member {member})"),
+        object @ 1..17 => format!(" (object {} of member {member})", object - 1),
+        value => format!(" (value byte {} of member {member})", value - 17),
+    }
+}
+
+impl fmt::Display for Difference {
+    fn fmt(&self, f: &mut fmt::Formatter) -> fmt::Result {
+        writeln!(f, "sequence {}, shortened to {} calls:", self.sequence, self.calls.len())?;
+        for call in &self.calls {
+            writeln!(f, "  {call}")?;
+        }
+        write!(f, "after the last of them:\n{}", self.what)
+    }
+}

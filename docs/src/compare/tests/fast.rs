@@ -1,0 +1,47 @@
+//! The fast card of the timing gives what the plain card gives.
+
+use compare::call::Call;
+use compare::device::Device;
+use compare::fast;
+use compare::sequence::{compare, Limit};
+use plain_card::exported;
+
+/// The fast card over its bytes.
+#[derive(Default)]
+struct Fast(Vec<u8>);
+
+impl Device for Fast {
+    fn call(&mut self, call: &Call, reply: &mut [u8]) -> usize {
+        let card = &mut self.0;
+        match call {
+            Call::CardBytes(members) => exported::card_bytes(*members),
+            Call::Setup { numbers: [n, q, g, s], features, length } => {
+                card.resize(*length, 0);
+                exported::setup(card, *n, *q, *g, *s, features).into()
+            }
+            Call::Card(bytes) => {
+                card.clone_from(bytes);
+                0
+            }
+            Call::Command { request, .. } => fast::command(card, request, reply),
+            Call::ResetMember(member) => exported::reset_member(card, *member).into(),
+            Call::ResetCard => exported::reset_card(card).into(),
+            Call::Store { member, part_type, selector, value } => {
+                exported::store(card, *member, *part_type, *selector, value).into()
+            }
+        }
+    }
+
+    fn card(&self) -> Vec<u8> {
+        self.0.clone()
+    }
+}
+
+#[test]
+fn fast_and_plain_are_alike() {
+    let limit = Limit { count: 100_000, until: None };
+    let comparison = compare(7, limit, None, &|| Box::new(Fast::default()));
+    if let Some(difference) = comparison.difference {
+        panic!("{difference}");
+    }
+}

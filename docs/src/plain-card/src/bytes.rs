@@ -1,0 +1,109 @@
+//! The card as bytes: a header, then one record for each member.
+//!
+//! | header | bytes | record | bytes |
+//! |---|---|---|---|
+//! | N, Q, G, S | 1 each | mode: 0 running, 1 stopped | 1 |
+//! | device features | 16 | objects: 0 free, 1 get, 2 set | 16 |
+//! | list in use, little-endian | 8 | values of the parts for Q = 4, in order | 205 |
+
+use crate::card::Card;
+use crate::frame::{array_at, u64_at};
+use crate::member::{Member, Mode};
+use crate::object::{Kind, Objects, IDS};
+use crate::part::{inventory, MAX_QUEUES};
+use crate::setup::Setup;
+use crate::values::Values;
+
+/// The length of the header.
+pub const HEADER: usize = 28;
+/// The length of a member's record.
+pub const RECORD: usize = 222;
+/// Where the objects stand in a record.
+const OBJECTS: usize = 1;
+/// Where the values stand in a record.
+const VALUES: usize = OBJECTS + IDS;
+
+/// The card that the bytes say, sound or not. Bytes of another length than the
+/// header's N asks for, a mode byte over 1 and an object byte over 2 say none.
+pub fn read(bytes: &[u8]) -> Option<Card> {
+    let (header, records) = bytes.split_at_checked(HEADER)?;
+    let setup = Setup {
+        members: header[0],
+        queues: header[1],
+        gets: header[2],
+        sets: header[3],
+        features: array_at(header, 4),
+    };
+    if records.len() != RECORD * usize::from(setup.members) {
+        return None;
+    }
+    let members = records.chunks_exact(RECORD).map(read_record).collect::<Option<_>>()?;
+    Some(Card { setup, in_use: u64_at(header, 20), members })
+}
+
+fn read_record(record: &[u8]) -> Option<Member> {
+    Some(Member {
+        mode: read_mode(record[0])?,
+        objects: read_objects(&record[OBJECTS..VALUES])?,
+        values: read_values(&record[VALUES..]),
+    })
+}
+
+fn read_mode(byte: u8) -> Option<Mode> {
+    match byte {
+        0 => Some(Mode::Running),
+        1 => Some(Mode::Stopped),
+        _ => None,
+    }
+}
+
+fn read_objects(bytes: &[u8]) -> Option<Objects> {
+    let mut objects = Objects::default();
+    for (object, byte) in objects.0.iter_mut().zip(bytes) {
+        *object = match byte {
+            0 => None,
+            1 => Some(Kind::Get),
+            2 => Some(Kind::Set),
+            _ => return None,
+        };
+    }
+    Some(objects)
+}
+
+fn read_values(mut bytes: &[u8]) -> Values {
+    let mut values = Values::default();
+    for part in inventory(MAX_QUEUES) {
+        let (value, rest) = bytes.split_at(part.length() as usize);
+        values.get_mut(part).copy_from_slice(value);
+        bytes = rest;
+    }
+    values
+}
+
+/// The bytes of a card: what [`read`] turns into the same card.
+pub fn write(card: &Card) -> Vec<u8> {
+    let mut bytes = Vec::with_capacity(HEADER + RECORD * card.members.len());
+    let Setup { members, queues, gets, sets, features } = &card.setup;
+    bytes.extend([members, queues, gets, sets]);
+    bytes.extend(features);
+    bytes.extend(card.in_use.to_le_bytes());
+    for member in &card.members {
+        write_record(&mut bytes, member);
+    }
+    bytes
+}
+
+fn write_record(bytes: &mut Vec<u8>, member: &Member) {
+    bytes.push(match member.mode {
+        Mode::Running => 0,
+        Mode::Stopped => 1,
+    });
+    bytes.extend(member.objects.0.iter().map(|object| match object {
+        None => 0,
+        Some(Kind::Get) => 1,
+        Some(Kind::Set) => 2,
+    }));
+    for part in inventory(MAX_QUEUES) {
+        bytes.extend(member.values.get(part));
+    }
+}

@@ -1,0 +1,46 @@
+//! Card events: the two resets and the card store.
+
+use crate::card::Card;
+use crate::member::Member;
+use crate::part::Part;
+use crate::status::EventError;
+
+impl Card {
+    /// Reset of one member: makes it fresh and changes nothing else.
+    pub fn reset_member(&mut self, member: u64) -> Result<(), EventError> {
+        EventError::NotSound.unless(self.is_sound())?;
+        EventError::NoMember.unless(self.setup.has_member(member))?;
+        *self.member_mut(member) = Member::fresh(&self.setup);
+        Ok(())
+    }
+
+    /// Reset of the whole card: as fresh as after setup.
+    pub fn reset(&mut self) -> Result<(), EventError> {
+        EventError::NotSound.unless(self.is_sound())?;
+        *self = Card::fresh(self.setup.clone());
+        Ok(())
+    }
+
+    /// Card store: the data path sets one part of one member, in either mode.
+    pub fn store(
+        &mut self,
+        member: u64,
+        part_type: u16,
+        selector: [u8; 8],
+        value: &[u8],
+    ) -> Result<(), EventError> {
+        EventError::NotSound.unless(self.is_sound())?;
+        EventError::NoMember.unless(self.setup.has_member(member))?;
+        let part = self.stored_part(part_type, selector)?;
+        EventError::WrongLength.unless(value.len() == part.length() as usize)?;
+        self.member_mut(member).values.get_mut(part).copy_from_slice(value);
+        Ok(())
+    }
+
+    /// The part that a store names; device features count as no such part.
+    fn stored_part(&self, part_type: u16, selector: [u8; 8]) -> Result<Part, EventError> {
+        Part::named(part_type, selector, self.setup.queues)
+            .filter(|part| *part != Part::DeviceFeatures)
+            .ok_or(EventError::NoPart)
+    }
+}

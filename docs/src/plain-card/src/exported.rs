@@ -1,0 +1,75 @@
+//! The archive's six functions, over the card's bytes, by the plain card.
+//!
+//! A card is read from its bytes, the plain card does its work, and the bytes
+//! are written back. Bytes that say no card are those of a card not sound.
+
+use crate::bytes::{read, write, HEADER, RECORD};
+use crate::card::Card;
+use crate::setup::{Setup, MEMBERS};
+use crate::status::{answer, EventError};
+
+/// The length of a card, or 0 if it cannot have so many members.
+pub fn card_bytes(members: u64) -> usize {
+    match u8::try_from(members) {
+        Ok(count) if MEMBERS.contains(&count) => HEADER + RECORD * usize::from(count),
+        _ => 0,
+    }
+}
+
+/// Makes a fresh card in `card`, or fills it with zeros and answers 4. The
+/// features have to be 16 bytes and the buffer exactly one card long.
+pub fn setup(
+    card: &mut [u8],
+    members: u64,
+    queues: u64,
+    gets: u64,
+    sets: u64,
+    features: &[u8],
+) -> u8 {
+    let fresh = features
+        .try_into()
+        .ok()
+        .and_then(|features| Setup::new(members, queues, gets, sets, features))
+        .map(|setup| write(&Card::fresh(setup)))
+        .filter(|fresh| fresh.len() == card.len());
+    match fresh {
+        Some(fresh) => {
+            card.copy_from_slice(&fresh);
+            answer(Ok(()))
+        }
+        None => {
+            card.fill(0);
+            answer(Err(EventError::BadSetup))
+        }
+    }
+}
+
+/// Hears a command; tells the bytes written to `reply`.
+pub fn command(card: &mut [u8], request: &[u8], reply: &mut [u8]) -> usize {
+    let Some(mut plain) = read(card) else { return 0 };
+    let written = crate::command(&mut plain, request, reply);
+    card.copy_from_slice(&write(&plain));
+    written
+}
+
+/// Reset of one member.
+pub fn reset_member(card: &mut [u8], member: u64) -> u8 {
+    event(card, |card| card.reset_member(member))
+}
+
+/// Reset of the whole card.
+pub fn reset_card(card: &mut [u8]) -> u8 {
+    event(card, Card::reset)
+}
+
+/// Card store; `selector` is the eight bytes as a little-endian number.
+pub fn store(card: &mut [u8], member: u64, part_type: u16, selector: u64, value: &[u8]) -> u8 {
+    event(card, |card| card.store(member, part_type, selector.to_le_bytes(), value))
+}
+
+fn event(bytes: &mut [u8], act: impl FnOnce(&mut Card) -> Result<(), EventError>) -> u8 {
+    let Some(mut card) = read(bytes) else { return answer(Err(EventError::NotSound)) };
+    let outcome = act(&mut card);
+    bytes.copy_from_slice(&write(&card));
+    answer(outcome)
+}

@@ -1,0 +1,42 @@
+//! An independent plain Rust card, written from document 01 alone.
+//!
+//! It is the readable, executable version of that document and the reference
+//! that the verified archive is compared with. It shares no code with the
+//! archive. Terms of document 01 (card, sound, fresh, list in use, card store)
+//! are used as they stand there.
+//!
+//! Start with [`command`](mod@command): the status table is two functions, one line a step.
+//!
+//! | module | holds |
+//! |---|---|
+//! | [`setup`], [`card`], [`member`], [`object`], [`part`], [`values`] | the card and what it is made of |
+//! | [`frame`], [`opcode`], [`operation`] | from request bytes to what is asked: steps 2 to 7 |
+//! | [`list`] | lists of parts, asked and given: step 10 |
+//! | [`command`](mod@command), [`effect`] | the twelve steps, and what a command does |
+//! | [`event`] | resets and card store |
+//! | [`status`] | the numbers of the answers |
+//! | [`bytes`], [`exported`] | the card as bytes, and the archive's six functions over them |
+
+#![forbid(unsafe_code)]
+#![deny(missing_docs)]
+
+pub mod bytes;
+pub mod card;
+pub mod command;
+pub mod effect;
+pub mod event;
+pub mod exported;
+pub mod frame;
+pub mod list;
+pub mod member;
+pub mod object;
+pub mod opcode;
+pub mod operation;
+pub mod part;
+pub mod setup;
+pub mod status;
+pub mod values;
+
+pub use card::Card;
+pub use command::command;
+pub use setup::Setup;

@@ -1,0 +1,43 @@
+//! A member's record.
+
+use crate::object::Objects;
+use crate::setup::Setup;
+use crate::values::Values;
+
+/// Whether a member runs.
+#[derive(Clone, Copy, Debug, Default, PartialEq, Eq)]
+pub enum Mode {
+    /// It runs; its parts cannot be set by a command.
+    #[default]
+    Running,
+    /// It is stopped.
+    Stopped,
+}
+
+/// The record of a member: its mode, its live objects and its parts.
+#[derive(Clone, Debug, PartialEq, Eq)]
+pub struct Member {
+    /// Running or stopped.
+    pub mode: Mode,
+    /// The live objects.
+    pub objects: Objects,
+    /// The values of the parts.
+    pub values: Values,
+}
+
+impl Member {
+    /// A fresh member runs, has no objects, has device features as in the
+    /// setup and every other part all zero.
+    pub fn fresh(setup: &Setup) -> Member {
+        Member {
+            mode: Mode::Running,
+            objects: Objects::default(),
+            values: Values { device_features: setup.features, ..Values::default() },
+        }
+    }
+
+    /// Whether the record may stand in a sound card of this setup.
+    pub fn is_sound(&self, setup: &Setup) -> bool {
+        self.objects.fit(setup) && self.values.device_features == setup.features
+    }
+}

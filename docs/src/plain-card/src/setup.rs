@@ -1,0 +1,92 @@
+//! The setup of a card.
+
+use std::ops::RangeInclusive;
+
+/// How many members a card may have.
+pub const MEMBERS: RangeInclusive<u8> = 1..=16;
+/// How many queues each member may have.
+pub const QUEUES: RangeInclusive<u8> = 1..=4;
+/// How many objects of one kind each member may have.
+pub const OBJECTS: RangeInclusive<u8> = 0..=8;
+
+/// The setup: what a card is made with and never changes.
+#[derive(Clone, Debug, PartialEq, Eq)]
+pub struct Setup {
+    /// N, the number of members; they are identified 1 to N.
+    pub members: u8,
+    /// Q, the number of queues of each member.
+    pub queues: u8,
+    /// G, the most get objects of each member.
+    pub gets: u8,
+    /// S, the most set objects of each member.
+    pub sets: u8,
+    /// The device features of every member.
+    pub features: [u8; 16],
+}
+
+impl Setup {
+    /// A setup, or nothing if a number is out of its range.
+    pub fn new(
+        members: u64,
+        queues: u64,
+        gets: u64,
+        sets: u64,
+        features: [u8; 16],
+    ) -> Option<Self> {
+        let setup = Setup {
+            members: u8::try_from(members).ok()?,
+            queues: u8::try_from(queues).ok()?,
+            gets: u8::try_from(gets).ok()?,
+            sets: u8::try_from(sets).ok()?,
+            features,
+        };
+        setup.in_range().then_some(setup)
+    }
+
+    /// Whether every number is in its range.
+    pub fn in_range(&self) -> bool {
+        MEMBERS.contains(&self.members)
+            && QUEUES.contains(&self.queues)
+            && OBJECTS.contains(&self.gets)
+            && OBJECTS.contains(&self.sets)
+    }
+
+    /// Whether `member` identifies a member: 1 to N.
+    pub fn has_member(&self, member: u64) -> bool {
+        (1..=u64::from(self.members)).contains(&member)
+    }
+
+    /// Whether `id` is a valid object id: below G + S.
+    pub fn has_id(&self, id: u32) -> bool {
+        id < u32::from(self.gets) + u32::from(self.sets)
+    }
+}
+
+#[cfg(test)]
+mod tests {
+    use super::*;
+
+    fn accepted(members: u64, queues: u64, gets: u64, sets: u64) -> bool {
+        Setup::new(members, queues, gets, sets, [0; 16]).is_some()
+    }
+
+    #[test]
+    fn numbers_at_both_ends_of_their_ranges() {
+        assert!(accepted(1, 1, 0, 0) && accepted(16, 4, 8, 8));
+        assert!(!accepted(0, 1, 1, 1) && !accepted(17, 1, 1, 1));
+        assert!(!accepted(1, 0, 1, 1) && !accepted(1, 5, 1, 1));
+        assert!(!accepted(1, 1, 9, 1) && !accepted(1, 1, 1, 9));
+    }
+
+    #[test]
+    fn numbers_are_not_cut_to_eight_bits() {
+        assert!(!accepted(257, 1, 1, 1) && !accepted(1, 1 << 32 | 1, 1, 1));
+        assert!(!accepted(1, 1, 256, 1) && !accepted(1, 1, 1, 1 << 63));
+    }
+
+    #[test]
+    fn no_id_is_valid_without_objects() {
+        let setup = Setup::new(1, 1, 0, 0, [0; 16]).unwrap();
+        assert!(!setup.has_id(0));
+    }
+}

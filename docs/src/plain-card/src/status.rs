@@ -1,0 +1,105 @@
+//! The numbers of the answers.
+
+/// Why a command is refused, by the step of the status table that refuses it.
+#[derive(Clone, Copy, Debug, PartialEq, Eq)]
+pub enum Refusal {
+    /// Step 2: request under 24 or over 4,096 bytes.
+    RequestLength,
+    /// Step 3: group type not 1.
+    GroupType,
+    /// Step 4: opcode not supported, or not in use.
+    Opcode,
+    /// Step 5: member not 1 to N.
+    Member,
+    /// Step 6: data length not as the command's row says.
+    DataLength,
+    /// Step 7: a field has a value that is not allowed.
+    Field,
+    /// Step 8: create on a live id.
+    IdLive,
+    /// Step 8: another command on an id that is not live.
+    IdNotLive,
+    /// Step 8: more than G get or S set objects.
+    TooManyObjects,
+    /// Step 8: object of the wrong kind.
+    WrongKind,
+    /// Step 9: parts set on a running member.
+    Running,
+    /// Step 10: a bad list, asked or given.
+    BadList,
+    /// Step 11: 8 + result longer than the reply buffer.
+    ReplyTooShort,
+}
+
+impl Refusal {
+    /// Status and qualifier.
+    pub fn numbers(self) -> (u16, u16) {
+        match self {
+            Refusal::RequestLength => (22, 1),
+            Refusal::GroupType => (22, 4),
+            Refusal::Opcode => (22, 2),
+            Refusal::Member => (22, 5),
+            Refusal::DataLength => (22, 1),
+            Refusal::Field => (22, 3),
+            Refusal::IdLive => (17, 1),
+            Refusal::IdNotLive => (6, 1),
+            Refusal::TooManyObjects => (28, 1),
+            Refusal::WrongKind => (22, 3),
+            Refusal::Running => (11, 7),
+            Refusal::BadList => (22, 3),
+            Refusal::ReplyTooShort => (12, 6),
+        }
+    }
+
+    /// Refuses unless all is good.
+    pub fn unless(self, good: bool) -> Result<(), Refusal> {
+        if good {
+            Ok(())
+        } else {
+            Err(self)
+        }
+    }
+
+    /// The reply of a refusal: status, qualifier and four zero bytes.
+    pub fn reply(self) -> [u8; 8] {
+        let (status, qualifier) = self.numbers();
+        let [s0, s1] = status.to_le_bytes();
+        let [q0, q1] = qualifier.to_le_bytes();
+        [s0, s1, q0, q1, 0, 0, 0, 0]
+    }
+}
+
+/// Why a card event or a setup is refused, with the number it answers.
+#[derive(Clone, Copy, Debug, PartialEq, Eq)]
+#[repr(u8)]
+pub enum EventError {
+    /// The card is not sound.
+    NotSound = 9,
+    /// The card has no such member.
+    NoMember = 1,
+    /// The member has no such part, or the part is device features.
+    NoPart = 2,
+    /// The value has another length than the part.
+    WrongLength = 3,
+    /// The setup is out of range.
+    BadSetup = 4,
+}
+
+impl EventError {
+    /// Refuses unless all is good.
+    pub fn unless(self, good: bool) -> Result<(), EventError> {
+        if good {
+            Ok(())
+        } else {
+            Err(self)
+        }
+    }
+}
+
+/// The number that a card event or a setup answers: 0 is done.
+pub fn answer(outcome: Result<(), EventError>) -> u8 {
+    match outcome {
+        Ok(()) => 0,
+        Err(error) => error as u8,
+    }
+}

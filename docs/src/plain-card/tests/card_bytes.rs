@@ -1,0 +1,170 @@
+//! The card as bytes, and which bytes are a sound card.
+
+mod common;
+
+use common::*;
+use plain_card::{bytes, exported};
+
+/// The bytes of a card with N=2, Q=2, G=1, S=2 and both members in use.
+fn sample() -> Vec<u8> {
+    let mut card = stopped(card(2, 2, 1, 2));
+    card.store(2, 0x104, [1, 0, 0, 0, 0, 0, 0, 0], &[9; 32]).unwrap();
+    bytes::write(&card)
+}
+
+/// Whether the bytes are a sound card.
+fn sound(card: &[u8]) -> bool {
+    let mut copy = card.to_vec();
+    let sound = bytes::read(card).is_some_and(|card| card.is_sound());
+    // Every entry agrees on it, and refuses without a change.
+    let mut reply = [PATTERN; 8];
+    assert_eq!(exported::command(&mut copy, &[], &mut reply) != 0, sound);
+    assert_eq!(exported::store(&mut copy, 0, 0, 0, &[]) != 9, sound);
+    assert_eq!(exported::reset_member(&mut copy, 0) != 9, sound);
+    assert_eq!(copy, card);
+    assert_eq!(exported::reset_card(&mut copy) != 9, sound);
+    assert!(sound || (copy == card && reply == [PATTERN; 8]));
+    sound
+}
+
+/// The sample with one byte changed.
+fn with(at: usize, byte: u8) -> Vec<u8> {
+    let mut card = sample();
+    card[at] = byte;
+    card
+}
+
+#[test]
+fn the_layout() {
+    let card = sample();
+    assert_eq!(card.len(), 28 + 2 * 222);
+    assert_eq!(card[..4], [2, 2, 1, 2]);
+    assert_eq!(card[20..28], ALL.to_le_bytes());
+    assert_eq!(card[28..33], [1, 1, 2, 0, 0]);
+    let second = &card[28 + 222..];
+    assert_eq!(second[..17], [0; 17]);
+    // Queue 1 follows 16 + 16 + 4 + 4 + 2 + 2 + 1 value bytes and queue 0.
+    assert_eq!(second[17 + 45 + 32..17 + 45 + 64], [9; 32]);
+    assert_eq!(second[17 + 45 + 64..], [0; 205 - 45 - 64]);
+}
+
+#[test]
+fn read_and_write_are_inverse() {
+    let card = sample();
+    assert_eq!(bytes::write(&bytes::read(&card).unwrap()), card);
+    for at in 1..card.len() {
+        if let Some(changed) = bytes::read(&with(at, 2)) {
+            assert_eq!(bytes::write(&changed), with(at, 2));
+        }
+    }
+}
+
+#[test]
+fn the_length_is_exact() {
+    let card = sample();
+    assert!(sound(&card));
+    for length in [0, 27, 28, 28 + 222, card.len() - 1] {
+        assert!(!sound(&card[..length]));
+    }
+    assert!(!sound(&[card, vec![0]].concat()));
+}
+
+#[test]
+fn the_setup_is_in_range() {
+    for (at, good) in [(1, 1..=4), (2, 1..=8), (3, 1..=8)] {
+        for byte in 0..=255 {
+            assert_eq!(sound(&with(at, byte)), good.contains(&byte), "byte {at} is {byte}");
+        }
+    }
+    assert!(!sound(&[0; 28]));
+    for members in 1..=20 {
+        let mut header = bytes::write(&card(1, 1, 0, 0))[..28].to_vec();
+        header[0] = members;
+        let card = [header, vec![0; 222 * usize::from(members)]].concat();
+        assert_eq!(sound(&card), members <= 16);
+    }
+}
+
+#[test]
+fn the_list_in_use_has_supported_bits_only() {
+    for bit in 0..64 {
+        let card = with(20 + bit / 8, sample()[20 + bit / 8] | 1 << (bit % 8));
+        assert_eq!(sound(&card), ALL >> bit & 1 == 1);
+    }
+}
+
+#[test]
+fn mode_and_object_bytes_say_something() {
+    for byte in 0..=255 {
+        assert_eq!(sound(&with(28, byte)), byte <= 1);
+        // Id 2 of member 1 is free, with room for one more set object.
+        assert_eq!(sound(&with(31, byte)), byte == 0 || byte == 2);
+    }
+}
+
+#[test]
+fn objects_fit() {
+    // Id 3 is not below G + S, and G get and S set objects are the most.
+    assert!(!sound(&with(32, 2)) && !sound(&with(44, 2)));
+    assert!(!sound(&with(31, 1)));
+    let mut card = with(31, 2);
+    assert!(sound(&card));
+    card[29] = 2;
+    assert!(!sound(&card));
+}
+
+#[test]
+fn device_features_are_those_of_the_setup() {
+    for at in 0..16 {
+        assert!(!sound(&with(4 + at, 1)));
+        assert!(!sound(&with(28 + 17 + at, 1)));
+        assert!(!sound(&with(28 + 222 + 17 + at, 1)));
+    }
+}
+
+#[test]
+fn other_values_are_free_and_carried() {
+    for at in 28 + 17 + 16..28 + 222 {
+        let mut card = with(at, 0xff);
+        assert!(sound(&card));
+        let before = card.clone();
+        assert_eq!(exported::reset_member(&mut card, 2), 0);
+        assert_eq!(card[..28 + 222], before[..28 + 222]);
+        assert_eq!(exported::reset_member(&mut card, 1), 0);
+        assert_eq!(card[28 + 17 + 16..], [0; 2 * 222 - 17 - 16][..]);
+    }
+}
+
+#[test]
+fn setup_makes_a_fresh_card_or_zeros() {
+    let mut card = vec![PATTERN; 28 + 2 * 222];
+    assert_eq!(exported::setup(&mut card, 2, 1, 1, 1, &[0; 16]), 0);
+    assert_eq!(card, bytes::write(&fresh()));
+    let refused: [(u64, u64, u64, u64, usize, usize); 9] = [
+        (0, 1, 1, 1, 16, 28),
+        (17, 1, 1, 1, 16, 28 + 17 * 222),
+        (2, 0, 1, 1, 16, 28 + 2 * 222),
+        (2, 5, 1, 1, 16, 28 + 2 * 222),
+        (2, 1, 9, 1, 16, 28 + 2 * 222),
+        (2, 1, 1, 9, 16, 28 + 2 * 222),
+        (2, 1, 1, 1, 15, 28 + 2 * 222),
+        (2, 1, 1, 1, 16, 28 + 2 * 222 + 1),
+        (2, 1, 1, 1, 16, 0),
+    ];
+    for (members, queues, gets, sets, features, length) in refused {
+        let mut card = vec![PATTERN; length];
+        let features = vec![0; features];
+        assert_eq!(exported::setup(&mut card, members, queues, gets, sets, &features), 4);
+        assert_eq!(card, vec![0; length]);
+        assert!(!sound(&card));
+    }
+}
+
+#[test]
+fn the_length_of_a_card() {
+    assert_eq!(exported::card_bytes(1), 28 + 222);
+    assert_eq!(exported::card_bytes(16), 28 + 16 * 222);
+    for members in [0, 17, 257, 1 << 32 | 1, u64::MAX] {
+        assert_eq!(exported::card_bytes(members), 0);
+    }
+}
