@@ -1,3 +1,9 @@
 pub mod Model
 pub mod Examples
 pub mod Refusals
+pub mod Requests
+pub mod Changes
+pub mod Live
+pub mod Sound
+pub mod Isolation
+pub mod IsolationExample

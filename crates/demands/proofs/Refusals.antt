@@ -14,7 +14,7 @@ use Rattle.protocol.specs.Answers.{statusOf, isDone, eventNumber}
 use Rattle.card.specs.Events.{resetMember, resetCard, ifDone, storeIn, store}
 use Rattle.reply.specs.Reply.{headOf, replyOf}
 use Rattle.admin.specs.Command.{finish, conclude, respond}
-use Rattle.demands.specs.Calls.{Call, command, memberReset, cardReset, cardStore, Reply, written, answered, step}
+use Rattle.demands.specs.Calls.{command, memberReset, cardReset, cardStore, written, answered, step}
 use Rattle.demands.specs.Claims.{refused, RefusalsChangeNothing}
 
 -- a number that is refused picks the card as it was

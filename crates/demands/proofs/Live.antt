@@ -1,0 +1,45 @@
+-- The id of a live object of a sound member is below G + S. Assumes nothing.
+use mathlib.Core.Path.{_≡_, refl, sym, _∙_}
+use mathlib.Core.Bool.{true}
+use mathlib.Core.List.{List, [], _∷_, map}
+use Prim.Native.Nat.{ℕ, zero, suc, _+_, _-_, _<_}
+use native.Mathlib.Omega.{arith}
+use lib.Dec.{leb}
+use lib.ListN.{getD, drop, List·getD-map}
+use lib.Seq.{getD-drop}
+use borrow.Author.Tests.{leb-true, leb-false}
+use Rattle.theory.proofs.Tests.{by-cases, both}
+use Rattle.protocol.specs.declared.ObjectKind.{ObjectKind}
+use Rattle.member.specs.declared.Slot.{Slot}
+use Rattle.member.specs.declared.Slot.the-variants.{Free, Get, Set}
+use Rattle.member.specs.declared.Member.{Member}
+use Rattle.member.specs.declared.Found.the-variants.{Live}
+use Rattle.member.specs.Record.{slotByte, objectByte}
+use Rattle.member.specs.Objects.{free, foundIn, lookupOf, allUpTo}
+use Rattle.member.proofs.Sound.{SoundMember}
+
+-- none of these bytes is above 0, nor is what is read past them
+all-zero : (bs : List ℕ) (i : ℕ) → allUpTo 0 bs ≡ true → getD bs i 0 ≡ 0
+unfolding allUpTo
+all-zero [] i e = refl
+all-zero (b ∷ bs) zero e = omega (arith, leb-true b 0 (both _ _ e .0))
+all-zero (b ∷ bs) (suc i) e = all-zero bs i (both _ _ e .1)
+
+live-not-free : (s : Slot) (k : ObjectKind) → foundIn s ≡ Live k → slotByte s ≡ 0 → ⊥
+live-not-free Free k e z = let y : _≡_ {A = ℕ} 0 1 = cc in omega arith
+live-not-free Get k e z = omega arith
+live-not-free Set k e z = omega arith
+
+pub live-below : (gets sets : ℕ) (features : List ℕ) (m : Member) (id : ℕ) (k : ObjectKind)
+    → SoundMember gets sets features m → lookupOf m id ≡ Live k → id < gets + sets
+unfolding lookupOf
+live-below gets sets features m id k s e =
+    let n = gets + sets in
+    by-cases (leb n id)
+    (λ t.
+    let h = leb-true n id t in
+    let j : n + (id - n) ≡ id = omega arith in
+    let bs = map objectByte (m .objects) in
+    let z : getD bs id 0 ≡ 0 = rw (← j) (sym (getD-drop n bs (id - n) 0) ∙ all-zero (drop n bs) (id - n) (s .below)) in
+    absurd (live-not-free (getD (m .objects) id free .slot) k e (sym (List·getD-map objectByte (m .objects) id free) ∙ z)))
+    (λ t. leb-false n id t)

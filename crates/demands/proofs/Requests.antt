@@ -1,0 +1,102 @@
+-- What the bytes of a request ask: the fields that went into it come out again. Assumes nothing.
+use mathlib.Core.Path.{_≡_, refl, _∙_}
+use mathlib.Core.Bool.{true}
+use mathlib.Core.List.{List, _∷_, _++_}
+use Prim.Native.Nat.{ℕ, _+_, _-_, _%_, _^_, _≤_, _<_}
+use native.Mathlib.Omega.{arith}
+use lib.ListN.{length, drop, replicate}
+use borrow.Author.Tests.{lt-ltb, eq-eqb}
+use Rattle.theory.specs.Logic.{if_then_else_, unless_answer_then_, _and_, _or_, within}
+use Rattle.theory.proofs.Tests.{and-i, inside, within-high}
+use Rattle.wire.specs.Le.{le, bytes, number}
+use Rattle.wire.proofs.Le.{le-bytes}
+use Rattle.protocol.specs.Opcodes.{largest, opcodeRows, opcodeRow, supported, lengthFits, namesMember, bit}
+use Rattle.protocol.specs.declared.ReadOp.the-variants.{GetAll}
+use Rattle.protocol.specs.declared.ChangeOp.the-variants.{SetParts}
+use Rattle.frame.specs.declared.Ask.the-variants.{Read, Change}
+use Rattle.frame.specs.Frame.{opcodeOf, groupOf, targetOf}
+use Rattle.frame.specs.Fields.{idOf, objectValid, getIn, setIn, fieldsOf}
+use Rattle.frame.specs.Ask.{usable, reaches, framedOf, askOf}
+use Rattle.demands.specs.Requests.{request, objectHeader, getAll, setParts}
+
+-- ---- the frame ----
+
+module _ (op group m : ℕ) (d : List ℕ) where
+  pub length-request : length (request op group m d) ≡ 24 + length d
+  unfolding request bytes
+  length-request = omega arith
+
+  opcode-request : op < 256 ^ 2 → opcodeOf (request op group m d) ≡ op
+  unfolding request bytes number
+  opcode-request h = le-bytes 2 op h
+
+  group-request : group < 256 ^ 2 → groupOf (request op group m d) ≡ group
+  unfolding request bytes number
+  group-request h = le-bytes 2 group h
+
+  target-request : m < 256 ^ 8 → targetOf (request op group m d) ≡ m
+  unfolding request bytes number
+  target-request h = le-bytes 8 m h
+
+  data-request : drop 24 (request op group m d) ≡ d
+  unfolding request bytes
+  data-request = refl
+
+  -- a request is read as it was made
+  pub ask-request : (members ids inUse : ℕ) → op < 256 ^ 2 → group < 256 ^ 2 → m < 256 ^ 8 → length d ≤ largest
+      → askOf members ids inUse (request op group m d) ≡ framedOf members ids inUse group op m d
+  unfolding askOf unless_answer_then_
+  ask-request members ids inUse o g h l =
+      rw (length-request, inside 24 4096 (24 + length d) (omega arith) (omega arith))
+      (rw (opcode-request o, group-request g, target-request h, data-request))
+
+-- ---- the object header ----
+
+module _ (id : ℕ) (rest : List ℕ) (small : id < 256 ^ 4) where
+  id-read : idOf (objectHeader id ++ rest) ≡ id
+  unfolding objectHeader bytes number
+  id-read = le-bytes 4 id small
+
+  type-read : number 0 2 (objectHeader id ++ rest) ≡ 0
+  unfolding objectHeader number le
+  type-read = refl
+
+  object-read : (ids : ℕ) → id < ids → objectValid ids (objectHeader id ++ rest) ≡ true
+  unfolding objectValid _and_
+  object-read ids h = rw (type-read, id-read, lt-ltb id ids h)
+
+-- a list of parts within the largest data is as long as a parts set may be
+long-header : (id : ℕ) (list : List ℕ) → length (objectHeader id ++ list) ≡ 8 + length list
+unfolding objectHeader bytes
+long-header id list = omega arith
+
+set-fits : (id : ℕ) (list : List ℕ) → 8 + length list ≤ largest → lengthFits 0x10 (length (objectHeader id ++ list)) ≡ true
+unfolding lengthFits opcodeRow opcodeRows
+set-fits id list h =
+    let e : (8 + length list - 8) % 1 ≡ 0 = omega arith in
+    rw long-header (and-i _ _ (inside 8 largest (8 + length list) (omega arith) h) (eq-eqb _ 0 e))
+
+-- ---- the two commands of a round trip ----
+
+-- a member m of a card, an id that is valid, and a card that has the opcode in use
+module _ (members ids inUse m id : ℕ) (few : members ≤ 16) (here : within 1 members m ≡ true) (valid : id < ids) (most : ids ≤ 16) where
+  in-range : m < 256 ^ 8
+  in-range = omega (arith, within-high 1 members m here)
+
+  pub get-all-asked : bit inUse 0x0f ≡ true → askOf members ids inUse (getAll m id) ≡ Read m (GetAll id)
+  unfolding getAll framedOf usable supported opcodeRow opcodeRows reaches namesMember lengthFits fieldsOf getIn
+      objectHeader bytes within _and_ _or_ if_then_else_ unless_answer_then_
+  get-all-asked u =
+      let rest : List ℕ = 1 ∷ replicate 7 0 in
+      let small : id < 256 ^ 4 = omega arith in
+      ask-request 0x0f 1 m (objectHeader id ++ rest) members ids inUse (omega arith) (omega arith) in-range (omega arith)
+      ∙ rw (u, here, object-read id rest small ids valid, id-read id rest small)
+
+  pub set-parts-asked : (list : List ℕ) → 8 + length list ≤ largest → bit inUse 0x10 ≡ true
+      → askOf members ids inUse (setParts m id list) ≡ Change m (SetParts id)
+  unfolding setParts framedOf usable supported opcodeRow opcodeRows reaches namesMember fieldsOf setIn
+      within _and_ _or_ if_then_else_ unless_answer_then_
+  set-parts-asked list h u =
+      let small : id < 256 ^ 4 = omega arith in
+      ask-request 0x10 1 m (objectHeader id ++ list) members ids inUse (omega arith) (omega arith) in-range (rw long-header h)
+      ∙ rw (u, here, set-fits id list h, object-read id list small ids valid, id-read id list small)

@@ -1,0 +1,79 @@
+-- Every call on a sound card leaves a sound card. Assumes nothing.
+use mathlib.Core.Path.{_≡_, refl, _∙_}
+use mathlib.Core.Bool.{true}
+use mathlib.Core.List.{List}
+use Prim.Native.Nat.{ℕ, _+_}
+use native.Mathlib.Omega.{arith}
+use lib.ListN.{length}
+use Rattle.theory.proofs.Tests.{inside, within-low, if-cases, unless-cases}
+use Rattle.protocol.specs.declared.EventAnswer.{EventAnswer}
+use Rattle.parts.proofs.Kept.{stored-length, stored-features}
+use Rattle.member.specs.Member.{freshOf}
+use Rattle.member.proofs.Sound.{sound-fresh, sound-values}
+use Rattle.card.specs.Layout.{setupOf, inUseOf, isMember, memberIn}
+use Rattle.card.specs.Events.{resetMember, resetCard, ifDone, storeIn, store}
+use Rattle.card.proofs.LayoutLaws.{features-long}
+use Rattle.card.proofs.SoundLaws.{Sound, SoundIn, sound-of, is-sound, numbers-sound, sound-long, sound-member-in, sound-with-member, sound-with-use, sound-fresh-card}
+use Rattle.frame.specs.declared.Ask.{Ask}
+use Rattle.frame.specs.declared.Ask.the-variants.{Refused, QueryList, UseList, Read, Change}
+use Rattle.frame.proofs.Asked.{Facts, asked}
+use Rattle.admin.specs.Command.{askIn, Effect, perform, conclude, respond}
+use Rattle.demands.specs.Calls.{Call, command, memberReset, cardReset, cardStore, step}
+use Rattle.demands.specs.Claims.{StaysSound}
+use Rattle.demands.proofs.Changes.{change-sound}
+
+module _ (c : List ℕ) (s : Sound c) where
+  -- the device features are 16 bytes
+  pub sixteen : length (setupOf c .features) ≡ 16
+  sixteen = features-long c (omega (arith, sound-long c s))
+
+  fresh-in : SoundIn c (freshOf (setupOf c .features))
+  fresh-in = sound-fresh _ _ (setupOf c .features) sixteen
+
+  perform-sound : (r : List ℕ) (a : Ask) → Facts (setupOf c .members) (setupOf c .gets + setupOf c .sets) r a → Sound (perform c r a .card)
+  unfolding perform
+  perform-sound r (Refused a) f = s
+  perform-sound r QueryList f = s
+  perform-sound r (UseList mask) f = sound-with-use c mask s (f .1)
+  perform-sound r (Read m op) f = s
+  perform-sound r (Change m op) f =
+      let x = sound-member-in c s m (inside 1 _ m (f .0 .low) (f .0 .high)) in
+      sound-with-member c m _ s (f .0 .low) (change-sound (setupOf c .queues) _ _ (setupOf c .features) (memberIn c m) x _ op (f .1))
+
+  conclude-sound : (room : ℕ) (e : Effect) → Sound (e .card) → Sound (conclude c room e .0)
+  unfolding conclude
+  conclude-sound room e h = if-cases Sound _ _ _ (λ t. h) (λ t. s)
+
+  store-sound : (m t k : ℕ) (value : List ℕ) → isMember c m ≡ true → Sound (storeIn c m t k value .1)
+  unfolding storeIn ifDone
+  store-sound m t k value h =
+      let x = memberIn c m in
+      let sx = sound-member-in c s m h in
+      let n = stored-length (setupOf c .queues) t k value (x .values) in
+      let f = stored-features (setupOf c .queues) t k value (x .values) in
+      if-cases Sound _ _ _ (λ t. sound-with-member c m _ s (within-low _ _ m h)
+      (sound-values _ _ _ x sx _ (n ∙ sx .shaped .long) f)) (λ t. s)
+
+-- the card after an event is sound
+abbrev Leaves : EventAnswer × List ℕ → Type 0
+Leaves y = Sound (y .1)
+
+step-sound : (c : List ℕ) (x : Call) → Sound c → Sound (step c x .0)
+unfolding step respond askIn resetMember resetCard store
+step-sound c (command r room) s =
+    unless-cases (λ (y : List ℕ × List ℕ). Sound (y .0)) _ _ _ (λ t. s)
+    (λ t. conclude-sound c s room _ (perform-sound c s r _ (asked _ _ r (inUseOf c) _ refl)))
+step-sound c (memberReset m) s =
+    unless-cases Leaves _ _ _ (λ t. s) λ t.
+    unless-cases Leaves _ _ _ (λ t. s) λ h.
+    sound-with-member c m _ s (within-low _ _ m h) (fresh-in c s)
+step-sound c cardReset s =
+    unless-cases Leaves _ _ _ (λ t. s) λ t.
+    sound-fresh-card (setupOf c) (numbers-sound _ (s .numbers)) (sixteen c s)
+step-sound c (cardStore m t k value) s =
+    unless-cases Leaves _ _ _ (λ t. s) λ u.
+    unless-cases Leaves _ _ _ (λ t. s) λ h.
+    store-sound c s m t _ value h
+
+pub stays-sound : StaysSound
+stays-sound c x e = is-sound _ (step-sound c x (sound-of c e))
