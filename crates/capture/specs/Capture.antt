@@ -1,9 +1,11 @@
 -- The headers and the parts of a member as bytes: document 01, "Metadata" and "Parts get". Assumes nothing.
 use mathlib.Core.Bool.{Bool, true}
 use mathlib.Core.List.{List, [], _++_}
-use Prim.Native.Nat.{ℕ}
+use mathlib.Core.Path.{_≡_}
+use Prim.Native.Nat.{ℕ, _+_}
+use lib.ListN.{length}
 use Rattle.theory.specs.Logic.{if_then_else_, _and_}
-use Rattle.theory.specs.Bytes.{part}
+use Rattle.theory.specs.Bytes.{part, put}
 use Rattle.theory.specs.Items.{itemsFrom}
 use Rattle.inventory.specs.Inventory.{rowAt, rowCount, offsetOf, present}
 use Rattle.inventory.specs.Header.{headerOf}
@@ -23,6 +25,11 @@ headersOf queues = itemsFrom (headerItem queues) rowCount 0
 -- a part: the header and the value
 unfoldable pub partAt : List ℕ → ℕ → List ℕ
 partAt values i = headerOf (rowAt i) ++ part (offsetOf i) (rowAt i .size) values
+
+-- an item written at a place of a buffer, and the place after it
+pub record Wrote (item : List ℕ) (at : ℕ) (before after : List ℕ) (next : ℕ) : Type 0 where
+  pub buffer : after ≡ put at item before
+  pub place : next ≡ at + length item
 
 -- all parts, or those that the asked list names
 unfoldable pub asks : Selection → List ℕ → ℕ → Bool

@@ -1,0 +1,134 @@
+-- How long the headers and the parts are that are written. Assumes nothing.
+use mathlib.Core.Path.{_≡_, refl, sym, _∙_}
+use mathlib.Core.Bool.{Bool, true, false}
+use mathlib.Core.List.{List, []}
+use Prim.Native.Nat.{ℕ, zero, suc, _+_, _*_, _-_, _≤_, _<_}
+use native.Mathlib.Nat.{zero-add, sub-zero}
+use native.Mathlib.Omega.{arith}
+use borrow.Author.Tests.{eqb-true}
+use mir.Syntax.{w64}
+use mir.Val.{Fits}
+use lib.Dec.{eqb}
+use lib.ListN.{length, length-append}
+use Rattle.theory.specs.Logic.{if_then_else_, _and_}
+use Rattle.theory.specs.Items.{itemsFrom}
+use Rattle.theory.proofs.Tests.{by-cases}
+use Rattle.theory.proofs.Bytes.{length-part}
+use Rattle.inventory.specs.Inventory.{rowAt, rowCount, present, offsetOf, valuesSize, partCount, partsSize}
+use Rattle.inventory.specs.Header.{headerOf, headerSize}
+use Rattle.inventory.proofs.Rules.{table, every-count, row-within, size-below, length-header}
+use Rattle.capture.specs.declared.Selection.{Selection}
+use Rattle.capture.specs.declared.Selection.the-variants.{All, Asked}
+use Rattle.capture.specs.Capture.{headerItem, headersOf, partAt, asks, partItem, partsWritten, captureOf}
+
+-- ---- a sum of k numbers from the i-th on ----
+
+unfoldable pub sumFrom : (ℕ → ℕ) → ℕ → ℕ → ℕ
+sumFrom f zero i = 0
+sumFrom f (suc k) i = f i + sumFrom f k (i + 1)
+
+pub sum-step : (f : ℕ → ℕ) (n i : ℕ) → i < n → sumFrom f (n - i) i ≡ f i + sumFrom f (n - (i + 1)) (i + 1)
+unfolding sumFrom
+sum-step f n i h = let e : n - i ≡ suc (n - (i + 1)) = omega arith in rw e
+
+pub sum-end : (f : ℕ → ℕ) (n i : ℕ) → n ≤ i → sumFrom f (n - i) i ≡ 0
+unfolding sumFrom
+sum-end f n i h = let e : n - i ≡ 0 = omega arith in rw e
+
+-- items are as long as their lengths together
+pub length-items : (item : ℕ → List ℕ) (f : ℕ → ℕ) (n k i : ℕ) → i + k ≡ n → ((j : ℕ) → j < n → length (item j) ≡ f j)
+    → length (itemsFrom item k i) ≡ sumFrom f k i
+unfolding sumFrom itemsFrom
+length-items item f n zero i e l = refl
+length-items item f n (suc k) i e l =
+    rw (length-append, l i (omega arith), length-items item f n k (i + 1) (omega arith) l)
+
+-- ---- one item ----
+
+pub part-length : (v : List ℕ) (i : ℕ) → i < rowCount → length v ≡ valuesSize → length (partAt v i) ≡ headerSize + rowAt i .size
+unfolding partAt
+part-length v i h e =
+    let w = row-within i h in
+    rw (length-append, length-header, length-part (offsetOf i) (rowAt i .size) v (omega arith))
+
+-- an item that is written if a test holds
+abbrev chosenSize : Bool → ℕ → ℕ
+chosenSize t n = if t then n else 0
+
+length-if : (t : Bool) (x : List ℕ) (n : ℕ) → length x ≡ n → length (if t then x else []) ≡ chosenSize t n
+unfolding if_then_else_
+length-if true x n e = e
+length-if false x n e = refl
+
+abbrev pub itemSize : Selection → ℕ → List ℕ → ℕ → ℕ
+itemSize selection q list i = chosenSize (present q (rowAt i) and asks selection list i) (headerSize + rowAt i .size)
+
+pub size-most : (selection : Selection) (q : ℕ) (list : List ℕ) (i : ℕ) → i < rowCount → itemSize selection q list i ≤ 272
+unfolding if_then_else_
+size-most selection q list i h =
+    by-cases (present q (rowAt i) and asks selection list i)
+    (λ e. rw e (omega (arith, size-below i h)))
+    (λ e. rw e (omega arith))
+
+abbrev headerBytes : ℕ → ℕ → ℕ
+headerBytes q i = chosenSize (present q (rowAt i)) headerSize
+
+-- numbers that the code adds
+module _ (i size : ℕ) (h : i < rowCount) (s : size ≡ rowAt i .size) where
+  pub size-fits : Fits w64 (headerSize + size)
+  size-fits = record { fits = omega (arith, size-below i h) }
+
+  pub size-whole : headerSize + size ≡ headerSize + rowAt i .size
+  size-whole = rw s
+
+  pub end-fits : (from : ℕ) → from ≡ offsetOf i → Fits w64 (from + size)
+  end-fits from f = record { fits = omega (arith, row-within i h) }
+
+  pub end-within : (from : ℕ) (v : List ℕ) → from ≡ offsetOf i → length v ≡ valuesSize → from + size ≤ length v
+  end-within from v f e = omega (arith, row-within i h)
+
+-- ---- all items ----
+
+pub parts-length : (selection : Selection) (q : ℕ) (list v : List ℕ) → length v ≡ valuesSize
+    → length (partsWritten selection q list v) ≡ sumFrom (itemSize selection q list) rowCount 0
+unfolding partsWritten partItem
+parts-length selection q list v e =
+    length-items _ (itemSize selection q list) rowCount rowCount 0 refl (λ j h. length-if _ _ _ (part-length v j h e))
+
+-- whatever the list is
+pub all-parts : (q : ℕ) (list v : List ℕ) → partsWritten All q list v ≡ captureOf q v
+unfolding partsWritten partItem asks
+all-parts q list v = refl
+
+-- "the size is 157 + 72Q", "8 + 16 for each part", and there are 7 + 2Q
+pub capture-length : (q : ℕ) (v : List ℕ) → q < 5 → length v ≡ valuesSize → length (captureOf q v) ≡ partsSize q
+unfolding table sumFrom asks
+capture-length q v h e =
+    parts-length All q [] v e
+    ∙ eqb-true _ _ (every-count (λ q. eqb (sumFrom (itemSize All q []) rowCount 0) (partsSize q)) refl q h)
+
+pub headers-length : (q : ℕ) → q < 5 → length (headersOf q) ≡ headerSize * partCount q
+unfolding table sumFrom headersOf headerItem
+headers-length q h =
+    length-items _ (headerBytes q) rowCount rowCount 0 refl (λ j l. length-if (present q (rowAt j)) (headerOf (rowAt j)) headerSize (length-header (rowAt j)))
+    ∙ eqb-true _ _ (every-count (λ q. eqb (sumFrom (headerBytes q) rowCount 0) (headerSize * partCount q)) refl q h)
+
+-- a loop that adds them up: n is the sum up to the i-th
+pub sum-start : (f : ℕ → ℕ) (total : ℕ) → 0 + sumFrom f (total - 0) 0 ≡ sumFrom f total 0
+sum-start f total = rw (zero-add, sub-zero)
+
+module _ (f : ℕ → ℕ) (total n i : ℕ) (e : n + sumFrom f (total - i) i ≡ sumFrom f total 0) where
+  pub sum-on : (x : ℕ) → i < total → x ≡ f i → n + x + sumFrom f (total - (i + 1)) (i + 1) ≡ sumFrom f total 0
+  sum-on x h d = omega (arith, sum-step f total i h)
+
+  pub summed : total ≤ i → n ≡ sumFrom f total 0
+  summed h = omega (arith, sum-end f total i h)
+
+-- by the selection
+module _ (selection : Selection) (q r : ℕ) (list v : List ℕ) (e : length v ≡ valuesSize) where
+  pub bytes-all : q < 5 → selection ≡ All → r ≡ partsSize q → r ≡ length (partsWritten selection q list v)
+  bytes-all h s p = rw (s, all-parts) (p ∙ sym (capture-length q v h e))
+
+  pub bytes-asked : selection ≡ Asked → ((v : List ℕ) → length v ≡ valuesSize → r ≡ length (partsWritten Asked q list v))
+      → r ≡ length (partsWritten selection q list v)
+  bytes-asked s p = rw s (p v e)
