@@ -1,13 +1,12 @@
 // A list of parts: the walk over it, the rules of step 10, and what an accepted list sets.
 ghost use mathlib.Core.Path.{_≡_};
 ghost use mathlib.Core.Bool.{true, not};
-ghost use Prim.Native.Nat.{_+_, _%_, _≤_, _<_};
+ghost use Prim.Native.Nat.{_+_, _%_, _≤_};
 ghost use lib.Dec.{eqb, ltb};
 ghost use lib.ListN.{length};
 ghost use Rattle.theory.specs.Logic.{_and_, _or_};
-ghost use Rattle.theory.specs.Bytes.{same, put};
-ghost use Rattle.wire.specs.Le.{number};
-ghost use Rattle.inventory.specs.Inventory.{selectorOf, placeOf, onPlace, rowAt, offsetOf};
+ghost use Rattle.theory.specs.Bytes.{same};
+ghost use Rattle.inventory.specs.Inventory.{rowAt, deviceFeatures, valuesSize, placeOf, onPlace};
 ghost use Rattle.parts.specs.List.{valueSize, stepAt, partsOf, partWith};
 ghost use Rattle.parts.specs.declared.ListForm.the-variants.{Parts};
 ghost use Rattle.parts.specs.Rules.{known, obeys, whole, every, among, repeated, causeOf, isAccepted, askedOf};
@@ -183,7 +182,7 @@ fn is_length_right(queues: u8, t: u16, selector: u64, n: usize) -> bool
 
 // Whether a value is the features, where the part is the device features.
 fn is_features(t: u16, value: &[u8], features: &[u8]) -> bool
-    ensures { λ r. ⌜ r ≡ not (eqb t 0x100) or same (now (value .entry)) (now (features .entry)) ⌝ }
+    ensures { λ r. ⌜ r ≡ not (eqb t deviceFeatures) or same (now (value .entry)) (now (features .entry)) ⌝ }
 {
     if t != 0x100 {
         return true;
@@ -314,6 +313,7 @@ pub fn check_list(queues: u8, features: &[u8], list: &[u8]) -> Cause
     Cause::Accepted
 }
 
+// Whether nothing is said against it.
 pub fn is_accepted(c: Cause) -> bool
     ensures { λ r. ⌜ r ≡ isAccepted c ⌝ }
 {
@@ -327,7 +327,7 @@ pub fn is_accepted(c: Cause) -> bool
     }
 }
 
-// Whether a list of headers can be asked for.
+// Whether a list of headers can be asked for. No features are compared, so the list stands in for them.
 pub fn check_asked(queues: u8, list: &[u8]) -> bool
     ensures { λ r. ⌜ r ≡ askedOf queues (now (list .entry)) ⌝ }
 {
@@ -342,14 +342,17 @@ pub fn check_asked(queues: u8, list: &[u8]) -> bool
 
 // ---- what a card store and an accepted list set ----
 
-// Whether a value of n bytes can be stored. Row 0 has the device features, which are never set.
+// The row of the device features, which are never set.
+const FEATURES_ROW: usize = 0;
+
+// Whether a value of n bytes can be stored.
 pub fn store_answer(queues: u8, t: u16, selector: u64, n: usize) -> EventAnswer
     ensures { λ r. ⌜ r ≡ storable queues t selector n ⌝ }
 {
     let Place::At(i) = inventory::place_of(queues, t, selector) else {
         return EventAnswer::NoPart;
     };
-    if i == 0 {
+    if i == FEATURES_ROW {
         return EventAnswer::NoPart;
     }
     if n != inventory::size_of(i) {
@@ -360,13 +363,13 @@ pub fn store_answer(queues: u8, t: u16, selector: u64, n: usize) -> EventAnswer
 
 // A value, stored where it can be.
 pub fn store_part(values: &mut [u8], queues: u8, t: u16, selector: u64, value: &[u8])
-    requires { ⌜ length (now values) ≡ 205 ⌝ }
-    ensures { λ r. ⌜ now (values .exit) ≡ stored queues t selector (now (value .entry)) (now (values .entry)) ⌝ }
+    requires { ⌜ length (now values) ≡ valuesSize ⌝ }
+    ensures { λ _. ⌜ now (values .exit) ≡ stored queues t selector (now (value .entry)) (now (values .entry)) ⌝ }
 {
     let Place::At(i) = inventory::place_of(queues, t, selector) else {
         return;
     };
-    if i == 0 {
+    if i == FEATURES_ROW {
         return;
     }
     if value.len() != inventory::size_of(i) {
@@ -377,8 +380,8 @@ pub fn store_part(values: &mut [u8], queues: u8, t: u16, selector: u64, value: &
 
 // The values of an accepted list, part by part.
 pub fn apply(values: &mut [u8], queues: u8, list: &[u8])
-    requires { ⌜ length (now values) ≡ 205 ⌝ }
-    ensures { λ r. ⌜ now (values .exit) ≡ applied queues (partsOf Parts (now (list .entry))) (now (values .entry)) ⌝ }
+    requires { ⌜ length (now values) ≡ valuesSize ⌝ }
+    ensures { λ _. ⌜ now (values .exit) ≡ applied queues (partsOf Parts (now (list .entry))) (now (values .entry)) ⌝ }
 {
     let mut at = 0;
     loop {
