@@ -1,7 +1,19 @@
 // What each command does to one member: steps 8 to 10 of document 01's table of statuses.
+ghost use mathlib.Core.Path.{_≡_};
+ghost use Rattle.operations.specs.Changes.{kindNumber, limited, createOf, modifyOf, destroyOf, setPartsOf, changeOf};
+ghost use Rattle.operations.specs.Changes.{refuse as refused, done as accepted};
+ghost use Rattle.operations.specs.Reads.{refuseRead, found, queryOf, metadataOf, throughGet, selectedOf, readOf};
+ghost use Rattle.member.specs.Member.{featuresIn, withMode};
+ghost use Rattle.parts.specs.Rules.{causeOf, isAccepted};
+use member::Found;
 use member::Member;
+use member::Slot;
 use protocol::Answer;
+use protocol::ChangeOp;
+use protocol::Metadata;
+use protocol::Mode;
 use protocol::ObjectKind;
+use protocol::ReadOp;
 
 // What a reply holds from byte 8.
 pub enum Body {
@@ -23,4 +35,211 @@ pub struct Reading {
 pub struct Changed {
     pub answer: Answer,
     pub member: Member,
+}
+
+pub fn kind_number(kind: ObjectKind) -> u8
+    ensures { λ r. ⌜ r ≡ kindNumber kind ⌝ }
+{
+    match kind {
+        ObjectKind::Get => 0,
+        ObjectKind::Set => 1,
+    }
+}
+
+// ---- commands that read ----
+
+fn refuse_read(answer: Answer) -> Reading
+    ensures { λ r. ⌜ r ≡ refuseRead answer ⌝ }
+{
+    Reading {
+        answer,
+        body: Body::Nothing,
+    }
+}
+
+fn answer_with(body: Body) -> Reading
+    ensures { λ r. ⌜ r ≡ found body ⌝ }
+{
+    Reading {
+        answer: Answer::Done,
+        body,
+    }
+}
+
+fn query(m: Member, id: usize) -> Reading
+    ensures { λ r. ⌜ r ≡ queryOf id m ⌝ }
+{
+    let Found::Live(kind) = member::lookup(m, id) else {
+        return refuse_read(Answer::NotLive);
+    };
+    answer_with(Body::Kind(kind))
+}
+
+fn metadata(what: Metadata, queues: u8) -> Body
+    ensures { λ r. ⌜ r ≡ metadataOf queues what ⌝ }
+{
+    match what {
+        Metadata::Size => Body::Number(inventory::parts_size(queues)),
+        Metadata::Count => Body::Number(inventory::part_count(queues)),
+        Metadata::List => Body::Headers,
+    }
+}
+
+fn get_metadata(m: Member, id: usize, what: Metadata, queues: u8) -> Reading
+    ensures { λ r. ⌜ r ≡ throughGet id m (found (metadataOf queues what)) ⌝ }
+{
+    let Found::Live(kind) = member::lookup(m, id) else {
+        return refuse_read(Answer::NotLive);
+    };
+    if kind_number(kind) != 0 {
+        return refuse_read(Answer::WrongKind);
+    }
+    let body = metadata(what, queues);
+    answer_with(body)
+}
+
+fn get_selected(m: Member, id: usize, queues: u8, list: &[u8]) -> Reading
+    ensures { λ r. ⌜ r ≡ throughGet id m (selectedOf queues (now (list .entry))) ⌝ }
+{
+    let Found::Live(kind) = member::lookup(m, id) else {
+        return refuse_read(Answer::NotLive);
+    };
+    if kind_number(kind) != 0 {
+        return refuse_read(Answer::WrongKind);
+    }
+    if !parts::check_asked(queues, list) {
+        return refuse_read(Answer::BadList);
+    }
+    answer_with(Body::Selected)
+}
+
+fn get_all(m: Member, id: usize) -> Reading
+    ensures { λ r. ⌜ r ≡ throughGet id m (found Body.All) ⌝ }
+{
+    let Found::Live(kind) = member::lookup(m, id) else {
+        return refuse_read(Answer::NotLive);
+    };
+    if kind_number(kind) != 0 {
+        return refuse_read(Answer::WrongKind);
+    }
+    answer_with(Body::All)
+}
+
+// A command that reads; list holds the headers asked for.
+pub fn read(m: Member, op: ReadOp, queues: u8, list: &[u8]) -> Reading
+    ensures { λ r. ⌜ r ≡ readOf queues (now (list .entry)) op m ⌝ }
+{
+    match op {
+        ReadOp::QueryObject(id) => query(m, id),
+        ReadOp::GetMetadata(id, what) => get_metadata(m, id, what, queues),
+        ReadOp::GetSelected(id) => get_selected(m, id, queues, list),
+        ReadOp::GetAll(id) => get_all(m, id),
+    }
+}
+
+// ---- commands that change the member ----
+
+fn refuse(m: Member, answer: Answer) -> Changed
+    ensures { λ r. ⌜ r ≡ refused m answer ⌝ }
+{
+    Changed { answer, member: m }
+}
+
+fn done(m: Member) -> Changed
+    ensures { λ r. ⌜ r ≡ accepted m ⌝ }
+{
+    Changed {
+        answer: Answer::Done,
+        member: m,
+    }
+}
+
+// n, if it has room for its objects; else m.
+fn if_room(m: Member, n: Member, gets: u8, sets: u8) -> Changed
+    ensures { λ r. ⌜ r ≡ limited gets sets m n ⌝ }
+{
+    if !member::has_room(n, gets, sets) {
+        return refuse(m, Answer::NoRoom);
+    }
+    done(n)
+}
+
+fn create(m: Member, id: usize, kind: ObjectKind, gets: u8, sets: u8) -> Changed
+    ensures { λ r. ⌜ r ≡ createOf gets sets id kind m ⌝ }
+{
+    let Found::Nothing = member::lookup(m, id) else {
+        return refuse(m, Answer::Exists);
+    };
+    let n = member::put_object(m, id, member::slot_for(kind));
+    if_room(m, n, gets, sets)
+}
+
+fn modify(m: Member, id: usize, kind: ObjectKind, gets: u8, sets: u8) -> Changed
+    ensures { λ r. ⌜ r ≡ modifyOf gets sets id kind m ⌝ }
+{
+    let Found::Live(_) = member::lookup(m, id) else {
+        return refuse(m, Answer::NotLive);
+    };
+    let n = member::put_object(m, id, member::slot_for(kind));
+    if_room(m, n, gets, sets)
+}
+
+fn destroy(m: Member, id: usize) -> Changed
+    ensures { λ r. ⌜ r ≡ destroyOf id m ⌝ }
+{
+    let Found::Live(_) = member::lookup(m, id) else {
+        return refuse(m, Answer::NotLive);
+    };
+    done(member::put_object(m, id, Slot::Free))
+}
+
+fn set_mode(m: Member, mode: Mode) -> Changed
+    ensures { λ r. ⌜ r ≡ accepted (withMode m mode) ⌝ }
+{
+    match mode {
+        Mode::Running => done(m.resume()),
+        Mode::Stopped => done(m.stop()),
+    }
+}
+
+// Whether the member accepts this list.
+fn accepts(m: Member, queues: u8, list: &[u8]) -> bool
+    ensures { λ r. ⌜ r ≡ isAccepted (causeOf queues (featuresIn m) (now (list .entry))) ⌝ }
+{
+    let values = m.values;
+    let cause = parts::check_list(queues, &values[0..16], list);
+    parts::is_accepted(cause)
+}
+
+// Steps 8, 9 and 10 of parts set; all or nothing.
+fn set_parts(m: Member, id: usize, queues: u8, list: &[u8]) -> Changed
+    ensures { λ r. ⌜ r ≡ setPartsOf queues id (now (list .entry)) m ⌝ }
+{
+    let Found::Live(kind) = member::lookup(m, id) else {
+        return refuse(m, Answer::NotLive);
+    };
+    if kind_number(kind) != 1 {
+        return refuse(m, Answer::WrongKind);
+    }
+    let mode = m.mode;
+    if member::mode_byte(mode) != 1 {
+        return refuse(m, Answer::Running);
+    }
+    if !accepts(m, queues, list) {
+        return refuse(m, Answer::BadList);
+    }
+    done(m.set_parts(queues, list))
+}
+
+// A command that changes the member; list holds the parts given.
+pub fn change(m: Member, op: ChangeOp, queues: u8, gets: u8, sets: u8, list: &[u8]) -> Changed
+    ensures { λ r. ⌜ r ≡ changeOf queues gets sets (now (list .entry)) op m ⌝ }
+{
+    match op {
+        ChangeOp::Create(id, kind) => create(m, id, kind, gets, sets),
+        ChangeOp::Modify(id, kind) => modify(m, id, kind, gets, sets),
+        ChangeOp::Destroy(id) => destroy(m, id),
+        ChangeOp::SetParts(id) => set_parts(m, id, queues, list),
+        ChangeOp::SetMode(mode) => set_mode(m, mode),
+    }
 }
