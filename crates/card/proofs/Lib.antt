@@ -2,3 +2,4 @@ pub mod LayoutLaws
 pub mod SoundLaws
 pub mod ReadLaws
 pub mod WriteLaws
+pub mod EventLaws

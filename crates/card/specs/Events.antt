@@ -2,7 +2,7 @@
 -- that applies, nothing changed. Each gives its answer and the card after it. Assumes nothing.
 use mathlib.Core.Bool.{Bool}
 use mathlib.Core.List.{List}
-use Prim.Native.Nat.{ℕ}
+use Prim.Native.Nat.{ℕ, _≤_}
 use lib.Dec.{eqb}
 use lib.ListN.{length, replicate}
 use Rattle.theory.specs.Logic.{if_then_else_, unless_answer_then_, _and_}
@@ -16,13 +16,24 @@ use Rattle.card.specs.declared.Setup.{Setup}
 use Rattle.card.specs.Layout.{cardSize, setupOf, isMember, memberIn, withMember, freshCard}
 use Rattle.card.specs.Sound.{inNumbers, isSound}
 
+abbrev pub setupWith : ℕ → ℕ → ℕ → ℕ → List ℕ → Setup
+setupWith members queues gets sets features =
+    record { members = members; queues = queues; gets = gets; sets = sets; features = features }
+
+-- numbers that fit a setup's bytes
+pub record InBounds (members queues gets sets : ℕ) : Type 0 where
+  pub fewMembers : members ≤ 16
+  pub fewQueues : queues ≤ 4
+  pub fewGets : gets ≤ 8
+  pub fewSets : sets ≤ 8
+
 -- "Setup takes no card; refused, it gives a card of zeros": c is the buffer, of which the length alone counts. It is
 -- refused too where the features are not 16 bytes or the buffer is not one card long
 unfoldable pub setUp : List ℕ → ℕ → ℕ → ℕ → ℕ → List ℕ → EventAnswer × List ℕ
 setUp c members queues gets sets features =
     unless inNumbers members queues gets sets and eqb (length features) 16 and eqb (length c) (cardSize members)
     answer (BadSetup, replicate (length c) 0) then
-    (Done, freshCard (record { members = members; queues = queues; gets = gets; sets = sets; features = features }))
+    (Done, freshCard (setupWith members queues gets sets features))
 
 -- "Member reset makes that member fresh and changes nothing else"
 unfoldable pub resetMember : List ℕ → ℕ → EventAnswer × List ℕ

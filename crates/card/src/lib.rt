@@ -6,10 +6,13 @@ ghost use Prim.Native.Nat.{_+_, _^_, _≤_, _<_};
 ghost use lib.Dec.{eqb};
 ghost use lib.ListN.{length, replicate};
 ghost use Rattle.theory.specs.Logic.{_and_};
-ghost use Rattle.theory.specs.Bytes.{put};
+ghost use Rattle.theory.specs.Bytes.{put, repeat};
+ghost use Rattle.member.specs.Record.{recordOf};
+ghost use Rattle.member.specs.Member.{freshOf};
 ghost use Rattle.protocol.specs.Opcodes.{supportedOnly};
-ghost use Rattle.card.specs.Layout.{headSize, cardSize, cardBytes, setupOf, inUseOf, withInUse, isMember, recordAt, HasRecord, memberIn, withMember, freshHead};
+ghost use Rattle.card.specs.Layout.{headSize, cardSize, cardBytes, setupOf, inUseOf, withInUse, isMember, recordAt, HasRecord, memberIn, withMember, freshCard, freshHead};
 ghost use Rattle.card.specs.Sound.{inNumbers, soundSetup, soundAt, soundUpTo, isSound};
+ghost use Rattle.card.specs.Events.{InBounds, setupWith, setUp, resetMember, resetCard, storeIn, store};
 use member::Member;
 use protocol::EventAnswer;
 
@@ -230,4 +233,128 @@ fn write_head(card: &mut [u8], s: Setup)
     wire::copy(card, 0, &numbers);
     wire::copy(card, FEATURES_AT, &features);
     wire::write(card, IN_USE_AT, 8, FRESH_MASK);
+}
+
+// The records of n fresh members.
+fn write_members(card: &mut [u8], n: u64, features: [u8; 16])
+    requires { ⌜ length (now card) ≡ cardSize n ⌝ }
+    ensures { λ _. ⌜ now (card .exit) ≡ put headSize (repeat n (recordOf (freshOf features))) (now (card .entry)) ⌝ }
+{
+    let fresh = Member::fresh(features);
+    let mut m: u64 = 0;
+    while m < n {
+        m += 1;
+        save_member(card, m, fresh);
+    }
+}
+
+fn write_fresh(card: &mut [u8], s: Setup)
+    requires { ⌜ length (now card) ≡ cardSize (s .members) ⌝ }
+    ensures { λ _. ⌜ now (card .exit) ≡ freshCard s ⌝ }
+{
+    write_head(card, s);
+    let features = s.features;
+    write_members(card, wide(s.members), features);
+}
+
+// Whether a setup is in document 01's numbers, its features are 16 bytes, and the buffer is one card long.
+fn is_setup(members: u64, queues: u64, gets: u64, sets: u64, features: usize, buffer: usize) -> bool
+    ensures { λ r. ⌜ r ≡ inNumbers members queues gets sets and eqb features 16 and eqb buffer (cardSize members) ⌝ }
+{
+    if !in_numbers(members, queues, gets, sets) {
+        return false;
+    }
+    if features != 16 {
+        return false;
+    }
+    buffer == card_bytes(members)
+}
+
+fn setup_from(members: u64, queues: u64, gets: u64, sets: u64, features: &[u8]) -> Setup
+    requires { ⌜ InBounds members queues gets sets × (length (now features) ≡ 16) ⌝ }
+    ensures { λ r. ⌜ r ≡ setupWith members queues gets sets (now (features .entry)) ⌝ }
+{
+    let mut own = [0u8; 16];
+    wire::copy(&mut own, 0, features);
+    Setup {
+        members: members as u8,
+        queues: queues as u8,
+        gets: gets as u8,
+        sets: sets as u8,
+        features: own,
+    }
+}
+
+pub fn set_up(
+    card: &mut [u8],
+    members: u64,
+    queues: u64,
+    gets: u64,
+    sets: u64,
+    features: &[u8],
+) -> EventAnswer
+    ensures { λ r. ⌜ (r, now (card .exit)) ≡ setUp (now (card .entry)) members queues gets sets (now (features .entry)) ⌝ }
+{
+    if !is_setup(members, queues, gets, sets, features.len(), card.len()) {
+        clear(card);
+        return EventAnswer::BadSetup;
+    }
+    let s = setup_from(members, queues, gets, sets, features);
+    write_fresh(card, s);
+    EventAnswer::Done
+}
+
+// ---- events ----
+
+pub fn reset_member(card: &mut [u8], m: u64) -> EventAnswer
+    ensures { λ r. ⌜ (r, now (card .exit)) ≡ resetMember (now (card .entry)) m ⌝ }
+{
+    if !is_sound(card) {
+        return EventAnswer::NotSound;
+    }
+    if !is_member(card, m) {
+        return EventAnswer::NoMember;
+    }
+    let s = setup_of(card);
+    let features = s.features;
+    let x = load_member(card, m).reset(features);
+    save_member(card, m, x);
+    EventAnswer::Done
+}
+
+pub fn reset_card(card: &mut [u8]) -> EventAnswer
+    ensures { λ r. ⌜ (r, now (card .exit)) ≡ resetCard (now (card .entry)) ⌝ }
+{
+    if !is_sound(card) {
+        return EventAnswer::NotSound;
+    }
+    let s = setup_of(card);
+    write_fresh(card, s);
+    EventAnswer::Done
+}
+
+fn store_in(card: &mut [u8], m: u64, t: u16, selector: u64, value: &[u8]) -> EventAnswer
+    requires { ⌜ HasRecord (now card) m ⌝ }
+    ensures { λ r. ⌜ (r, now (card .exit)) ≡ storeIn (now (card .entry)) m t selector (now (value .entry)) ⌝ }
+{
+    let queues = card[1];
+    let a = parts::store_answer(queues, t, selector, value.len());
+    if protocol::event_number(a) != 0 {
+        return a;
+    }
+    let x = load_member(card, m).store(queues, t, selector, value);
+    save_member(card, m, x);
+    a
+}
+
+pub fn store(card: &mut [u8], m: u64, t: u16, selector: u64, value: &[u8]) -> EventAnswer
+    ensures { λ r. ⌜ (r, now (card .exit)) ≡ store (now (card .entry)) m t selector (now (value .entry)) ⌝ }
+{
+    if !is_sound(card) {
+        return EventAnswer::NotSound;
+    }
+    if !is_member(card, m) {
+        return EventAnswer::NoMember;
+    }
+    store_in(card, m, t, inventory::selector_of(t, selector), value)
 }

@@ -1,0 +1,11 @@
+use borrow.Author.Needs.{needs}
+use Rattle.theory.proofs.Ladder.{ladder}
+use Rattle.card.proofs.EventLaws.{bytes-tested}
+use Rattle.card.proofs.is_setup.Statement.{statement}
+use Rattle.card.proofs.is_setup.Tie as tie
+
+pub is-setup-spec : {M : Type 1} → statement M
+is-setup-spec =
+    tie.close
+    (tie.spec (λ c κs. search needs) (λ c. search ladder) (λ c. search ladder) (λ c κs. search needs)
+    (λ c. search (ladder, bytes-tested)))

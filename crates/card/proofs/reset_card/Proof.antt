@@ -1,0 +1,13 @@
+use borrow.Author.Needs.{needs}
+use Rattle.theory.proofs.Ladder.{ladder}
+use Rattle.card.specs.Events.{resetCard}
+use Rattle.card.proofs.EventLaws.{told-long, told-size, card-reset}
+use Rattle.card.proofs.reset_card.Statement.{statement}
+use Rattle.card.proofs.reset_card.Tie as tie
+
+pub reset-card-spec : {M : Type 1} → statement M
+unfolding resetCard
+reset-card-spec =
+    tie.close
+    (tie.spec (λ c κs. search needs) (λ c. search needs) (λ c. search ladder) (λ c κs. search (needs, told-long))
+    (λ c κs. search (needs, told-size)) (λ c. search needs) (λ c. search (ladder, card-reset)))

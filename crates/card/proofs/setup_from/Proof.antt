@@ -1,0 +1,10 @@
+use borrow.Author.Needs.{needs}
+use Rattle.card.proofs.EventLaws.{setup-made}
+use Rattle.card.proofs.setup_from.Statement.{statement}
+use Rattle.card.proofs.setup_from.Tie as tie
+
+pub setup-from-spec : {M : Type 1} → statement M
+setup-from-spec =
+    tie.close
+    (tie.spec (λ c. search needs) (λ c κs. search needs) (λ c. search needs) (λ c. search needs) (λ c. search needs)
+    (λ c. search needs) (λ c. search (needs, setup-made)))
