@@ -1,3 +1,4 @@
+-- `protocol::bit` meets its contract. Assumes nothing.
 use borrow.Author.Needs.{needs}
 use Rattle.protocol.specs.Opcodes.{bit}
 use Rattle.protocol.proofs.Masks.{past-word}

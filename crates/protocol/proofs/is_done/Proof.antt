@@ -1,3 +1,4 @@
+-- `protocol::is_done` meets its contract. Assumes nothing.
 use borrow.Author.Needs.{needs}
 use Rattle.protocol.proofs.is_done.Statement.{statement}
 use Rattle.protocol.proofs.is_done.Tie as tie

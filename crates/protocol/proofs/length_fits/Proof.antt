@@ -1,3 +1,4 @@
+-- `protocol::length_fits` meets its contract. Assumes nothing.
 use borrow.Author.Needs.{needs}
 use Rattle.protocol.specs.Opcodes.{opcodeRows}
 use Rattle.protocol.proofs.Rows.{supported-below, unit-positive, too-short, too-long, in-steps, entry-fits}

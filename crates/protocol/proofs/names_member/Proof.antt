@@ -1,3 +1,4 @@
+-- `protocol::names_member` meets its contract. Assumes nothing.
 use Rattle.theory.proofs.Ladder.{ladder}
 use Rattle.protocol.specs.Opcodes.{namesMember}
 use Rattle.protocol.proofs.names_member.Statement.{statement}

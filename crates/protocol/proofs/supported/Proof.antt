@@ -1,3 +1,4 @@
+-- `protocol::supported` meets its contract. Assumes nothing.
 use borrow.Author.Needs.{needs}
 use Rattle.protocol.specs.Opcodes.{opcodeRows}
 use Rattle.protocol.proofs.Rows.{supported-out, supported-in}

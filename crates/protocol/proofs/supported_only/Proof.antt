@@ -1,3 +1,4 @@
+-- `protocol::supported_only` meets its contract. Assumes nothing.
 use Rattle.theory.proofs.Ladder.{ladder}
 use Rattle.protocol.specs.Opcodes.{supportedOnly}
 use Rattle.protocol.proofs.supported_only.Statement.{statement}
