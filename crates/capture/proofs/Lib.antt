@@ -1,2 +1,4 @@
 pub mod Sizes
 pub mod Writes
+pub mod Rows
+pub mod RoundTrip
