@@ -109,11 +109,19 @@ module _ (members ids : ℕ) (r : List ℕ) where
         high = within-high _ _ _ w;
       }
 
+  -- the tests of steps 2 to 5 passed
+  passed : (inUse : ℕ) → within 24 4096 (length r) ≡ true → eqb (groupOf r) 1 ≡ true → usable inUse (opcodeOf r) ≡ true
+      → reaches members (opcodeOf r) (targetOf r) ≡ true
+      → Facts members ids r (fieldsOf ids (targetOf r) (opcodeOf r) (dataOf r))
+  unfolding usable
+  passed inUse l g u t =
+      fields-told (targetOf r) (opcodeOf r) (dataOf r) refl (both _ _ u .0) (named l g t)
+
   facts : (inUse : ℕ) → Facts members ids r (askOf members ids inUse r)
-  unfolding askOf framedOf usable
+  unfolding askOf framedOf
   facts inUse =
       guarded _ _ _ (λ l. guarded _ _ _ (λ g. guarded _ _ _ (λ u. guarded _ _ _ (λ t. guarded _ _ _
-      (λ _. fields-told (targetOf r) (opcodeOf r) (dataOf r) refl (both _ _ u .0) (named l g t))))))
+      (λ f. passed inUse (search) (search) (search) (search))))))
 
   pub asked : (inUse : ℕ) (a : Ask) → askOf members ids inUse r ≡ a → Facts members ids r a
   asked inUse a e = rw e at (facts inUse)

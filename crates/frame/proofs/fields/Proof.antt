@@ -1,3 +1,4 @@
+-- `frame::fields` meets its contract. Assumes nothing.
 use borrow.Author.Needs.{needs}
 use Rattle.frame.specs.Fields.{fieldsOf}
 use Rattle.theory.specs.Logic.{if_then_else_}

@@ -1,7 +1,7 @@
+-- `frame::framed` meets its contract. Assumes nothing.
 use borrow.Author.Needs.{needs}
-use Rattle.theory.proofs.Ladder.{ladder}
+use Rattle.theory.proofs.Ladder.{ladder, said-true}
 use Rattle.frame.specs.Ask.{framedOf}
-use Rattle.theory.proofs.Ladder.{said-true}
 use Rattle.frame.proofs.Steps.{usable-supported}
 use Rattle.frame.proofs.framed.Statement.{statement}
 use Rattle.frame.proofs.framed.Tie as tie

@@ -1,3 +1,4 @@
+-- `frame::get_in` meets its contract. Assumes nothing.
 use borrow.Author.Needs.{needs}
 use borrow.Author.Tests.{eq-eqb, ne-eqb}
 use Rattle.theory.proofs.Tests.{and-i}

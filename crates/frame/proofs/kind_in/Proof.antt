@@ -1,3 +1,4 @@
+-- `frame::kind_in` meets its contract. Assumes nothing.
 use borrow.Author.Needs.{needs}
 use Rattle.frame.proofs.Steps.{kind-set}
 use Rattle.frame.proofs.kind_in.Statement.{statement}

@@ -1,3 +1,4 @@
+-- `frame::metadata_is` meets its contract. Assumes nothing.
 use borrow.Author.Needs.{needs}
 use Rattle.frame.proofs.Steps.{metadata-list}
 use Rattle.frame.proofs.metadata_is.Statement.{statement}

@@ -1,3 +1,4 @@
+-- `frame::mode_is` meets its contract. Assumes nothing.
 use borrow.Author.Needs.{needs}
 use Rattle.frame.proofs.Steps.{mode-stopped}
 use Rattle.frame.proofs.mode_is.Statement.{statement}
