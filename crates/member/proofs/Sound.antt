@@ -14,13 +14,16 @@ use Rattle.theory.specs.Bytes.{part, same}
 use Rattle.theory.proofs.Tests.{both, and-i, and-assoc, same-true, eq-same}
 use Rattle.theory.proofs.Ladder.{ladder}
 use Rattle.inventory.specs.Inventory.{valuesSize}
+use Rattle.parts.specs.List.{PartList}
+use Rattle.parts.specs.Apply.{applied}
+use Rattle.parts.proofs.Kept.{stored-length, stored-features, applied-length, applied-features}
 use Rattle.protocol.specs.declared.Mode.{Mode}
 use Rattle.member.specs.declared.Slot.{Slot}
 use Rattle.member.specs.declared.Slot.the-variants.{Free}
 use Rattle.member.specs.declared.Member.{Member}
 use Rattle.member.specs.Record.{objectsSize, valuesAt, recordSize, objectByte, objectBytes, memberOf, recordOf}
 use Rattle.member.specs.Objects.{allUpTo, withinLimits, roomIn, withObject}
-use Rattle.member.specs.Member.{freshOf, featuresIn, withMode, withValues}
+use Rattle.member.specs.Member.{freshOf, featuresIn, withMode, withValues, withPart}
 use Rattle.member.specs.Sound.{soundRecord}
 use Rattle.member.proofs.Record.{Shaped, mode-low, objects-low, record-mode, record-objects, record-values, record-back, member-shaped, shaped-mode, shaped-values, shaped-object}
 use Rattle.member.proofs.Counts.{map-set, all-drop-set, all-drop, limits-set, none-live, none-counted}
@@ -96,6 +99,14 @@ module _ (gets sets : ℕ) (features : List ℕ) where
           room = rw map-set (limits-set gets sets _ id (s .room));
           kept = s .kept;
         }
+
+    -- one part stored, and the parts of a list: the device features are never set
+    pub sound-part : (queues t selector : ℕ) (value : List ℕ) → SoundMember (withPart queues m t selector value)
+    sound-part queues t selector value =
+        sound-values _ (stored-length queues t selector value (m .values) ∙ s .shaped .long) (stored-features queues t selector value (m .values))
+
+    pub sound-applied : (queues : ℕ) (ps : PartList) → SoundMember (withValues m (applied queues ps (m .values)))
+    sound-applied queues ps = sound-values _ (applied-length queues ps (m .values) ∙ s .shaped .long) (applied-features queues ps (m .values))
 
 -- ---- the test, one step after the other ----
 
