@@ -1,22 +1,20 @@
 -- The walk over a list of parts: where a found part lies, and the parts from a position as the step there and the
 -- parts after it. Assumes nothing.
-use mathlib.Core.Path.{_≡_, refl, ap, sym, _∙_}
+use mathlib.Core.Path.{_≡_, refl, ap}
 use mathlib.Core.Bool.{Bool, true, false}
 use mathlib.Core.List.{List}
 use Prim.Native.Nat.{ℕ, zero, suc, _+_, _-_, _<_, _≤_}
 use native.Mathlib.Omega.{arith}
 use lib.Dec.{leb, ltb}
-use lib.ListN.{length, getD, length-drop}
-use lib.Seq.{length-take-le}
+use lib.ListN.{length, getD}
 use borrow.Author.Tests.{lt-ltb, le-ltb, le-leb, leb-true}
 use Rattle.theory.specs.Logic.{unless_answer_then_}
-use Rattle.theory.specs.Bytes.{part as bytesAt}
 use Rattle.wire.specs.Le.{number}
 use Rattle.inventory.specs.Inventory.{selectorOf}
 use Rattle.parts.specs.declared.ListForm.{ListForm}
 use Rattle.parts.specs.declared.Step.{Step}
 use Rattle.parts.specs.declared.Step.the-variants as step
-use Rattle.parts.specs.List.{valueSize, headerAt, stepAt, Part, PartList, end, cut, part, partIn, onStep, atMost, partsFrom, partsOf}
+use Rattle.parts.specs.List.{valueSize, headerAt, stepAt, Part, end, cut, part, partIn, onStep, atMost, partsFrom}
 
 -- what a step says of the place where it stands
 module _ (form : ListForm) (l : List ℕ) (at : ℕ) where
@@ -62,10 +60,6 @@ step-part form l at {t} {f} {s} {start} {len} e = cases _ _ _ refl refl refl e
     cases true true false e₁ e₂ e₃ e = let z : _≡_ {A = ℕ} 0 1 = cc in absurd (omega arith)
     cases true false b₃ e₁ e₂ e₃ e = let z : _≡_ {A = ℕ} 0 1 = cc in absurd (omega arith)
     cases false b₂ b₃ e₁ e₂ e₃ e = let z : _≡_ {A = ℕ} 0 1 = cc in absurd (omega arith)
-
--- its value is as long as the header says
-pub value-length : {l : List ℕ} {at start len : ℕ} → Within l at start len → length (bytesAt start len l) ≡ len
-value-length {l} {at} {start} {len} w = length-take-le len _ (rw length-drop (omega (arith, w .ends)))
 
 -- where the bound is large enough one more says the same
 one-more : (form : ListForm) (n : ℕ) (l : List ℕ) (at : ℕ) → length l ≤ at + n → atMost form n l at ≡ atMost form (suc n) l at

@@ -1,6 +1,5 @@
 -- What a card store and an accepted list set: document 01, "The card and what it hears" and "The parts of a member".
 -- Assumes nothing.
-use mathlib.Core.Bool.{Bool}
 use mathlib.Core.List.{List}
 use Prim.Native.Nat.{ℕ}
 use lib.Dec.{ltb, eqb}
@@ -10,7 +9,7 @@ use Rattle.theory.specs.Bytes.{put}
 use Rattle.protocol.specs.declared.EventAnswer.{EventAnswer}
 use Rattle.protocol.specs.declared.EventAnswer.the-variants.{Done, NoPart, WrongLength}
 use Rattle.inventory.specs.Inventory.{rowAt, offsetOf, placeOf, onPlace}
-use Rattle.parts.specs.List.{Part, PartList, end, cut, part}
+use Rattle.parts.specs.List.{PartList, end, cut, part}
 
 -- whether a value of n bytes can be stored: "2 no such part (device features count so), 3 wrong length".
 -- Row 0 has the device features, which are never set

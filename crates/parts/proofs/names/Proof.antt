@@ -1,5 +1,5 @@
 -- `parts::names` meets its contract. The loop keeps that the parts that are left answer for the whole list. Assumes nothing.
-use mathlib.Core.Path.{_≡_, refl, sym}
+use mathlib.Core.Path.{_≡_, sym}
 use mathlib.Core.Bool.{false}
 use Prim.Native.Nat.{_-_}
 use borrow.Author.Needs.{needs}
