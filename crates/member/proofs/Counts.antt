@@ -1,6 +1,6 @@
 -- Counting the bytes of a list, and whether each is at most a number: one byte changed, and what a loop has counted
 -- so far. Assumes nothing.
-use mathlib.Core.Path.{_≡_, refl, ap}
+use mathlib.Core.Path.{_≡_, refl, ap, sym, _∙_}
 use mathlib.Core.Bool.{Bool, true}
 use mathlib.Core.List.{List, [], _∷_, map}
 use Prim.Native.Nat.{ℕ, zero, suc, _+_, _-_, _≤_, _<_}
@@ -11,7 +11,7 @@ use lib.ListN.{length, getD, drop-of-length-le, drop, set, replicate}
 use lib.Seq.{drop-cons, drop-set-lt, drop-set-add}
 use borrow.Author.Tests.{leb-true, le-leb, ne-eqb}
 use Rattle.theory.specs.Logic.{_and_, one}
-use Rattle.theory.proofs.Tests.{by-cases, both, and-i, one-false, one-le, tests}
+use Rattle.theory.proofs.Tests.{by-cases, both, and-i, and-true, and-assoc, one-false, one-le, tests}
 use Rattle.member.specs.Record.{objectsSize}
 use Rattle.member.specs.Objects.{count, allUpTo, withinLimits}
 
@@ -86,3 +86,15 @@ module _ (v : ℕ) (bs : List ℕ) (i n k : ℕ) (e : count v bs ≡ n + count v
 
 pub hit-le : (t : Bool) (h : ℕ) → h ≡ one t → h ≤ 1
 hit-le t h e = rw e (one-le t)
+
+-- ---- a loop that tests each byte from a place on ----
+
+-- all is what was found of those before i
+module _ (n from : ℕ) (bs : List ℕ) (i k : ℕ) (all : Bool) (e : allUpTo n (drop from bs) ≡ all and allUpTo n (drop i bs)) (l : length bs ≡ k) where
+  pub up-to-on : (x : Bool) → x ≡ all and leb (getD bs i 0) n → i < k → allUpTo n (drop from bs) ≡ x and allUpTo n (drop (i + 1) bs)
+  unfolding allUpTo
+  up-to-on x q a = let b : i < length bs = omega arith in e ∙ rw (drop-cons bs i 0 b, add-one i, q, and-assoc)
+
+  pub up-to-end : k ≤ i → all ≡ allUpTo n (drop from bs)
+  unfolding allUpTo
+  up-to-end a = let b : length bs ≤ i = omega arith in sym (e ∙ rw (drop-of-length-le bs b) (and-true all))

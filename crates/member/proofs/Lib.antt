@@ -3,4 +3,3 @@ pub mod Counts
 pub mod Sound
 pub mod Objects
 pub mod Arrays
-pub mod Strays

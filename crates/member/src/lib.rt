@@ -2,9 +2,9 @@
 ghost use mathlib.Core.Path.{_≡_};
 ghost use mathlib.Core.List.{map};
 ghost use Prim.Native.Nat.{_+_};
-ghost use lib.Dec.{eqb, ltb};
+ghost use lib.Dec.{leb, eqb};
 ghost use lib.ListN.{length, drop};
-ghost use Rattle.theory.specs.Logic.{if_then_else_, _and_, one};
+ghost use Rattle.theory.specs.Logic.{_and_, one};
 ghost use Rattle.theory.specs.Bytes.{part};
 ghost use Rattle.inventory.specs.Inventory.{valuesSize};
 ghost use Rattle.parts.specs.declared.ListForm.the-variants.{Parts};
@@ -134,35 +134,32 @@ fn is_within_limits(bytes: [u8; 16], gets: u8, sets: u8) -> bool
     count_of(2, bytes) <= sets
 }
 
-fn over(b: u8, n: u8) -> u8
-    ensures { λ r. ⌜ r ≡ one (ltb n b) ⌝ }
+fn still_up_to(all: bool, b: u8, n: u8) -> bool
+    ensures { λ r. ⌜ r ≡ all and leb b n ⌝ }
 {
-    if n < b { 1 } else { 0 }
+    if b <= n { all } else { false }
 }
 
-// 1 for a byte that id i cannot hold: none from ids on is live.
-fn stray(b: u8, i: u16, ids: u16) -> u8
-    ensures { λ r. ⌜ r ≡ (if ltb i ids then one (ltb 2 b) else one (ltb 0 b)) ⌝ }
+// Whether each byte from an id on is at most n: every one is looked at, the loop has no early exit.
+fn are_up_to(n: u8, from: usize, bytes: [u8; 16]) -> bool
+    ensures { λ r. ⌜ r ≡ allUpTo n (drop from bytes) ⌝ }
 {
-    if i < ids { over(b, 2) } else { over(b, 0) }
-}
-
-fn are_ids_valid(bytes: [u8; 16], ids: u16) -> bool
-    ensures { λ r. ⌜ r ≡ allUpTo 2 bytes and allUpTo 0 (drop ids bytes) ⌝ }
-{
-    let mut n: u8 = 0;
-    let mut i = 0;
+    let mut all = true;
+    let mut i = from;
     while i < 16 {
-        n += stray(bytes[i], i as u16, ids);
+        all = still_up_to(all, bytes[i], n);
         i += 1;
     }
-    n == 0
+    all
 }
 
 fn are_objects_sound(bytes: [u8; 16], gets: u8, sets: u8) -> bool
     ensures { λ r. ⌜ r ≡ allUpTo 2 bytes and allUpTo 0 (drop (gets + sets) bytes) and withinLimits gets sets bytes ⌝ }
 {
-    if !are_ids_valid(bytes, gets as u16 + sets as u16) {
+    if !are_up_to(2, 0, bytes) {
+        return false;
+    }
+    if !are_up_to(0, gets as usize + sets as usize, bytes) {
         return false;
     }
     is_within_limits(bytes, gets, sets)

@@ -6,4 +6,5 @@ use Rattle.member.proofs.are_objects_sound.Tie as tie
 pub are-objects-sound-spec : {M : Type 1} → statement M
 are-objects-sound-spec =
     tie.close
-    (tie.spec (λ c. search needs) (λ c κs. search needs) (λ c. search ladder) (λ c κs. search needs) (λ c. search ladder))
+    (tie.spec (λ c κs. search needs) (λ c. search ladder) (λ c. search needs) (λ c κs. search needs)
+    (λ c. search ladder) (λ c κs. search needs) (λ c. search ladder))
