@@ -2,8 +2,10 @@ pub mod Model
 pub mod Examples
 pub mod Refusals
 pub mod Requests
-pub mod Changes
 pub mod Live
 pub mod Sound
+pub mod Mask
 pub mod Isolation
 pub mod IsolationExample
+pub mod RoundTrip
+pub mod RoundTripExample

@@ -1,5 +1,5 @@
 -- Every call on a sound card leaves a sound card. Assumes nothing.
-use mathlib.Core.Path.{_≡_, refl, _∙_}
+use mathlib.Core.Path.{_≡_, refl}
 use mathlib.Core.Bool.{true}
 use mathlib.Core.List.{List}
 use Prim.Native.Nat.{ℕ, _+_}
@@ -7,20 +7,29 @@ use native.Mathlib.Omega.{arith}
 use lib.ListN.{length}
 use Rattle.theory.proofs.Tests.{inside, within-low, if-cases, unless-cases}
 use Rattle.protocol.specs.declared.EventAnswer.{EventAnswer}
-use Rattle.parts.proofs.Kept.{stored-length, stored-features}
+use Rattle.protocol.specs.declared.ChangeOp.{ChangeOp}
+use Rattle.protocol.specs.declared.ChangeOp.the-variants.{Create, Modify, Destroy, SetParts, SetMode}
 use Rattle.member.specs.Member.{freshOf}
-use Rattle.member.proofs.Sound.{sound-fresh, sound-values}
+use Rattle.member.proofs.Sound.{sound-fresh, sound-part}
+use Rattle.operations.proofs.Kept.{IdBelow, change-sound}
 use Rattle.card.specs.Layout.{setupOf, inUseOf, isMember, memberIn}
 use Rattle.card.specs.Events.{resetMember, resetCard, ifDone, storeIn, store}
 use Rattle.card.proofs.LayoutLaws.{features-long}
 use Rattle.card.proofs.SoundLaws.{Sound, SoundIn, sound-of, is-sound, numbers-sound, sound-long, sound-member-in, sound-with-member, sound-with-use, sound-fresh-card}
 use Rattle.frame.specs.declared.Ask.{Ask}
 use Rattle.frame.specs.declared.Ask.the-variants.{Refused, QueryList, UseList, Read, Change}
-use Rattle.frame.proofs.Asked.{Facts, asked}
+use Rattle.frame.proofs.Asked.{ChangeBelow, Facts, asked}
 use Rattle.admin.specs.Command.{askIn, Effect, perform, conclude, respond}
 use Rattle.demands.specs.Calls.{Call, command, memberReset, cardReset, cardStore, step}
 use Rattle.demands.specs.Claims.{StaysSound}
-use Rattle.demands.proofs.Changes.{change-sound}
+
+-- what the frame knows of an id is what the operations ask
+valid-id : (ids : ℕ) (op : ChangeOp) → ChangeBelow ids op → IdBelow ids op
+valid-id ids (Create id kind) h = h
+valid-id ids (Modify id kind) h = h
+valid-id ids (Destroy id) h = h
+valid-id ids (SetParts id) h = h
+valid-id ids (SetMode mode) h = h
 
 module _ (c : List ℕ) (s : Sound c) where
   -- the device features are 16 bytes
@@ -38,7 +47,7 @@ module _ (c : List ℕ) (s : Sound c) where
   perform-sound r (Read m op) f = s
   perform-sound r (Change m op) f =
       let x = sound-member-in c s m (inside 1 _ m (f .0 .low) (f .0 .high)) in
-      sound-with-member c m _ s (f .0 .low) (change-sound (setupOf c .queues) _ _ (setupOf c .features) (memberIn c m) x _ op (f .1))
+      sound-with-member c m _ s (f .0 .low) (change-sound (setupOf c .queues) _ _ _ op (memberIn c m) _ (valid-id _ op (f .1)) x)
 
   conclude-sound : (room : ℕ) (e : Effect) → Sound (e .card) → Sound (conclude c room e .0)
   unfolding conclude
@@ -47,12 +56,9 @@ module _ (c : List ℕ) (s : Sound c) where
   store-sound : (m t k : ℕ) (value : List ℕ) → isMember c m ≡ true → Sound (storeIn c m t k value .1)
   unfolding storeIn ifDone
   store-sound m t k value h =
-      let x = memberIn c m in
-      let sx = sound-member-in c s m h in
-      let n = stored-length (setupOf c .queues) t k value (x .values) in
-      let f = stored-features (setupOf c .queues) t k value (x .values) in
-      if-cases Sound _ _ _ (λ t. sound-with-member c m _ s (within-low _ _ m h)
-      (sound-values _ _ _ x sx _ (n ∙ sx .shaped .long) f)) (λ t. s)
+      if-cases Sound _ _ _
+      (λ t. sound-with-member c m _ s (within-low _ _ m h) (sound-part _ _ _ _ (sound-member-in c s m h) (setupOf c .queues) _ k value))
+      (λ t. s)
 
 -- the card after an event is sound
 abbrev Leaves : EventAnswer × List ℕ → Type 0

@@ -1,0 +1,216 @@
+-- DEMAND 2: a full capture, set in a stopped member of a card with the same setup, is accepted, and a capture there gives the
+-- same bytes. Assumes nothing.
+use mathlib.Core.Path.{_≡_, refl, ap, sym, _∙_}
+use mathlib.Core.Bool.{true}
+use mathlib.Core.List.{List, [], _++_, append-nil}
+use Prim.Native.Nat.{ℕ, _+_, _≤_, _<_}
+use native.Mathlib.Omega.{arith}
+use lib.ListN.{length, take, drop}
+use borrow.Author.Tests.{le-leb}
+use Rattle.theory.specs.Logic.{if_then_else_, unless_answer_then_, _and_}
+use Rattle.theory.specs.Bytes.{part as bytesAt}
+use Rattle.theory.proofs.Tests.{within-low}
+use Rattle.wire.specs.Le.{bytes}
+use Rattle.protocol.specs.declared.Answer.the-variants.{Done}
+use Rattle.protocol.specs.declared.Mode.the-variants.{Stopped}
+use Rattle.protocol.specs.declared.ObjectKind.the-variants.{Get, Set}
+use Rattle.protocol.specs.Opcodes.{largest, bit}
+use Rattle.inventory.specs.Inventory.{valuesSize, partsSize}
+use Rattle.parts.specs.declared.ListForm.the-variants.{Parts}
+use Rattle.parts.specs.declared.Cause.the-variants.{Accepted}
+use Rattle.parts.specs.List.{partsOf}
+use Rattle.parts.specs.Rules.{causeOf}
+use Rattle.parts.specs.Apply.{applied}
+use Rattle.capture.specs.Capture.{captureOf}
+use Rattle.capture.proofs.Sizes.{capture-length}
+use Rattle.capture.proofs.RoundTrip.{accepted as capture-accepted, captured as capture-restored}
+use Rattle.member.specs.declared.Member.{Member}
+use Rattle.member.specs.declared.Found.the-variants.{Live}
+use Rattle.member.specs.Objects.{lookupOf}
+use Rattle.member.specs.Member.{featuresIn, withValues}
+use Rattle.member.proofs.Sound.{sound-applied}
+use Rattle.operations.specs.Changes.{setPartsOf}
+use Rattle.operations.specs.Reads.{throughGet}
+use Rattle.card.specs.declared.Setup.{Setup}
+use Rattle.card.specs.Layout.{setupOf, inUseOf, isMember, memberIn, withMember}
+use Rattle.card.specs.Sound.{isSound}
+use Rattle.card.proofs.LayoutLaws.{setup-with-member, use-with-member, member-same}
+use Rattle.card.proofs.SoundLaws.{Sound, SoundIn, sound-of, is-sound, sound-has, sound-member-in, sound-with-member}
+use Rattle.reply.specs.Result.{resultOf}
+use Rattle.reply.specs.Reply.{headOf, finalOf, replyOf}
+use Rattle.admin.specs.Command.{askIn, effect, perform, conclude, respond}
+use Rattle.demands.specs.Requests.{request, objectHeader, getAll, setParts}
+use Rattle.demands.specs.Claims.{Restorable, RestoredSame, RoundTrip, capture, restore}
+use Rattle.demands.proofs.Requests.{get-all-asked, set-parts-asked}
+use Rattle.demands.proofs.Live.{live-below}
+
+-- a command that succeeds, where the card is sound and the reply has room
+respond-done : (c r : List ℕ) (room : ℕ) (next result : List ℕ) → isSound c ≡ true
+    → perform c r (askIn c r) ≡ effect Done next result → 8 + length result ≤ room
+    → respond c r room ≡ (next, headOf Done ++ result)
+unfolding respond conclude finalOf replyOf if_then_else_ unless_answer_then_ _and_
+respond-done c r room next result s e h =
+    let l : 8 ≤ room = omega arith in
+    rw (le-leb 8 room l, s, e, le-leb (8 + length result) room h)
+
+-- the list of a parts set
+given : (m id : ℕ) (list : List ℕ) → drop 32 (setParts m id list) ≡ list
+unfolding setParts request objectHeader bytes
+given m id list = refl
+
+-- member m of a sound card, with a live object
+record Reached (c : List ℕ) (m : ℕ) : Type 0 where
+  sound : isSound c ≡ true
+  here : isMember c m ≡ true
+
+module _ (c : List ℕ) (m : ℕ) (x : Reached c m) where
+  facts : Sound c
+  facts = sound-of c (x .sound)
+
+  member : SoundIn c (memberIn c m)
+  member = sound-member-in c facts m (x .here)
+
+  few : setupOf c .members ≤ 16
+  few = facts .numbers .fewMembers
+
+  ids : setupOf c .gets + setupOf c .sets ≤ 16
+  ids = omega (arith, facts .numbers .fewGets, facts .numbers .fewSets)
+
+  -- a full capture through a live get object
+  get-performs : (i : ℕ) → lookupOf (memberIn c m) i ≡ Live Get → bit (inUseOf c) 0x0f ≡ true
+      → perform c (getAll m i) (askIn c (getAll m i)) ≡ effect Done c (captureOf (setupOf c .queues) (memberIn c m .values))
+  unfolding askIn perform throughGet resultOf unless_answer_then_
+  get-performs i e u = rw (get-all-asked _ _ _ m i few (x .here) (live-below _ _ _ (memberIn c m) i Get member e) ids u, e)
+
+  capture-is : (i room : ℕ) → lookupOf (memberIn c m) i ≡ Live Get → bit (inUseOf c) 0x0f ≡ true
+      → 8 + length (captureOf (setupOf c .queues) (memberIn c m .values)) ≤ room
+      → capture c m i room ≡ headOf Done ++ captureOf (setupOf c .queues) (memberIn c m .values)
+  capture-is i room e u h = ap (λ (y : List ℕ × List ℕ). y .1) (respond-done c (getAll m i) room c _ (x .sound) (get-performs i e u) h)
+
+  -- an accepted list through a live set object, where the member is stopped
+  set-performs : (j : ℕ) (list : List ℕ) → lookupOf (memberIn c m) j ≡ Live Set → bit (inUseOf c) 0x10 ≡ true
+      → memberIn c m .mode ≡ Stopped → 8 + length list ≤ largest
+      → causeOf (setupOf c .queues) (featuresIn (memberIn c m)) list ≡ Accepted
+      → perform c (setParts m j list) (askIn c (setParts m j list))
+      ≡ effect Done (withMember c m (withValues (memberIn c m) (applied (setupOf c .queues) (partsOf Parts list) (memberIn c m .values)))) []
+  unfolding askIn perform setPartsOf unless_answer_then_
+  set-performs j list e u k h a =
+      rw (set-parts-asked _ _ _ m j few (x .here) (live-below _ _ _ (memberIn c m) j Set member e) ids list h u, given m j list, e, k, a)
+
+-- the head of a reply is eight bytes
+after-head : (list : List ℕ) → drop 8 (headOf Done ++ list) ≡ list
+unfolding headOf bytes
+after-head list = refl
+
+head-only : (list : List ℕ) → take 8 (headOf Done ++ list) ≡ headOf Done
+unfolding headOf bytes
+head-only list = refl
+
+long-reply : (list : List ℕ) → length (headOf Done ++ list) ≡ 8 + length list
+unfolding headOf bytes
+long-reply list = omega arith
+
+module _ (c : List ℕ) (m i : ℕ) (d : List ℕ) (k j l : ℕ) (x : Restorable c m i d k j l) where
+  source : Reached c m
+  source = record { sound = x .soundSource; here = x .sourceMember }
+
+  target : Reached d k
+  target = record { sound = x .soundTarget; here = x .targetMember }
+
+  abbrev q : ℕ
+  q = setupOf d .queues
+
+  abbrev v : List ℕ
+  v = memberIn c m .values
+
+  abbrev w : List ℕ
+  w = memberIn d k .values
+
+  few-queues : q < 5
+  few-queues = omega (arith, facts d k target .numbers .fewQueues)
+
+  long-source : length v ≡ valuesSize
+  long-source = member c m source .shaped .long
+
+  long-target : length w ≡ valuesSize
+  long-target = member d k target .shaped .long
+
+  -- both have the setup's device features
+  features-same : bytesAt 0 16 v ≡ bytesAt 0 16 w
+  features-same = member c m source .kept ∙ ap (λ (y : Setup). y .features) (x .sameSetup) ∙ sym (member d k target .kept)
+
+  -- what was captured, its length, and what the target's member becomes
+  list : List ℕ
+  list = captureOf q v
+
+  list-long : length list ≡ partsSize q
+  unfolding list
+  list-long = capture-length q v few-queues long-source
+
+  list-accepted : causeOf q (bytesAt 0 16 w) list ≡ Accepted
+  unfolding list
+  list-accepted = capture-accepted q v few-queues long-source w features-same
+
+  captured-is : (r : ℕ) → 8 + partsSize q ≤ r → capture c m i r ≡ headOf Done ++ list
+  unfolding list
+  captured-is r h =
+      rw (x .sameSetup) at (capture-is c m source i r (x .sourceGet) (x .sourceInUse .partsGet) (rw (x .sameSetup, list-long) h))
+
+  restored : Member
+  restored = withValues (memberIn d k) (applied q (partsOf Parts list) w)
+
+  after : List ℕ
+  after = withMember d k restored
+
+  restored-is : (r₁ r₂ : ℕ) → 8 + partsSize q ≤ r₁ → 8 ≤ r₂
+      → restore d k j (capture c m i r₁) r₂ ≡ (after, headOf Done ++ [])
+  unfolding after restored
+  restored-is r₁ r₂ h g =
+      let n = list-long in
+      let f = few-queues in
+      rw (captured-is r₁ h, after-head) (respond-done d (setParts k j list) r₂ _ [] (x .soundTarget)
+      (set-performs d k target j list (x .targetSet) (x .targetInUse .partsSet) (x .stopped) (omega arith) list-accepted) g)
+
+  -- the target's card after it, and a capture there
+  restored-in : SoundIn d restored
+  unfolding restored
+  restored-in = sound-applied _ _ _ (memberIn d k) (member d k target) q (partsOf Parts list)
+
+  reached-after : Reached after k
+  unfolding after
+  reached-after = record {
+    sound = is-sound _ (sound-with-member d k restored (facts d k target) (within-low _ _ k (x .targetMember)) restored-in);
+    here = rw setup-with-member (x .targetMember);
+  }
+
+  member-after : memberIn after k ≡ restored
+  unfolding after
+  member-after = member-same d k restored (sound-has d (facts d k target) k (x .targetMember)) (restored-in .shaped)
+
+  values-after : captureOf (setupOf after .queues) (memberIn after k .values) ≡ list
+  unfolding after restored list
+  values-after = rw (member-after, setup-with-member) (capture-restored q v few-queues long-source w long-target features-same)
+
+  recaptured-is : (r : ℕ) → 8 + partsSize q ≤ r → capture after k l r ≡ headOf Done ++ list
+  unfolding after restored lookupOf
+  recaptured-is r h =
+      rw values-after at
+      (capture-is after k reached-after l r (rw member-after (x .targetGet)) (rw use-with-member (x .targetInUse .partsGet))
+      (rw (values-after, list-long) h))
+
+  trip : (r₁ r₂ r₃ : ℕ) → 8 + partsSize (setupOf c .queues) ≤ r₁ → 8 ≤ r₂ → 8 + partsSize (setupOf c .queues) ≤ r₃
+      → RestoredSame c m i d k j l r₁ r₂ r₃
+  trip r₁ r₂ r₃ h₁ h₂ h₃ =
+      let g₁ : 8 + partsSize q ≤ r₁ = rw (x .sameSetup) at h₁ in
+      let g₃ : 8 + partsSize q ≤ r₃ = rw (x .sameSetup) at h₃ in
+      let e = captured-is r₁ g₁ in
+      let f = restored-is r₁ r₂ g₁ h₂ in
+      record {
+        captured = rw e (head-only list);
+        full = rw (e, x .sameSetup) (long-reply list ∙ rw list-long);
+        accepted = ap (λ (y : List ℕ × List ℕ). y .1) f ∙ append-nil (headOf Done);
+        same = ap (λ (y : List ℕ × List ℕ). capture (y .0) k l r₃) f ∙ recaptured-is r₃ g₃ ∙ sym e;
+      }
+
+pub round-trip : RoundTrip
+round-trip c m i d k j l x = trip c m i d k j l x

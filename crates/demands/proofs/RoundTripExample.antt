@@ -1,0 +1,65 @@
+-- The hypotheses of the round trip can be met, and the target differs from the source before it. Assumes nothing.
+use mathlib.Core.Path.{_≡_, refl, sym, _∙_}
+use mathlib.Core.Logic.{_≢_}
+use mathlib.Core.List.{List}
+use Prim.Native.Nat.{ℕ}
+use native.Mathlib.Omega.{arith}
+use lib.ListN.{getD, replicate}
+use Rattle.card.specs.declared.Setup.{Setup}
+use Rattle.card.specs.Layout.{setupOf}
+use Rattle.demands.specs.Calls.{cardStore, step}
+use Rattle.demands.specs.Claims.{capture, Restorable, RestoredSame}
+use Rattle.demands.specs.Examples.{exampleCard, useList, create, setMode}
+use Rattle.demands.proofs.Model.{model}
+use Rattle.demands.proofs.RoundTrip.{round-trip}
+
+-- all commands are in use, and member 1 has a get object
+reading : List ℕ
+reading = step (step exampleCard (useList 0x3fc03) .0) (create 0 0) .0
+
+-- the source has a queue address; the target has a set object too and is stopped
+source : List ℕ
+source = step reading (cardStore 1 0x104 0 (replicate 32 0xaa)) .0
+
+target : List ℕ
+target = step (step reading (create 1 1) .0) (setMode 1 1) .0
+
+example : Unit {0}
+unfolding model reading source target
+example = tt
+
+-- N=2, Q=1, G=1, S=1, features all zero
+abbrev setup : Setup
+setup = record { members = 2; queues = 1; gets = 1; sets = 1; features = replicate 16 0 }
+
+setup-source : setupOf source ≡ setup
+unfolding example
+setup-source = refl
+
+setup-target : setupOf target ≡ setup
+unfolding example
+setup-target = refl
+
+restorable : Restorable source 1 0 target 1 1 0
+unfolding example
+restorable = record {
+  soundSource = refl;
+  soundTarget = refl;
+  sameSetup = setup-source ∙ sym setup-target;
+  sourceMember = refl;
+  targetMember = refl;
+  sourceGet = refl;
+  targetSet = refl;
+  targetGet = refl;
+  stopped = refl;
+  sourceInUse = record { partsGet = refl; partsSet = refl };
+  targetInUse = record { partsGet = refl; partsSet = refl };
+}
+
+captures-differ : getD (capture source 1 0 237) 190 0 ≢ getD (capture target 1 0 237) 190 0
+unfolding example
+captures-differ = omega arith
+
+restored : RestoredSame source 1 0 target 1 1 0 237 8 237
+unfolding example
+restored = round-trip source 1 0 target 1 1 0 restorable 237 8 237 (omega arith) (omega arith) (omega arith)
