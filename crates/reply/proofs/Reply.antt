@@ -5,17 +5,22 @@ use mathlib.Core.List.{List, [], _∷_, _++_, append-nil}
 use Prim.Native.Nat.{ℕ, _+_, _-_, _≤_, _<_}
 use native.Mathlib.Omega.{arith}
 use lib.Dec.{leb}
-use lib.ListN.{length, replicate, length-append}
+use mir.Syntax.{w64}
+use mir.Val.{Fits}
+use lib.ListN.{length, take, drop, replicate, length-append}
 use borrow.Author.Tests.{le-leb, lt-leb, leb-true, not-true, not-false}
 use Rattle.theory.specs.Logic.{if_then_else_, unless_answer_then_}
 use Rattle.theory.specs.Bytes.{put}
 use Rattle.theory.proofs.Tests.{by-cases}
-use Rattle.theory.proofs.Bytes.{put-append}
+use Rattle.theory.proofs.Bytes.{length-put, put-append}
+use Rattle.theory.proofs.Lent.{length-tail}
 use Rattle.wire.specs.Le.{bytes}
 use Rattle.protocol.specs.declared.Answer.{Answer}
 use Rattle.protocol.specs.declared.Answer.the-variants.{ShortReply}
 use Rattle.protocol.specs.Answers.{statusOf, qualifierOf, isDone}
+use Rattle.operations.specs.declared.Body.{Body}
 use Rattle.reply.specs.declared.Written.{Written}
+use Rattle.reply.specs.Result.{resultOf}
 use Rattle.reply.specs.Reply.{headOf, finalOf, replyOf, writtenOf, concludeOf}
 
 pub head-long : (a : Answer) → length (headOf a) ≡ 8
@@ -88,11 +93,19 @@ module _ (a last : Answer) (x l : List ℕ) (size : ℕ) (b : Bool)
       let p : put 0 (headOf last ++ x) l ≡ put 8 x (put 0 (headOf last) l) = put-append 0 (headOf last) x l ∙ rw (head-long last) in
       rw (← sized, ← settled, e₃, e₂, e₁, reply-done last x (sym said ∙ not-false b n), length-append, head-long last, p, sized)
 
--- there is room for the result, in the buffer as the head left it
-pub result-fits : (a last : Answer) (l l′ : List ℕ) (size : ℕ) (b : Bool) → last ≡ finalOf a size (length l)
-    → b ≡ isDone last → not b ≡ false → length l′ ≡ length l → 8 + size ≤ length l′
-result-fits a last l l′ size b settled said n e =
-    rw e (final-room a size (length l) (rw (← settled) (sym said ∙ not-false b n)))
+-- there is room for the result, in the buffer as the head left it and in the tail that is lent to the result's writer
+module _ (a last : Answer) (l l′ : List ℕ) (size : ℕ) (b : Bool) (settled : last ≡ finalOf a size (length l))
+    (said : b ≡ isDone last) (n : not b ≡ false) (e : l′ ≡ put 0 (headOf last) l) where
+  pub result-fits : 8 + size ≤ length l′
+  result-fits =
+      rw (e, length-put) (final-room a size (length l) (rw (← settled) (sym said ∙ not-false b n)))
+
+  pub tail-fits : (q : ℕ) (list v : List ℕ) (body : Body) → size ≡ length (resultOf q list v body)
+      → length (resultOf q list v body) ≤ length (take (length l′ - 8) (drop 8 l′))
+  tail-fits q list v body s = let h = result-fits in rw (length-tail 8 l′, ← s) (omega arith)
+
+pub fits-word : (n k : ℕ) → n ≤ k → Fits w64 k → Fits w64 n
+fits-word n k h f = omega arith
 
 -- a reply with no result always fits
 pub answer-only : (a : Answer) (l l′ : List ℕ) → 8 ≤ length l → l′ ≡ put 0 (headOf a) l

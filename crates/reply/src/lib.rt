@@ -1,11 +1,16 @@
 // The reply to a command: its head, its result in the lent tail, and steps 11 and 12.
 ghost use mathlib.Core.Path.{_≡_};
-ghost use Prim.Native.Nat.{_≤_};
-ghost use mathlib.Core.List.{[]};
+ghost use Prim.Native.Nat.{ℕ, _+_, _≤_, _<_};
+ghost use mathlib.Core.List.{List, [], _++_};
 ghost use lib.ListN.{length};
 ghost use Rattle.theory.specs.Bytes.{put};
 ghost use Rattle.wire.specs.Le.{bytes};
-ghost use Rattle.reply.specs.Reply.{headOf, finalOf, writtenOf, concludeOf};
+ghost use Rattle.inventory.specs.Inventory.{partCount, valuesSize};
+ghost use Rattle.capture.specs.Capture.{headersOf};
+ghost use Rattle.reply.specs.Result.{numberBytes, resultOf};
+ghost use Rattle.reply.specs.Reply.{headOf, finalOf, concludeOf};
+use capture::Selection;
+use operations::Body;
 use protocol::Answer;
 
 // What was answered in the end, and how many bytes were written.
@@ -64,6 +69,83 @@ pub fn write_mask(mask: u64, reply: &mut [u8]) -> Written
         };
     }
     wire::write(reply, 8, 8, mask);
+    let bytes = 8 + size;
+    Written {
+        answer: last,
+        bytes,
+    }
+}
+
+// The bytes of a result, whatever the values are.
+fn result_bytes(body: Body, queues: u8, list: &[u8]) -> usize
+    requires { ⌜ queues < 5 ⌝ }
+    ensures { λ r. ⌜ ((values : List ℕ) → length values ≡ valuesSize → r ≡ length (resultOf queues (now (list .entry)) values body)) ⌝ }
+{
+    match body {
+        Body::Nothing => 0,
+        Body::Kind(_) => 8,
+        Body::Number(_) => 8,
+        Body::Headers => 8 + capture::headers_bytes(queues),
+        Body::Selected => capture::parts_bytes(queues, Selection::Asked, list),
+        Body::All => capture::parts_bytes(queues, Selection::All, list),
+    }
+}
+
+// A 4-byte number and 4 zero bytes, at the front of what is lent.
+fn write_number(out: &mut [u8], n: u32)
+    requires { ⌜ 8 ≤ length (now out) ⌝ }
+    ensures { λ _. ⌜ now (out .exit) ≡ put 0 (numberBytes n) (now (out .entry)) ⌝ }
+{
+    wire::write(out, 0, 4, n as u64);
+    wire::write(out, 4, 4, 0);
+}
+
+// The count of the parts and their headers: a metadata list.
+fn write_metadata_list(out: &mut [u8], queues: u8)
+    requires { ⌜ 8 + length (headersOf queues) ≤ length (now out) ⌝ }
+    ensures { λ _. ⌜ now (out .exit) ≡ put 0 (numberBytes (partCount queues) ++ headersOf queues) (now (out .entry)) ⌝ }
+{
+    write_number(out, inventory::part_count(queues));
+    capture::write_headers(&mut out[8..], queues);
+}
+
+// The result, at the front of the lent tail.
+fn write_result(body: Body, queues: u8, list: &[u8], values: &[u8], out: &mut [u8])
+    requires { ⌜ (length (now values) ≡ valuesSize) × (length (resultOf queues (now list) (now values) body) ≤ length (now out)) ⌝ }
+    ensures { λ _. ⌜ now (out .exit) ≡ put 0 (resultOf queues (now (list .entry)) (now (values .entry)) body) (now (out .entry)) ⌝ }
+{
+    match body {
+        Body::Nothing => {}
+        Body::Kind(kind) => write_number(out, operations::kind_number(kind) as u32),
+        Body::Number(n) => write_number(out, n),
+        Body::Headers => write_metadata_list(out, queues),
+        Body::Selected => capture::write_parts(out, values, queues, Selection::Asked, list),
+        Body::All => capture::write_parts(out, values, queues, Selection::All, list),
+    }
+}
+
+// Steps 11 and 12 of a command with a result: the tail from byte 8 is lent to its writer.
+pub fn write_reading(
+    a: Answer,
+    body: Body,
+    queues: u8,
+    list: &[u8],
+    values: &[u8],
+    reply: &mut [u8],
+) -> Written
+    requires { ⌜ (queues < 5) × (length (now values) ≡ valuesSize) × (8 ≤ length (now reply)) ⌝ }
+    ensures { λ r. ⌜ (r, now (reply .exit)) ≡ concludeOf a (resultOf queues (now (list .entry)) (now (values .entry)) body) (now (reply .entry)) ⌝ }
+{
+    let size = result_bytes(body, queues, list);
+    let last = settle(a, size, reply.len());
+    write_head(last, reply);
+    if !protocol::is_done(last) {
+        return Written {
+            answer: last,
+            bytes: 8,
+        };
+    }
+    write_result(body, queues, list, values, &mut reply[8..]);
     let bytes = 8 + size;
     Written {
         answer: last,
