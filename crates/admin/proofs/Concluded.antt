@@ -11,10 +11,13 @@ use Rattle.theory.specs.Bytes.{put}
 use Rattle.theory.proofs.Tests.{by-cases, and-false}
 use Rattle.theory.proofs.Bytes.{put-nil}
 use Rattle.protocol.specs.declared.Answer.{Answer}
+use Rattle.protocol.specs.declared.Answer.the-variants.{Done}
 use Rattle.protocol.specs.Answers.{isDone}
+use Rattle.card.specs.Layout.{withInUse}
 use Rattle.card.specs.Sound.{isSound}
+use Rattle.frame.specs.declared.Ask.the-variants.{UseList}
 use Rattle.reply.specs.declared.Written.{Written}
-use Rattle.reply.specs.Reply.{concludeOf}
+use Rattle.reply.specs.Reply.{finalOf, concludeOf}
 use Rattle.admin.specs.Command.{Effect, effect, askIn, perform, conclude, respond, delivered, commandOf}
 
 -- w and l′ are what the writer left of the buffer l: answer a, result x
@@ -47,6 +50,19 @@ module _ (c : List ℕ) (a : Answer) (x l l′ : List ℕ) (w : Written)
         → _≡_ {A = ℕ × (List ℕ × List ℕ)} (w .bytes, (d, l′)) (delivered (conclude c (length l) (effect a next x)) l)
     unfolding if_then_else_
     changed d n h = left next d (h ∙ rw (sym said ∙ not-false b n))
+
+answers-done : (l : List ℕ) → 8 ≤ length l → isDone (concludeOf Done [] l .0 .answer) ≡ true
+unfolding concludeOf finalOf if_then_else_ unless_answer_then_
+answers-done l h = rw (le-leb 8 (length l) h)
+
+-- list use: its reply is 8 bytes, so it always stands
+pub used : (c r l l′ d : List ℕ) (mask : ℕ) (w : Written) → _≡_ {A = Written × List ℕ} (w, l′) (concludeOf Done [] l)
+    → 8 ≤ length l → d ≡ withInUse c mask
+    → _≡_ {A = ℕ × (List ℕ × List ℕ)} (w .bytes, (d, l′)) (delivered (conclude c (length l) (perform c r (UseList mask))) l)
+unfolding perform
+used c r l l′ d mask w e h k =
+    let done = ap (λ (y : Written × List ℕ). isDone (y .0 .answer)) e ∙ answers-done l h in
+    changed c Done [] l l′ w e true (sym done) (withInUse c mask) d refl k
 
 -- ---- step 1 ----
 

@@ -1,1 +1,4 @@
 pub mod Concluded
+pub mod OfSound
+pub mod OfRequest
+pub mod Arms

@@ -1,0 +1,30 @@
+-- What the code needs to know of a sound card. Assumes nothing.
+use mathlib.Core.Path.{_≡_, sym, _∙_}
+use mathlib.Core.Bool.{true}
+use mathlib.Core.List.{List}
+use Prim.Native.Nat.{ℕ, _+_, _≤_, _<_}
+use native.Mathlib.Omega.{arith}
+use lib.ListN.{length}
+use Rattle.theory.proofs.Tests.{tests}
+use Rattle.card.specs.declared.Setup.{Setup}
+use Rattle.inventory.specs.Inventory.{valuesSize}
+use Rattle.member.specs.declared.Member.{Member}
+use Rattle.card.specs.Layout.{headSize, setupOf, isMember, HasRecord, memberIn}
+use Rattle.card.specs.Sound.{isSound}
+use Rattle.card.proofs.SoundLaws.{sound-of, sound-long, sound-has, sound-member-in}
+
+module _ (c : List ℕ) (s : isSound c ≡ true) where
+  pub head-there : headSize ≤ length c
+  head-there = sound-long c (sound-of c s)
+
+  pub record-there : (m : ℕ) → isMember c m ≡ true → HasRecord c m
+  record-there m = sound-has c (sound-of c s) m
+
+  pub ids-few : (x : Setup) → x ≡ setupOf c → x .gets + x .sets < 256
+  ids-few x e = let n = sound-of c s .numbers in rw e (omega arith)
+
+  pub queues-few : (x : Setup) → x ≡ setupOf c → x .queues < 5
+  queues-few x e = let n = sound-of c s .numbers in rw e (omega arith)
+
+  pub values-long : (m : ℕ) → isMember c m ≡ true → (x : Member) → x ≡ memberIn c m → length (x .values) ≡ valuesSize
+  values-long m h x e = rw e (sound-member-in c (sound-of c s) m h .shaped .long)
