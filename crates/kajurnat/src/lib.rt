@@ -1,0 +1,65 @@
+// The exported functions. A card is a buffer that the caller lends; each function is a thin call, and each contract is
+// the definition of a lower crate.
+ghost use mathlib.Core.Path.{_≡_};
+ghost use Rattle.card.specs.Layout.{cardBytes};
+ghost use Rattle.card.specs.Events.{numbered, setUp, resetMember, resetCard, store};
+ghost use Rattle.admin.specs.Command.{commandOf};
+
+// The exact length of a card, 0 if members is not 1 to 16.
+#[no_mangle]
+pub extern "C" fn kajurnat_card_bytes(members: u64) -> usize
+    ensures { λ r. ⌜ r ≡ cardBytes members ⌝ }
+{
+    card::card_bytes(members)
+}
+
+// Makes the buffer a fresh card; refused, every byte of it is zero.
+#[no_mangle]
+pub extern "C" fn kajurnat_setup(
+    card: &mut [u8],
+    members: u64,
+    queues: u64,
+    gets: u64,
+    sets: u64,
+    features: &[u8],
+) -> u8
+    ensures { λ r. ⌜ (r, now (card .exit)) ≡ numbered (setUp (now (card .entry)) members queues gets sets (now (features .entry))) ⌝ }
+{
+    protocol::event_number(card::set_up(card, members, queues, gets, sets, features))
+}
+
+// One group administration command: the bytes written to the reply, the card and the reply buffer after it.
+#[no_mangle]
+pub extern "C" fn kajurnat_command(card: &mut [u8], request: &[u8], reply: &mut [u8]) -> usize
+    ensures { λ r. ⌜ (r, (now (card .exit), now (reply .exit))) ≡ commandOf (now (card .entry)) (now (request .entry)) (now (reply .entry)) ⌝ }
+{
+    admin::command(card, request, reply)
+}
+
+#[no_mangle]
+pub extern "C" fn kajurnat_reset_member(card: &mut [u8], member: u64) -> u8
+    ensures { λ r. ⌜ (r, now (card .exit)) ≡ numbered (resetMember (now (card .entry)) member) ⌝ }
+{
+    protocol::event_number(card::reset_member(card, member))
+}
+
+#[no_mangle]
+pub extern "C" fn kajurnat_reset_card(card: &mut [u8]) -> u8
+    ensures { λ r. ⌜ (r, now (card .exit)) ≡ numbered (resetCard (now (card .entry))) ⌝ }
+{
+    protocol::event_number(card::reset_card(card))
+}
+
+// The data path sets one part of a member; selector is the eight selector bytes as a little-endian number.
+#[no_mangle]
+pub extern "C" fn kajurnat_store(
+    card: &mut [u8],
+    member: u64,
+    part_type: u16,
+    selector: u64,
+    value: &[u8],
+) -> u8
+    ensures { λ r. ⌜ (r, now (card .exit)) ≡ numbered (store (now (card .entry)) member «part_type» selector (now (value .entry))) ⌝ }
+{
+    protocol::event_number(card::store(card, member, part_type, selector, value))
+}
