@@ -1,17 +1,17 @@
 -- Setup, both resets and the card store: what the code does, at each return. Assumes nothing.
-use mathlib.Core.Path.{_≡_, refl, ap, sym, _∙_}
+use mathlib.Core.Path.{_≡_, ap, sym, _∙_}
 use mathlib.Core.Bool.{Bool, true, false, not}
 use mathlib.Core.List.{List}
 use Prim.Native.Nat.{ℕ, _≤_}
-use native.Mathlib.Omega.{arith}
+use borrow.Author.Needs.{needs}
 use borrow.Author.Tests.{not-true, not-false, eqb-true, eq-eqb, ne-eqb}
 use lib.Dec.{eqb}
 use lib.ListN.{length, getD, replicate}
-use Rattle.theory.specs.Logic.{if_then_else_, unless_answer_then_, _and_}
+use Rattle.theory.specs.Logic.{if_then_else_, _and_}
 use Rattle.theory.specs.Bytes.{put}
 use Rattle.theory.proofs.Tests.{both}
 use Rattle.theory.proofs.Bytes.{put-all}
-use Rattle.theory.proofs.Ladder.{stop, pass, choose-true, choose-false}
+use Rattle.theory.proofs.Ladder.{stop, pass}
 use Rattle.protocol.specs.declared.EventAnswer.{EventAnswer}
 use Rattle.protocol.specs.declared.EventAnswer.the-variants.{Done, BadSetup}
 use Rattle.protocol.specs.Answers.{eventNumber}
@@ -40,6 +40,9 @@ module _ (c : List ℕ) (t : Bool) (n : not t ≡ false) (e : t ≡ isSound c) w
 
   pub told-record : (m : ℕ) (u : Bool) → not u ≡ false → u ≡ isMember c m → HasRecord c m
   told-record m u l f = sound-has c (sound-of c told-sound) m (sym f ∙ not-false u l)
+
+-- what a call asks after these tests
+pub ruleset told = (needs, told-long, told-size, told-record)
 
 -- ---- setup ----
 

@@ -1,18 +1,18 @@
 -- The laws of the card's accessors and updaters: what is read after something was written. All above cites these and
 -- never the layout. Assumes nothing.
-use mathlib.Core.Path.{_≡_, refl, ap, sym, _∙_}
+use mathlib.Core.Path.{_≡_, ap, sym, _∙_}
 use mathlib.Core.Logic.{_≢_}
-use mathlib.Core.List.{List, [], _∷_, _++_}
-use Prim.Native.Nat.{ℕ, zero, suc, _+_, _*_, _-_, _/_, _^_, _≤_, _<_}
+use mathlib.Core.List.{List, _∷_, _++_}
+use Prim.Native.Nat.{ℕ, _+_, _*_, _-_, _^_, _≤_, _<_}
 use native.Mathlib.Nat.{zero-add}
 use native.Mathlib.Omega.{arith}
 use lib.Dec.{leb}
-use lib.ListN.{length, getD, take, drop, replicate, length-append, length-take, length-drop}
+use lib.ListN.{length, getD, take, drop, length-append}
 use lib.Seq.{take-take, take-all, take-at, take-add, drop-at, drop-append-add, drop-drop, length-take-le, getD-take}
 use borrow.Rule.Slice.PartMut.{putMid}
 use Rattle.theory.specs.Bytes.{part, put, repeat}
 use Rattle.theory.proofs.Tests.{by-cases, tests}
-use Rattle.theory.proofs.Bytes.{length-put, put-put, put-comm, put-undo, put-part, put-out, put-eq, put-all, part-before, part-after, part-put-as, length-part, length-part-le, part-part, length-repeat, part-repeat}
+use Rattle.theory.proofs.Bytes.{length-put, put-put, put-comm, put-undo, put-part, put-out, put-eq, part-before, part-after, part-put-as, length-part, length-part-le, part-part, length-repeat, part-repeat}
 use Rattle.wire.specs.Le.{le, bytes, number}
 use Rattle.wire.proofs.Le.{length-bytes, le-bytes, number-before, number-put}
 use Rattle.protocol.specs.Opcodes.{freshMask}
@@ -148,6 +148,10 @@ module _ (c : List ℕ) (mask : ℕ) where
   use-swap m r =
       let n = length-bytes 8 mask in
       put-comm inUseAt (bytes 8 mask) (recordAt m) (take recordSize r) c (omega arith)
+
+  pub member-with-use : (m : ℕ) → memberIn (withInUse c mask) m ≡ memberIn c m
+  unfolding memberIn
+  member-with-use m = ap memberOf (record-with-use m)
 
 -- ---- the setup ----
 

@@ -1,6 +1,6 @@
 -- What code reads of a card: its header, a member's record, and whether it is sound. Each law is in the form in which
 -- a need asks it. Assumes nothing.
-use mathlib.Core.Path.{_≡_, refl, ap, sym, _∙_}
+use mathlib.Core.Path.{_≡_, refl, sym, _∙_}
 use mathlib.Core.Bool.{Bool, true, false, not}
 use mathlib.Core.List.{List}
 use Prim.Native.Nat.{ℕ, zero, suc, _+_, _*_, _-_, _≤_, _<_}
@@ -18,7 +18,7 @@ use Rattle.member.specs.declared.Member.{Member}
 use Rattle.member.specs.Record.{recordSize, memberOf}
 use Rattle.member.specs.Sound.{soundRecord}
 use Rattle.card.specs.declared.Setup.{Setup}
-use Rattle.card.specs.Layout.{featuresAt, inUseAt, headSize, cardSize, setupOf, isMember, recordAt, HasRecord, recordIn, memberIn}
+use Rattle.card.specs.Layout.{featuresAt, headSize, cardSize, setupOf, isMember, recordAt, HasRecord, recordIn, memberIn}
 use Rattle.card.specs.Sound.{inNumbers, soundSetup, soundAt, soundUpTo}
 use Rattle.card.proofs.LayoutLaws.{setup-read, members-read, queues-read, gets-read, sets-read, features-read}
 

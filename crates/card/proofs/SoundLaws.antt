@@ -1,25 +1,24 @@
 -- What the test of a card says, as plain facts, and what keeps a card sound. Assumes nothing.
-use mathlib.Core.Path.{_≡_, refl, ap, sym, _∙_}
-use mathlib.Core.Bool.{Bool, true, false}
+use mathlib.Core.Path.{_≡_, refl}
+use mathlib.Core.Bool.{true}
 use mathlib.Core.List.{List}
-use Prim.Native.Nat.{ℕ, zero, suc, _+_, _*_, _-_, _^_, _≤_, _<_}
+use Prim.Native.Nat.{ℕ, zero, suc, _≤_}
 use native.Mathlib.Omega.{arith}
-use lib.Dec.{leb, eqb}
+use lib.Dec.{eqb}
 use lib.ListN.{length}
 use borrow.Author.Tests.{eqb-true, eqb-false, eq-eqb, leb-true, le-leb}
-use Rattle.theory.specs.Logic.{_and_, within}
+use Rattle.theory.specs.Logic.{_and_}
 use Rattle.theory.proofs.Tests.{by-cases, both, and-i, inside, within-low, within-high, tests}
 use Rattle.protocol.specs.Opcodes.{supportedOnly, freshMask}
 use Rattle.member.specs.declared.Member.{Member}
 use Rattle.member.specs.Record.{recordSize, recordOf}
-use Rattle.member.specs.Member.{freshOf}
 use Rattle.member.specs.Sound.{soundRecord}
 use Rattle.member.proofs.Record.{length-record}
-use Rattle.member.proofs.Sound.{SoundMember, sound-record, sound-member, sound-fresh}
+use Rattle.member.proofs.Sound.{SoundMember, sound-record, sound-back, sound-member, sound-fresh}
 use Rattle.card.specs.declared.Setup.{Setup}
 use Rattle.card.specs.Layout.{headSize, cardSize, setupOf, inUseOf, isMember, HasRecord, recordIn, withInUse, withRecord, memberIn, withMember, freshCard}
 use Rattle.card.specs.Sound.{inNumbers, soundSetup, soundUpTo, isSound}
-use Rattle.card.proofs.LayoutLaws.{has-record, record-long, length-with-record, setup-with-record, use-with-record, record-same, record-other, length-with-use, setup-with-use, record-with-use, use-same, length-fresh, setup-fresh, use-fresh, record-fresh}
+use Rattle.card.proofs.LayoutLaws.{has-record, record-long, record-back, length-with-record, setup-with-record, use-with-record, record-same, record-other, length-with-use, setup-with-use, record-with-use, use-same, length-fresh, setup-fresh, use-fresh, record-fresh}
 
 -- ---- the test, as facts, and back ----
 
@@ -107,6 +106,11 @@ module _ (c : List ℕ) (s : Sound c) where
   pub sound-member-in : (m : ℕ) → isMember c m ≡ true → SoundIn c (memberIn c m)
   unfolding memberIn
   sound-member-in m e = sound-member _ _ _ (recordIn c m) (record-long c m (sound-has m e)) (sound-at m e)
+
+  -- to put the member that is there changes nothing
+  pub member-back : (m : ℕ) → isMember c m ≡ true → withMember c m (memberIn c m) ≡ c
+  unfolding withMember memberIn
+  member-back m e = rw (sound-back _ _ _ (recordIn c m) (record-long c m (sound-has m e)) (sound-at m e)) (record-back c m)
 
 -- ---- what keeps a card sound ----
 

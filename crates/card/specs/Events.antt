@@ -1,6 +1,5 @@
 -- Setup and the card events: document 01, "The card and what it hears" and "Card events and setup answer"; the first
 -- that applies, nothing changed. Each gives its answer and the card after it. Assumes nothing.
-use mathlib.Core.Bool.{Bool}
 use mathlib.Core.List.{List}
 use Prim.Native.Nat.{ℕ, _≤_}
 use lib.Dec.{eqb}

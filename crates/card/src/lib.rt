@@ -1,7 +1,5 @@
 // The card as lent bytes: its layout, soundness, setup, both resets and the card store.
 ghost use mathlib.Core.Path.{_≡_};
-ghost use mathlib.Core.Bool.{true};
-ghost use mathlib.Core.List.{_++_};
 ghost use Prim.Native.Nat.{_+_, _^_, _≤_, _<_};
 ghost use lib.Dec.{eqb};
 ghost use lib.ListN.{length, replicate};
@@ -25,6 +23,7 @@ pub struct Setup {
     pub features: [u8; 16],
 }
 
+// Header: N, Q, G, S 1 byte each, device features 16, list in use 8; then a record for each member.
 const FEATURES_AT: usize = 4;
 
 const IN_USE_AT: usize = 20;
@@ -33,6 +32,7 @@ const HEAD_SIZE: usize = 28;
 
 const RECORD_SIZE: usize = 222;
 
+// Commands 0x0 and 0x1.
 const FRESH_MASK: u64 = 3;
 
 // ---- the layout ----
@@ -43,19 +43,20 @@ fn wide(b: u8) -> u64
     b as u64
 }
 
-// The exact length of a card, 0 if there is none with so many members.
+// The exact length of a card in bytes, 0 if there is none with so many members.
 pub fn card_bytes(members: u64) -> usize
     ensures { λ r. ⌜ r ≡ cardBytes members ⌝ }
 {
     if members < 1 {
         return 0;
     }
-    if 16 < members {
-        return 0;
+    if members <= 16 {
+        return HEAD_SIZE + RECORD_SIZE * (members as usize);
     }
-    HEAD_SIZE + RECORD_SIZE * (members as usize)
+    0
 }
 
+// The setup that a card's header holds.
 pub fn setup_of(card: &[u8]) -> Setup
     requires { ⌜ headSize ≤ length (now card) ⌝ }
     ensures { λ r. ⌜ r ≡ setupOf (now (card .entry)) ⌝ }
@@ -105,6 +106,7 @@ fn record_at(m: u64) -> usize
     HEAD_SIZE + RECORD_SIZE * (m as usize - 1)
 }
 
+// Member m by value, and the card with another member m.
 pub fn load_member(card: &[u8], m: u64) -> Member
     requires { ⌜ HasRecord (now card) m ⌝ }
     ensures { λ r. ⌜ r ≡ memberIn (now (card .entry)) m ⌝ }
@@ -123,6 +125,7 @@ pub fn save_member(card: &mut [u8], m: u64, x: Member)
 
 // ---- soundness ----
 
+// Document 01's numbers: N 1 to 16, Q 1 to 4, G and S at most 8.
 fn in_numbers(members: u64, queues: u64, gets: u64, sets: u64) -> bool
     ensures { λ r. ⌜ r ≡ inNumbers members queues gets sets ⌝ }
 {
@@ -195,6 +198,7 @@ fn is_use_supported(card: &[u8]) -> bool
     protocol::supported_only(in_use(card))
 }
 
+// Whether the card is sound: tried at each command, the cheap tests first.
 pub fn is_sound(card: &[u8]) -> bool
     ensures { λ r. ⌜ r ≡ isSound (now (card .entry)) ⌝ }
 {
@@ -212,7 +216,7 @@ pub fn is_sound(card: &[u8]) -> bool
 
 // ---- setup ----
 
-// Every byte is 0.
+// A buffer of zeros, which is no sound card.
 fn clear(card: &mut [u8])
     ensures { λ _. ⌜ now (card .exit) ≡ replicate (length (now (card .entry))) 0 ⌝ }
 {
@@ -223,7 +227,7 @@ fn clear(card: &mut [u8])
     }
 }
 
-// The header of a fresh card: the setup, and commands 0x0 and 0x1 in use.
+// The header of a fresh card.
 fn write_head(card: &mut [u8], s: Setup)
     requires { ⌜ headSize ≤ length (now card) ⌝ }
     ensures { λ _. ⌜ now (card .exit) ≡ put 0 (freshHead s) (now (card .entry)) ⌝ }
@@ -248,6 +252,7 @@ fn write_members(card: &mut [u8], n: u64, features: [u8; 16])
     }
 }
 
+// Every byte of a fresh card.
 fn write_fresh(card: &mut [u8], s: Setup)
     requires { ⌜ length (now card) ≡ cardSize (s .members) ⌝ }
     ensures { λ _. ⌜ now (card .exit) ≡ freshCard s ⌝ }
@@ -270,6 +275,7 @@ fn is_setup(members: u64, queues: u64, gets: u64, sets: u64, features: usize, bu
     buffer == card_bytes(members)
 }
 
+// The setup with these numbers, which fit its bytes.
 fn setup_from(members: u64, queues: u64, gets: u64, sets: u64, features: &[u8]) -> Setup
     requires { ⌜ InBounds members queues gets sets × (length (now features) ≡ 16) ⌝ }
     ensures { λ r. ⌜ r ≡ setupWith members queues gets sets (now (features .entry)) ⌝ }
@@ -285,6 +291,7 @@ fn setup_from(members: u64, queues: u64, gets: u64, sets: u64, features: &[u8]) 
     }
 }
 
+// Setup: a fresh card, or where it is refused a buffer of zeros.
 pub fn set_up(
     card: &mut [u8],
     members: u64,
@@ -299,13 +306,14 @@ pub fn set_up(
         clear(card);
         return EventAnswer::BadSetup;
     }
-    let s = setup_from(members, queues, gets, sets, features);
-    write_fresh(card, s);
+    let made = setup_from(members, queues, gets, sets, features);
+    write_fresh(card, made);
     EventAnswer::Done
 }
 
 // ---- events ----
 
+// Reset of one member: it is fresh, and nothing else changes.
 pub fn reset_member(card: &mut [u8], m: u64) -> EventAnswer
     ensures { λ r. ⌜ (r, now (card .exit)) ≡ resetMember (now (card .entry)) m ⌝ }
 {
@@ -322,6 +330,7 @@ pub fn reset_member(card: &mut [u8], m: u64) -> EventAnswer
     EventAnswer::Done
 }
 
+// Reset of the whole card: as after setup.
 pub fn reset_card(card: &mut [u8]) -> EventAnswer
     ensures { λ r. ⌜ (r, now (card .exit)) ≡ resetCard (now (card .entry)) ⌝ }
 {
@@ -333,6 +342,7 @@ pub fn reset_card(card: &mut [u8]) -> EventAnswer
     EventAnswer::Done
 }
 
+// One part of member m is set, with the selector bytes that its type names.
 fn store_in(card: &mut [u8], m: u64, t: u16, selector: u64, value: &[u8]) -> EventAnswer
     requires { ⌜ HasRecord (now card) m ⌝ }
     ensures { λ r. ⌜ (r, now (card .exit)) ≡ storeIn (now (card .entry)) m t selector (now (value .entry)) ⌝ }
@@ -342,11 +352,12 @@ fn store_in(card: &mut [u8], m: u64, t: u16, selector: u64, value: &[u8]) -> Eve
     if protocol::event_number(a) != 0 {
         return a;
     }
-    let x = load_member(card, m).store(queues, t, selector, value);
-    save_member(card, m, x);
+    let changed = load_member(card, m).store(queues, t, selector, value);
+    save_member(card, m, changed);
     a
 }
 
+// A card store (01's term): the data path sets one part of one member, in either mode.
 pub fn store(card: &mut [u8], m: u64, t: u16, selector: u64, value: &[u8]) -> EventAnswer
     ensures { λ r. ⌜ (r, now (card .exit)) ≡ store (now (card .entry)) m t selector (now (value .entry)) ⌝ }
 {

@@ -1,4 +1,5 @@
--- A loop that fills an array with what a function makes of each element of another. Assumes nothing.
+-- Arrays within a struct, and a loop that fills an array with what a function makes of each element of another. Assumes
+-- nothing.
 use mathlib.Core.Path.{_≡_, sym, _∙_}
 use mathlib.Core.List.{List, map}
 use Prim.Native.Nat.{ℕ, _+_, _≤_, _<_}
@@ -6,6 +7,10 @@ use native.Mathlib.Numerals.{add-one}
 use native.Mathlib.Omega.{arith}
 use lib.ListN.{length, getD, take, set, length-map, List·getD-map}
 use lib.Seq.{take-suc, take-suc-set, take-all}
+
+-- a field of n structs has n elements: what is known is the length of their values in the machine
+pub unmapped : {A B : Type 0} (f : A → B) (xs : List A) (n : ℕ) → length (map f xs) ≡ n → length xs ≡ n
+unmapped f xs n e = sym (length-map xs f) ∙ e
 
 -- the first i elements of d are made
 module _ {A B : Type 0} (f : A → B) (xs : List A) (d : List B) (i : ℕ) (n : ℕ) (e : take i d ≡ take i (map f xs)) (l : length d ≡ n) (k : length xs ≡ n) where

@@ -1,12 +1,15 @@
 -- Each return of the functions on one byte or one object, in the shape in which it is asked. Assumes nothing.
 use mathlib.Core.Path.{_≡_, refl}
+use native.Mathlib.Omega.{arith}
+use mathlib.Core.List.{List}
 use Prim.Native.Nat.{ℕ, zero, suc, _≤_}
-use lib.ListN.{length, getD, List·getD-eq-default}
+use lib.ListN.{length, getD, set, List·getD-eq-default}
 use lib.Seq.{set-out}
 use Rattle.protocol.specs.declared.Mode.the-variants.{Stopped}
 use Rattle.protocol.specs.declared.ObjectKind.the-variants as kind
 use Rattle.member.specs.declared.Slot.{Slot}
 use Rattle.member.specs.declared.Slot.the-variants.{Get, Set}
+use Rattle.member.specs.declared.ObjectRecord.{ObjectRecord}
 use Rattle.member.specs.declared.Member.{Member}
 use Rattle.member.specs.declared.Found.{Found}
 use Rattle.member.specs.declared.Found.the-variants.{Live, Nothing}
@@ -33,10 +36,20 @@ module _ (m : Member) (id : ℕ) where
   unfolding lookupOf
   lookup-in f e = e
 
-  pub lookup-out : length (m .objects) ≤ id → Nothing ≡ lookupOf m id
-  unfolding lookupOf
-  lookup-out h = rw (List·getD-eq-default (m .objects) free h)
-
-  pub object-out : (s : Slot) → length (m .objects) ≤ id → m ≡ withObject m id s
+  pub object-in : (s : Slot) (l : List ObjectRecord) → l ≡ set (m .objects) id (record { slot = s })
+      → record { mode = m .mode; objects = l; values = m .values } ≡ withObject m id s
   unfolding withObject
-  object-out s h = rw (set-out (m .objects) id (record { slot = s }) h)
+  object-in s l e = rw e
+
+  -- an id that none of the n records has
+  module _ (n : ℕ) (l : length (m .objects) ≡ n) (h : n ≤ id) where
+    out : length (m .objects) ≤ id
+    out = omega arith
+
+    pub lookup-out : Nothing ≡ lookupOf m id
+    unfolding lookupOf
+    lookup-out = rw (List·getD-eq-default (m .objects) free out)
+
+    pub object-out : (s : Slot) → m ≡ withObject m id s
+    unfolding withObject
+    object-out s = rw (set-out (m .objects) id (record { slot = s }) out)

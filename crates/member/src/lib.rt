@@ -1,9 +1,9 @@
 // A member of the card: its record as a struct by value, its bytes, and its resource objects.
 ghost use mathlib.Core.Path.{_≡_};
 ghost use mathlib.Core.List.{map};
-ghost use Prim.Native.Nat.{_+_};
+ghost use Prim.Native.Nat.{_+_, _<_};
 ghost use lib.Dec.{leb, eqb};
-ghost use lib.ListN.{length, drop};
+ghost use lib.ListN.{length, drop, set};
 ghost use Rattle.theory.specs.Logic.{_and_, one};
 ghost use Rattle.theory.specs.Bytes.{part};
 ghost use Rattle.inventory.specs.Inventory.{valuesSize};
@@ -11,11 +11,26 @@ ghost use Rattle.parts.specs.declared.ListForm.the-variants.{Parts};
 ghost use Rattle.parts.specs.List.{partsOf};
 ghost use Rattle.parts.specs.Apply.{applied};
 ghost use Rattle.member.specs.Record.{valuesAt, recordSize, modeOf, modeByte, objectOf, objectByte, objectBytes, memberOf, recordOf};
-ghost use Rattle.member.specs.Objects.{slotFor, foundIn, lookupOf, withObject, count, allUpTo, withinLimits, roomIn};
+ghost use Rattle.member.specs.Objects.{free, slotFor, foundIn, lookupOf, withObject, count, allUpTo, withinLimits, roomIn};
 ghost use Rattle.member.specs.Member.{freshOf, withMode, withValues, withPart};
 ghost use Rattle.member.specs.Sound.{soundRecord};
 use protocol::Mode;
 use protocol::ObjectKind;
+
+// The record: mode 1 byte, one object record for each id, then the values.
+pub const RECORD_SIZE: usize = 222;
+
+const IDS: usize = 16;
+
+const OBJECTS_AT: usize = 1;
+
+const VALUES_AT: usize = 17;
+
+const VALUES_SIZE: usize = 205;
+
+const FEATURES_SIZE: usize = 16;
+
+const FEATURES_END: usize = VALUES_AT + FEATURES_SIZE;
 
 // What one object id holds.
 pub enum Slot {
@@ -31,8 +46,8 @@ pub struct ObjectRecord {
 // A member's mode, its resource objects by id, and the values of its parts.
 pub struct Member {
     pub mode: Mode,
-    pub objects: [ObjectRecord; 16],
-    pub values: [u8; 205],
+    pub objects: [ObjectRecord; IDS],
+    pub values: [u8; VALUES_SIZE],
 }
 
 // What the lookup of an object id finds.
@@ -79,12 +94,12 @@ fn object_byte(o: ObjectRecord) -> u8
     }
 }
 
-fn objects_in(bytes: [u8; 16]) -> [ObjectRecord; 16]
+fn objects_in(bytes: [u8; IDS]) -> [ObjectRecord; IDS]
     ensures { λ r. ⌜ r ≡ map objectOf bytes ⌝ }
 {
-    let mut objects = [ObjectRecord { slot: Slot::Free }; 16];
+    let mut objects = [ObjectRecord { slot: Slot::Free }; IDS];
     let mut i = 0;
-    while i < 16 {
+    while i < IDS {
         let o = object_in(bytes[i]);
         objects[i] = o;
         i += 1;
@@ -92,12 +107,12 @@ fn objects_in(bytes: [u8; 16]) -> [ObjectRecord; 16]
     objects
 }
 
-fn object_bytes(objects: [ObjectRecord; 16]) -> [u8; 16]
+fn object_bytes(objects: [ObjectRecord; IDS]) -> [u8; IDS]
     ensures { λ r. ⌜ r ≡ map objectByte objects ⌝ }
 {
-    let mut bytes = [0u8; 16];
+    let mut bytes = [0u8; IDS];
     let mut i = 0;
-    while i < 16 {
+    while i < IDS {
         let o = objects[i];
         bytes[i] = object_byte(o);
         i += 1;
@@ -113,19 +128,19 @@ fn hit(b: u8, v: u8) -> u8
     if b == v { 1 } else { 0 }
 }
 
-fn count_of(v: u8, bytes: [u8; 16]) -> u8
+fn count_of(v: u8, bytes: [u8; IDS]) -> u8
     ensures { λ r. ⌜ r ≡ count v bytes ⌝ }
 {
     let mut n: u8 = 0;
     let mut i = 0;
-    while i < 16 {
+    while i < IDS {
         n += hit(bytes[i], v);
         i += 1;
     }
     n
 }
 
-fn is_within_limits(bytes: [u8; 16], gets: u8, sets: u8) -> bool
+fn is_within_limits(bytes: [u8; IDS], gets: u8, sets: u8) -> bool
     ensures { λ r. ⌜ r ≡ withinLimits gets sets bytes ⌝ }
 {
     if gets < count_of(1, bytes) {
@@ -141,19 +156,19 @@ fn still_up_to(all: bool, b: u8, n: u8) -> bool
 }
 
 // Whether each byte from an id on is at most n: every one is looked at, the loop has no early exit.
-fn are_up_to(n: u8, from: usize, bytes: [u8; 16]) -> bool
+fn are_up_to(n: u8, from: usize, bytes: [u8; IDS]) -> bool
     ensures { λ r. ⌜ r ≡ allUpTo n (drop from bytes) ⌝ }
 {
     let mut all = true;
     let mut i = from;
-    while i < 16 {
+    while i < IDS {
         all = still_up_to(all, bytes[i], n);
         i += 1;
     }
     all
 }
 
-fn are_objects_sound(bytes: [u8; 16], gets: u8, sets: u8) -> bool
+fn are_objects_sound(bytes: [u8; IDS], gets: u8, sets: u8) -> bool
     ensures { λ r. ⌜ r ≡ allUpTo 2 bytes and allUpTo 0 (drop (gets + sets) bytes) and withinLimits gets sets bytes ⌝ }
 {
     if !are_up_to(2, 0, bytes) {
@@ -190,7 +205,7 @@ fn found_in(slot: Slot) -> Found
 pub fn lookup(m: Member, id: usize) -> Found
     ensures { λ r. ⌜ r ≡ lookupOf m id ⌝ }
 {
-    if 16 <= id {
+    if IDS <= id {
         return Found::Nothing;
     }
     let o = m.objects[id];
@@ -202,12 +217,48 @@ pub fn lookup(m: Member, id: usize) -> Found
 pub fn put_object(m: Member, id: usize, slot: Slot) -> Member
     ensures { λ r. ⌜ r ≡ withObject m id slot ⌝ }
 {
-    if 16 <= id {
+    if IDS <= id {
         return m;
     }
     let mut n = m;
     n.objects[id] = ObjectRecord { slot };
     n
+}
+
+// Clears one record of a lent slice and keeps all others. The borrow checker covers no slice of structs, so the proofs of
+// this function and the next are walks by hand.
+fn clear(objects: &mut [ObjectRecord], i: usize)
+    requires { ⌜ i < length (now objects) ⌝ }
+    ensures { λ _. ⌜ now (objects .exit) ≡ set (now (objects .entry)) i free ⌝ }
+{
+    objects[i] = ObjectRecord { slot: Slot::Free };
+}
+
+// The records with one cleared: it lends its own array to `clear`, so that no caller has to lend one.
+fn cleared(mut objects: [ObjectRecord; 16], i: usize) -> [ObjectRecord; 16]
+    requires { ⌜ i < 16 ⌝ }
+    ensures { λ r. ⌜ r ≡ set objects i free ⌝ }
+{
+    clear(&mut objects, i);
+    objects
+}
+
+// The member without the object of the id, whose id and room are free again; an id that no record has changes nothing.
+pub fn without(m: Member, id: usize) -> Member
+    ensures { λ r. ⌜ r ≡ withObject m id Slot.Free ⌝ }
+{
+    if 16 <= id {
+        return m;
+    }
+    let mode = m.mode;
+    let objects = m.objects;
+    let left = cleared(objects, id);
+    let values = m.values;
+    Member {
+        mode,
+        objects: left,
+        values,
+    }
 }
 
 // Whether the member has at most so many get and set objects.
@@ -221,21 +272,21 @@ pub fn has_room(m: Member, gets: u8, sets: u8) -> bool
 
 // ---- the record ----
 
-fn object_bytes_in(rec: &[u8]) -> [u8; 16]
+fn object_bytes_in(rec: &[u8]) -> [u8; IDS]
     requires { ⌜ length (now rec) ≡ recordSize ⌝ }
     ensures { λ r. ⌜ r ≡ objectBytes (now (rec .entry)) ⌝ }
 {
-    let mut bytes = [0u8; 16];
-    wire::copy(&mut bytes, 0, &rec[1..17]);
+    let mut bytes = [0u8; IDS];
+    wire::copy(&mut bytes, 0, &rec[OBJECTS_AT..VALUES_AT]);
     bytes
 }
 
-fn values_in(rec: &[u8]) -> [u8; 205]
+fn values_in(rec: &[u8]) -> [u8; VALUES_SIZE]
     requires { ⌜ length (now rec) ≡ recordSize ⌝ }
     ensures { λ r. ⌜ r ≡ part valuesAt valuesSize (now (rec .entry)) ⌝ }
 {
-    let mut values = [0u8; 205];
-    wire::copy(&mut values, 0, &rec[17..222]);
+    let mut values = [0u8; VALUES_SIZE];
+    wire::copy(&mut values, 0, &rec[VALUES_AT..RECORD_SIZE]);
     values
 }
 
@@ -261,9 +312,9 @@ pub fn save(m: Member, rec: &mut [u8])
     rec[0] = mode_byte(mode);
     let objects = m.objects;
     let bytes = object_bytes(objects);
-    wire::copy(rec, 1, &bytes);
+    wire::copy(rec, OBJECTS_AT, &bytes);
     let values = m.values;
-    wire::copy(rec, 17, &values);
+    wire::copy(rec, VALUES_AT, &values);
 }
 
 pub fn is_sound_record(rec: &[u8], gets: u8, sets: u8, features: &[u8]) -> bool
@@ -276,15 +327,15 @@ pub fn is_sound_record(rec: &[u8], gets: u8, sets: u8, features: &[u8]) -> bool
     if !are_objects_sound(object_bytes_in(rec), gets, sets) {
         return false;
     }
-    wire::equal(&rec[17..33], features)
+    wire::equal(&rec[VALUES_AT..FEATURES_END], features)
 }
 
 impl Member {
-    pub fn fresh(features: [u8; 16]) -> Member
+    pub fn fresh(features: [u8; FEATURES_SIZE]) -> Member
         ensures { λ r. ⌜ r ≡ freshOf features ⌝ }
     {
-        let objects = [ObjectRecord { slot: Slot::Free }; 16];
-        let mut values = [0u8; 205];
+        let objects = [ObjectRecord { slot: Slot::Free }; IDS];
+        let mut values = [0u8; VALUES_SIZE];
         wire::copy(&mut values, 0, &features);
         Member {
             mode: Mode::Running,
@@ -293,63 +344,63 @@ impl Member {
         }
     }
 
-    pub fn reset(self, features: [u8; 16]) -> Member
+    pub fn reset(self, features: [u8; FEATURES_SIZE]) -> Member
         ensures { λ r. ⌜ r ≡ freshOf features ⌝ }
     {
         Member::fresh(features)
     }
 
-    pub fn stop(self) -> Member
-        ensures { λ r. ⌜ r ≡ withMode self Mode.Stopped ⌝ }
+    fn with_mode(self, mode: Mode) -> Member
+        ensures { λ r. ⌜ r ≡ withMode self mode ⌝ }
     {
         let objects = self.objects;
         let values = self.values;
         Member {
-            mode: Mode::Stopped,
+            mode,
             objects,
             values,
         }
     }
 
-    pub fn resume(self) -> Member
-        ensures { λ r. ⌜ r ≡ withMode self Mode.Running ⌝ }
+    fn with_values(self, values: [u8; VALUES_SIZE]) -> Member
+        ensures { λ r. ⌜ r ≡ withValues self values ⌝ }
     {
+        let mode = self.mode;
         let objects = self.objects;
-        let values = self.values;
         Member {
-            mode: Mode::Running,
+            mode,
             objects,
             values,
         }
+    }
+
+    pub fn stop(self) -> Member
+        ensures { λ r. ⌜ r ≡ withMode self Mode.Stopped ⌝ }
+    {
+        self.with_mode(Mode::Stopped)
+    }
+
+    pub fn resume(self) -> Member
+        ensures { λ r. ⌜ r ≡ withMode self Mode.Running ⌝ }
+    {
+        self.with_mode(Mode::Running)
     }
 
     // A card store: one part of the member, where it can be stored.
     pub fn store(self, queues: u8, t: u16, selector: u64, value: &[u8]) -> Member
         ensures { λ r. ⌜ r ≡ withPart queues self t selector (now (value .entry)) ⌝ }
     {
-        let mode = self.mode;
-        let objects = self.objects;
         let mut values = self.values;
         parts::store_part(&mut values, queues, t, selector, value);
-        Member {
-            mode,
-            objects,
-            values,
-        }
+        self.with_values(values)
     }
 
     // The parts of an accepted list.
     pub fn set_parts(self, queues: u8, list: &[u8]) -> Member
         ensures { λ r. ⌜ r ≡ withValues self (applied queues (partsOf Parts (now (list .entry))) (self .values)) ⌝ }
     {
-        let mode = self.mode;
-        let objects = self.objects;
         let mut values = self.values;
         parts::apply(&mut values, queues, list);
-        Member {
-            mode,
-            objects,
-            values,
-        }
+        self.with_values(values)
     }
 }

@@ -7,7 +7,6 @@ ghost use Rattle.member.specs.Member.{featuresIn, withMode};
 ghost use Rattle.parts.specs.Rules.{causeOf, isAccepted};
 use member::Found;
 use member::Member;
-use member::Slot;
 use protocol::Answer;
 use protocol::ChangeOp;
 use protocol::Metadata;
@@ -190,7 +189,7 @@ fn destroy(m: Member, id: usize) -> Changed
     let Found::Live(_) = member::lookup(m, id) else {
         return refuse(m, Answer::NotLive);
     };
-    done(member::put_object(m, id, Slot::Free))
+    done(member::without(m, id))
 }
 
 fn set_mode(m: Member, mode: Mode) -> Changed

@@ -1,4 +1,6 @@
 pub mod Walk
+pub mod ByHand
+pub mod Reader
 pub mod Turns
 pub mod Tests
 pub mod Places

@@ -64,8 +64,8 @@ fn value_size(form: ListForm, list: &[u8], at: usize) -> usize
     }
 }
 
-// The part that stands at a position. Its length is compared with what is left, so that no sum can wrap.
-pub fn next_part(form: ListForm, list: &[u8], at: usize) -> Step
+// What stands at a position. A length is compared with what is left, so that no sum can wrap.
+fn step_at(form: ListForm, list: &[u8], at: usize) -> Step
     ensures { λ r. ⌜ r ≡ stepAt form (now (list .entry)) at ⌝ }
 {
     if list.len() <= at {
@@ -87,6 +87,45 @@ pub fn next_part(form: ListForm, list: &[u8], at: usize) -> Step
         start,
         len,
     }
+}
+
+// The reader of a list: the list, and a position in it.
+pub struct PartReader<'a> {
+    pub list: &'a [u8],
+    pub at: usize,
+}
+
+impl<'a> PartReader<'a> {
+    // A reader at the start of a list.
+    pub fn new(list: &'a [u8]) -> Self
+        ensures { λ r. ⌜ (r .list ≡ list .entry) × (r .at ≡ 0) ⌝ }
+    {
+        Self { list, at: 0 }
+    }
+
+    // The reader, moved to another position.
+    pub fn moved(self, at: usize) -> Self
+        ensures { λ r. ⌜ (r .list ≡ self .entry .list) × (r .at ≡ at) ⌝ }
+    {
+        Self {
+            list: self.list,
+            at,
+        }
+    }
+
+    // What stands at the reader's position.
+    pub fn next(self, form: ListForm) -> Step
+        ensures { λ r. ⌜ r ≡ stepAt form (now (self .entry .list)) (self .entry .at) ⌝ }
+    {
+        step_at(form, self.list, self.at)
+    }
+}
+
+// What stands at a position, through a reader.
+pub fn next_part(form: ListForm, list: &[u8], at: usize) -> Step
+    ensures { λ r. ⌜ r ≡ stepAt form (now (list .entry)) at ⌝ }
+{
+    PartReader::new(list).moved(at).next(form)
 }
 
 // Whether no header and no value runs past the end.

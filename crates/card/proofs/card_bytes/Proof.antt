@@ -1,3 +1,4 @@
+-- `card::card_bytes` meets its contract: each return is a step of `cardBytes`. Assumes nothing.
 use borrow.Author.Needs.{needs}
 use Rattle.theory.proofs.Ladder.{ladder}
 use Rattle.card.specs.Layout.{cardBytes}
@@ -8,4 +9,4 @@ pub card-bytes-spec : {M : Type 1} → statement M
 unfolding cardBytes
 card-bytes-spec =
     tie.close
-    (tie.spec (λ c. search ladder) (λ c. search ladder) (λ c. search needs) (λ c. search needs) (λ c. search ladder))
+    (tie.spec (λ c. search ladder) (λ c. search needs) (λ c. search needs) (λ c. search ladder) (λ c. search ladder))

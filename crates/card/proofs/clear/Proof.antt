@@ -1,3 +1,4 @@
+-- `card::clear` meets its contract. The invariant: the bytes passed are 0. Assumes nothing.
 use mathlib.Core.Path.{_≡_}
 use Prim.Native.Nat.{_-_, _≤_}
 use borrow.Author.Needs.{needs}

@@ -1,3 +1,4 @@
+-- `card::in_numbers` meets its contract: each return is a step of `inNumbers`. Assumes nothing.
 use Rattle.theory.proofs.Ladder.{ladder}
 use Rattle.card.specs.Sound.{inNumbers}
 use Rattle.card.proofs.in_numbers.Statement.{statement}

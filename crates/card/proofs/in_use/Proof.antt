@@ -1,3 +1,4 @@
+-- `card::in_use` meets its contract: a number is read. Assumes nothing.
 use borrow.Author.Needs.{needs}
 use Rattle.card.specs.Layout.{inUseOf}
 use Rattle.card.proofs.in_use.Statement.{statement}

@@ -1,3 +1,4 @@
+-- `card::is_length_right` meets its contract. N is the first byte. Assumes nothing.
 use borrow.Author.Needs.{needs}
 use Rattle.card.proofs.ReadLaws.{length-short, length-tested}
 use Rattle.card.proofs.is_length_right.Statement.{statement}

@@ -1,3 +1,4 @@
+-- `card::is_member` meets its contract: the two tests are the two ends. Assumes nothing.
 use borrow.Author.Needs.{needs}
 use Rattle.theory.proofs.Ladder.{ladder}
 use Rattle.card.proofs.ReadLaws.{member-high}

@@ -1,3 +1,4 @@
+-- `card::is_setup` meets its contract: each return is a step of the test. Assumes nothing.
 use borrow.Author.Needs.{needs}
 use Rattle.theory.proofs.Ladder.{ladder}
 use Rattle.card.proofs.EventLaws.{bytes-tested}

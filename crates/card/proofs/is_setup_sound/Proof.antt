@@ -1,3 +1,4 @@
+-- `card::is_setup_sound` meets its contract: the four numbers are the first four bytes. Assumes nothing.
 use borrow.Author.Needs.{needs}
 use Rattle.card.proofs.ReadLaws.{numbers-tested}
 use Rattle.card.proofs.is_setup_sound.Statement.{statement}

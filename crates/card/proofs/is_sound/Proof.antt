@@ -1,3 +1,4 @@
+-- `card::is_sound` meets its contract: each return is a step of `isSound`. Assumes nothing.
 use borrow.Author.Needs.{needs}
 use Rattle.theory.proofs.Ladder.{ladder}
 use Rattle.card.specs.Sound.{isSound}

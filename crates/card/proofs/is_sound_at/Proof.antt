@@ -1,3 +1,4 @@
+-- `card::is_sound_at` meets its contract: the parts lent are the record and the features. Assumes nothing.
 use borrow.Author.Needs.{needs}
 use Rattle.card.proofs.ReadLaws.{record-tested}
 use Rattle.card.proofs.is_sound_at.Statement.{statement}

@@ -1,3 +1,4 @@
+-- `card::is_use_supported` meets its contract: the list is read, and tested. Assumes nothing.
 use borrow.Author.Needs.{needs}
 use Rattle.card.proofs.is_use_supported.Statement.{statement}
 use Rattle.card.proofs.is_use_supported.Tie as tie

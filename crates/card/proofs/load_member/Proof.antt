@@ -1,3 +1,4 @@
+-- `card::load_member` meets its contract: the part lent is the record. Assumes nothing.
 use borrow.Author.Needs.{needs}
 use Rattle.card.proofs.ReadLaws.{member-loaded}
 use Rattle.card.proofs.load_member.Statement.{statement}

@@ -1,7 +1,8 @@
+-- `card::reset_card` meets its contract: each return is a step of `resetCard`. Assumes nothing.
 use borrow.Author.Needs.{needs}
 use Rattle.theory.proofs.Ladder.{ladder}
 use Rattle.card.specs.Events.{resetCard}
-use Rattle.card.proofs.EventLaws.{told-long, told-size, card-reset}
+use Rattle.card.proofs.EventLaws.{told, card-reset}
 use Rattle.card.proofs.reset_card.Statement.{statement}
 use Rattle.card.proofs.reset_card.Tie as tie
 
@@ -9,5 +10,5 @@ pub reset-card-spec : {M : Type 1} → statement M
 unfolding resetCard
 reset-card-spec =
     tie.close
-    (tie.spec (λ c κs. search needs) (λ c. search needs) (λ c. search ladder) (λ c κs. search (needs, told-long))
-    (λ c κs. search (needs, told-size)) (λ c. search needs) (λ c. search (ladder, card-reset)))
+    (tie.spec (λ c κs. search needs) (λ c. search needs) (λ c. search ladder) (λ c κs. search told)
+    (λ c κs. search told) (λ c. search needs) (λ c. search (ladder, card-reset)))

@@ -1,7 +1,8 @@
+-- `card::reset_member` meets its contract: each return is a step of `resetMember`. Assumes nothing.
 use borrow.Author.Needs.{needs}
 use Rattle.theory.proofs.Ladder.{ladder}
 use Rattle.card.specs.Events.{resetMember}
-use Rattle.card.proofs.EventLaws.{told-long, told-record, member-reset}
+use Rattle.card.proofs.EventLaws.{told, member-reset}
 use Rattle.card.proofs.reset_member.Statement.{statement}
 use Rattle.card.proofs.reset_member.Tie as tie
 
@@ -9,7 +10,7 @@ pub reset-member-spec : {M : Type 1} → statement M
 unfolding resetMember
 reset-member-spec =
     tie.close
-    (tie.spec (λ c κs. search needs) (λ c. search needs) (λ c. search ladder) (λ c κs. search (needs, told-long))
-    (λ c. search needs) (λ c. search ladder) (λ c κs. search (needs, told-long)) (λ c κs. search (needs, told-record))
-    (λ c κs. search needs) (λ c κs. search (needs, told-record)) (λ c. search needs)
+    (tie.spec (λ c κs. search needs) (λ c. search needs) (λ c. search ladder) (λ c κs. search told)
+    (λ c. search needs) (λ c. search ladder) (λ c κs. search told) (λ c κs. search told)
+    (λ c κs. search needs) (λ c κs. search told) (λ c. search needs)
     (λ c. search (ladder, member-reset)))

@@ -1,3 +1,4 @@
+-- `card::set_in_use` meets its contract: a number is written. Assumes nothing.
 use borrow.Author.Needs.{needs}
 use Rattle.card.specs.Layout.{withInUse}
 use Rattle.card.proofs.set_in_use.Statement.{statement}

@@ -1,3 +1,4 @@
+-- `card::set_up` meets its contract: each return is a step of `setUp`. Assumes nothing.
 use borrow.Author.Needs.{needs}
 use Rattle.card.proofs.EventLaws.{setup-refused, setup-bounds, setup-sixteen, setup-long, setup-done}
 use Rattle.card.proofs.set_up.Statement.{statement}

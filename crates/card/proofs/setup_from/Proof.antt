@@ -1,3 +1,4 @@
+-- `card::setup_from` meets its contract: the features are copied whole. Assumes nothing.
 use borrow.Author.Needs.{needs}
 use Rattle.card.proofs.EventLaws.{setup-made}
 use Rattle.card.proofs.setup_from.Statement.{statement}

@@ -1,3 +1,4 @@
+-- `card::setup_of` meets its contract: four bytes and a copy are the setup. Assumes nothing.
 use borrow.Author.Needs.{needs}
 use Rattle.card.proofs.ReadLaws.{setup-copied}
 use Rattle.card.proofs.setup_of.Statement.{statement}

@@ -1,3 +1,4 @@
+-- `card::store_in` meets its contract: each return is an answer of `storeIn`. Assumes nothing.
 use borrow.Author.Needs.{needs}
 use Rattle.card.proofs.EventLaws.{store-refused, stored-in}
 use Rattle.card.proofs.store_in.Statement.{statement}

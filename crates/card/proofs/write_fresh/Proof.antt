@@ -1,3 +1,4 @@
+-- `card::write_fresh` meets its contract: the header and the records are the whole card. Assumes nothing.
 use mathlib.Core.Path.{_≡_}
 use borrow.Author.Needs.{needs}
 use lib.ListN.{length}

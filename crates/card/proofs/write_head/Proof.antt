@@ -1,3 +1,4 @@
+-- `card::write_head` meets its contract: three writes, one after the other. Assumes nothing.
 use mathlib.Core.Path.{_≡_}
 use native.Mathlib.Omega.{arith}
 use borrow.Author.Needs.{needs}

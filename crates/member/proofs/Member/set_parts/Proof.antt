@@ -2,8 +2,7 @@ use borrow.Author.Needs.{needs}
 use Rattle.member.proofs.Member.set_parts.Statement.{statement}
 use Rattle.member.proofs.Member.set_parts.Tie as tie
 
-returns : tie.Need-returns
-returns c = rw (c .before .apply .ensures)
-
 pub set-parts-spec : {M : Type 1} → statement M
-set-parts-spec = tie.close (tie.spec (λ c. search needs) (λ c κs. search needs) returns)
+set-parts-spec =
+    tie.close
+    (tie.spec (λ c. search needs) (λ c κs. search needs) (λ c κs. search needs) (λ c. cc))

@@ -2,8 +2,7 @@ use borrow.Author.Needs.{needs}
 use Rattle.member.proofs.Member.store.Statement.{statement}
 use Rattle.member.proofs.Member.store.Tie as tie
 
-returns : tie.Need-returns
-returns c = rw (c .before .store-part .ensures)
-
 pub store-spec : {M : Type 1} → statement M
-store-spec = tie.close (tie.spec (λ c. search needs) (λ c κs. search needs) returns)
+store-spec =
+    tie.close
+    (tie.spec (λ c. search needs) (λ c κs. search needs) (λ c κs. search needs) (λ c. cc))
