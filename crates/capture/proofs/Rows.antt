@@ -7,7 +7,7 @@ use native.Mathlib.Nat.{add-zero}
 use native.Mathlib.Omega.{arith}
 use lib.ListN.{length, getD, length-append}
 use lib.Seq.{drop-append-add, take-at, drop-at, getD-append-add}
-use Rattle.theory.specs.Logic.{if_then_else_, _and_}
+use Rattle.theory.specs.Logic.{if_then_else_}
 use Rattle.theory.specs.Bytes.{part as bytesAt}
 use Rattle.theory.specs.Items.{itemsFrom}
 use Rattle.theory.proofs.Tests.{by-cases}
@@ -79,11 +79,11 @@ module _ (q : ℕ) (v : List ℕ) where
   item = partItem All q [] v
 
   item-there : (i : ℕ) → present q (rowAt i) ≡ true → item i ≡ partAt v i
-  unfolding partItem asks _and_ if_then_else_
+  unfolding partItem asks if_then_else_
   item-there i y = rw y
 
   item-absent : (i : ℕ) → present q (rowAt i) ≡ false → item i ≡ []
-  unfolding partItem asks _and_ if_then_else_
+  unfolding partItem asks if_then_else_
   item-absent i y = rw y
 
   split : (i : ℕ) (rest : List ℕ) → partAt v i ++ rest ≡ headerOf (rowAt i) ++ (bytesAt (offsetOf i) (rowAt i .size) v ++ rest)

@@ -6,11 +6,9 @@ use Prim.Native.Nat.{ℕ, zero, suc, _+_, _*_, _-_, _≤_, _<_}
 use native.Mathlib.Nat.{zero-add, sub-zero}
 use native.Mathlib.Omega.{arith}
 use borrow.Author.Tests.{eqb-true}
-use mir.Syntax.{w64}
-use mir.Val.{Fits}
 use lib.Dec.{eqb}
 use lib.ListN.{length, length-append}
-use Rattle.theory.specs.Logic.{if_then_else_, _and_}
+use Rattle.theory.specs.Logic.{if_then_else_}
 use Rattle.theory.specs.Items.{itemsFrom}
 use Rattle.theory.proofs.Tests.{by-cases}
 use Rattle.theory.proofs.Bytes.{length-part}
@@ -61,31 +59,15 @@ length-if true x n e = e
 length-if false x n e = refl
 
 abbrev pub itemSize : Selection → ℕ → List ℕ → ℕ → ℕ
-itemSize selection q list i = chosenSize (present q (rowAt i) and asks selection list i) (headerSize + rowAt i .size)
+itemSize selection q list i = chosenSize (asks selection q list (rowAt i)) (headerSize + rowAt i .size)
 
 pub size-most : (selection : Selection) (q : ℕ) (list : List ℕ) (i : ℕ) → i < rowCount → itemSize selection q list i ≤ 272
 unfolding if_then_else_
 size-most selection q list i h =
-    by-cases (present q (rowAt i) and asks selection list i)
-    (λ e. rw e (omega (arith, size-below i h)))
-    (λ e. rw e (omega arith))
+    by-cases (asks selection q list (rowAt i)) (λ e. rw e (omega (arith, size-below i h))) (λ e. rw e (omega arith))
 
 abbrev headerBytes : ℕ → ℕ → ℕ
 headerBytes q i = chosenSize (present q (rowAt i)) headerSize
-
--- numbers that the code adds
-module _ (i size : ℕ) (h : i < rowCount) (s : size ≡ rowAt i .size) where
-  pub size-fits : Fits w64 (headerSize + size)
-  size-fits = record { fits = omega (arith, size-below i h) }
-
-  pub size-whole : headerSize + size ≡ headerSize + rowAt i .size
-  size-whole = rw s
-
-  pub end-fits : (from : ℕ) → from ≡ offsetOf i → Fits w64 (from + size)
-  end-fits from f = record { fits = omega (arith, row-within i h) }
-
-  pub end-within : (from : ℕ) (v : List ℕ) → from ≡ offsetOf i → length v ≡ valuesSize → from + size ≤ length v
-  end-within from v f e = omega (arith, row-within i h)
 
 -- ---- all items ----
 

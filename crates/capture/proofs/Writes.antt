@@ -1,72 +1,136 @@
 -- What the writers leave in the buffer, in the form in which their needs ask it. Assumes nothing.
-use mathlib.Core.Path.{_≡_, sym, _∙_}
+use mathlib.Core.Path.{_≡_, ap, sym, _∙_}
 use mathlib.Core.Bool.{Bool, true, false, not}
-use mathlib.Core.List.{List, []}
-use Prim.Native.Nat.{ℕ, _+_, _-_, _≤_, _<_}
-use native.Mathlib.Nat.{add-zero, add-sub-cancel-left}
+use mathlib.Core.List.{List, _++_}
+use Prim.Native.Nat.{ℕ, _+_, _-_, _^_, _≤_, _<_}
+use native.Mathlib.Nat.{add-sub-cancel-left}
 use native.Mathlib.Omega.{arith}
 use borrow.Author.Tests.{not-true, not-false}
-use lib.ListN.{length, take, drop}
-use Rattle.theory.specs.Logic.{if_then_else_, _and_}
+use mir.Syntax.{w64}
+use mir.Val.{Fits}
+use lib.ListN.{length, getD, take, drop, length-append}
+use Rattle.theory.specs.Logic.{if_then_else_}
 use Rattle.theory.specs.Bytes.{part, put}
-use Rattle.theory.proofs.Tests.{and-i, true-and}
-use Rattle.theory.proofs.Bytes.{put-nil, put-append}
-use Rattle.theory.proofs.Items.{Written, written-next}
-use Rattle.inventory.specs.Inventory.{rowAt, rowCount, present, offsetOf, valuesSize}
+use Rattle.theory.proofs.Tests.{true-and, false-and}
+use Rattle.theory.proofs.Bytes.{put-append, length-part}
+use Rattle.theory.proofs.Items.{Written, written-room, written-next, written-skip}
+use Rattle.inventory.specs.Inventory.{Row, row, rowAt, rowCount, present, valuesSize}
 use Rattle.inventory.specs.Header.{headerOf, headerSize}
-use Rattle.inventory.proofs.Rules.{length-header}
+use Rattle.inventory.proofs.Columns.{types, selectors, sizes, offsets, type-at, selector-at, size-at, offset-at, row-at}
+use Rattle.inventory.proofs.Rules.{row-within, length-header}
 use Rattle.parts.specs.declared.ListForm.the-variants.{Headers}
 use Rattle.parts.specs.List.{partsOf}
 use Rattle.parts.specs.Rules.{among}
 use Rattle.capture.specs.declared.Selection.{Selection}
 use Rattle.capture.specs.declared.Selection.the-variants.{All, Asked}
-use Rattle.capture.specs.Capture.{partAt, asks, Wrote}
-use Rattle.capture.proofs.Sizes.{part-length}
-
--- an item that is written if t holds; the code tests `!b`, which is what a function answered
-module _ (t b : Bool) (x : List ℕ) (told : b ≡ t) where
-  pub wrote-none : (at : ℕ) (out : List ℕ) → not b ≡ true → Wrote (if t then x else []) at out out at
-  unfolding if_then_else_
-  wrote-none at out h =
-      rw (sym told ∙ not-true b h) (record { buffer = sym (put-nil at out); place = sym (add-zero at) })
-
-  module _ (h : not b ≡ false) where
-    pub wrote-item : (at next : ℕ) (out out′ : List ℕ) → Wrote x at out out′ next → Wrote (if t then x else []) at out out′ next
-    unfolding if_then_else_
-    wrote-item at next out out′ w = rw (sym told ∙ not-false b h) w
-
-    pub item-room : (at n size : ℕ) → at + length (if t then x else []) ≤ n → length x ≡ size → at + size ≤ n
-    unfolding if_then_else_
-    item-room at n size l e = rw (← e) (rw (sym told ∙ not-false b h) at l)
-
-pub wrote-header : (at i : ℕ) (out out′ : List ℕ) → out′ ≡ put at (headerOf (rowAt i)) out → Wrote (headerOf (rowAt i)) at out out′ (at + headerSize)
-wrote-header at i out out′ e = record { buffer = e; place = rw length-header }
-
--- the header, then the value
-pub wrote-part : (at i from size : ℕ) (v out out₁ out₂ : List ℕ) → i < rowCount → length v ≡ valuesSize
-    → out₁ ≡ put at (headerOf (rowAt i)) out → from ≡ offsetOf i → size ≡ rowAt i .size
-    → out₂ ≡ put (at + headerSize) (take (from + size - from) (drop from v)) out₁
-    → Wrote (partAt v i) at out out₂ (at + headerSize + size)
-unfolding partAt
-wrote-part at i from size v out out₁ out₂ h e p f s q =
-    record {
-      buffer = q ∙ rw (add-sub-cancel-left, f, s, p, ← length-header (rowAt i)) (sym (put-append at (headerOf (rowAt i)) (part (offsetOf i) (rowAt i .size) v) out));
-      place = omega (arith, part-length v i h e);
-    }
-
--- one turn of a loop of writes
-pub wrote-next : (item : ℕ → List ℕ) (n b : ℕ) (out₀ out out′ : List ℕ) (at next i : ℕ) → Written item n b out₀ out at i → i < n
-    → Wrote (item i) at out out′ next → Written item n b out₀ out′ next (i + 1)
-wrote-next item n b out₀ out out′ at next i w h d = rw (d .buffer, d .place) (written-next item n b out₀ out at i w h)
+use Rattle.capture.specs.Capture.{headerItem, partAt, asks, partItem, Wrote}
+use Rattle.capture.proofs.Sizes.{itemSize, size-most}
 
 -- ---- which parts are chosen ----
 
-module _ (selection : Selection) (q i : ℕ) (list : List ℕ) (b : Bool) (told : b ≡ present q (rowAt i)) (there : not b ≡ false) where
-  pub chosen-all : selection ≡ All → true ≡ present q (rowAt i) and asks selection list i
-  unfolding asks
-  chosen-all e = sym (and-i _ _ (sym told ∙ not-false b there) (rw e))
+chosen-absent : (selection : Selection) (q : ℕ) (list : List ℕ) (r : Row) → present q r ≡ false → asks selection q list r ≡ false
+unfolding asks
+chosen-absent All q list r e = e
+chosen-absent Asked q list r e = rw e (false-and _)
 
-  pub chosen-asked : (r : Bool) (t s : ℕ) → selection ≡ Asked → t ≡ rowAt i .partType → s ≡ rowAt i .selector
-      → r ≡ among t s (partsOf Headers list) → r ≡ present q (rowAt i) and asks selection list i
+module _ (selection : Selection) (q : ℕ) (list : List ℕ) (r : Row) (b : Bool) (told : b ≡ present q r) where
+  pub chosen-none : not b ≡ true → false ≡ asks selection q list r
+  chosen-none h = sym (chosen-absent selection q list r (sym told ∙ not-true b h))
+
+  pub chosen-all : not b ≡ false → selection ≡ All → true ≡ asks selection q list r
   unfolding asks
-  chosen-asked r t s e f g h = rw (← told, not-false b there, true-and, e, ← f, ← g) h
+  chosen-all h e = rw e (sym (not-false b h) ∙ told)
+
+  pub chosen-asked : (x : Bool) → not b ≡ false → selection ≡ Asked → x ≡ among (r .partType) (r .selector) (partsOf Headers list)
+      → x ≡ asks selection q list r
+  unfolding asks
+  chosen-asked x h e f = rw (e, ← told, not-false b h, true-and) f
+
+-- ---- one part ----
+
+-- the header, then the value
+pub wrote-part : (at t s n from : ℕ) (v out out₁ out₂ : List ℕ) → from + n ≤ length v
+    → out₁ ≡ put at (headerOf (row t s n)) out → out₂ ≡ put (at + headerSize) (take (from + n - from) (drop from v)) out₁
+    → Wrote (headerOf (row t s n) ++ part from n v) at out out₂ (at + headerSize + n)
+wrote-part at t s n from v out out₁ out₂ h p e =
+    let l = length-header (row t s n) in
+    record {
+      buffer = e ∙ rw (add-sub-cancel-left, p, ← l) (sym (put-append at (headerOf (row t s n)) (part from n v) out));
+      place = rw (length-append, l, length-part from n v h) (omega arith);
+    }
+
+-- ---- a turn of a loop over the tables ----
+
+-- row i as the tables have it
+abbrev entry : ℕ → Row
+entry i = row (getD types i 0) (getD selectors i 0) (getD sizes i 0)
+
+pub row-inside : (i : ℕ) (v : List ℕ) → i < rowCount → length v ≡ valuesSize → getD offsets i 0 + getD sizes i 0 ≤ length v
+row-inside i v h e = omega (arith, offset-at i h, size-at i, row-within i h)
+
+-- what is written is the next item
+wrote-next : (item : ℕ → List ℕ) (n b : ℕ) (out₀ out out′ x : List ℕ) (at next i : ℕ) → Written item n b out₀ out at i → i < n
+    → item i ≡ x → Wrote x at out out′ next → Written item n b out₀ out′ next (i + 1)
+wrote-next item n b out₀ out out′ x at next i w h e d = rw (d .buffer, d .place, ← e) (written-next item n b out₀ out at i w h)
+
+present-row : (q i : ℕ) → present q (row (getD types i 0) (getD selectors i 0) 0) ≡ present q (rowAt i)
+unfolding present
+present-row q i = rw (type-at i, selector-at i)
+
+pub chosen-row : (selection : Selection) (q : ℕ) (list : List ℕ) (i : ℕ)
+    → asks selection q list (row (getD types i 0) (getD selectors i 0) 0) ≡ asks selection q list (rowAt i)
+unfolding asks
+chosen-row All q list i = present-row q i
+chosen-row Asked q list i = rw (present-row q i, type-at i, selector-at i)
+
+module _ (q : ℕ) (out₀ out : List ℕ) (at i : ℕ) (w : Written (headerItem q) rowCount 0 out₀ out at i) (h : i < rowCount)
+    (b : Bool) (told : b ≡ present q (row (getD types i 0) (getD selectors i 0) 0)) where
+  header-item : b ≡ true → headerItem q i ≡ headerOf (entry i)
+  unfolding headerItem if_then_else_
+  header-item y = rw (← present-row q i, ← told, y, row-at i)
+
+  pub headers-room : b ≡ true → at + headerSize ≤ length out
+  headers-room y = written-room _ _ _ _ _ _ _ w headerSize h (ap length (header-item y) ∙ length-header (entry i))
+
+  pub headers-fits : b ≡ true → length out₀ < 2 ^ 64 → Fits w64 (at + headerSize)
+  headers-fits y l = record { fits = omega (arith, headers-room y, w .long) }
+
+  pub headers-on : (out′ : List ℕ) → b ≡ true → out′ ≡ put at (headerOf (entry i)) out
+      → Written (headerItem q) rowCount 0 out₀ out′ (at + headerSize) (i + 1)
+  headers-on out′ y e =
+      wrote-next _ _ _ _ _ out′ _ _ _ _ w h (header-item y) (record { buffer = e; place = rw length-header })
+
+  pub headers-skip : b ≡ false → Written (headerItem q) rowCount 0 out₀ out at (i + 1)
+  unfolding headerItem if_then_else_
+  headers-skip n = written-skip _ _ _ _ _ _ _ w h (rw (← present-row q i, ← told, n))
+
+module _ (selection : Selection) (q : ℕ) (list v out₀ out : List ℕ) (at i : ℕ)
+    (w : Written (partItem selection q list v) rowCount 0 out₀ out at i) (h : i < rowCount)
+    (b : Bool) (told : b ≡ asks selection q list (row (getD types i 0) (getD selectors i 0) 0)) where
+  part-item : b ≡ true → partItem selection q list v i ≡ headerOf (entry i) ++ part (getD offsets i 0) (getD sizes i 0) v
+  unfolding partItem partAt if_then_else_
+  part-item y = rw (← chosen-row selection q list i, ← told, y, row-at i, offset-at i h, size-at i)
+
+  pub parts-room : length v ≡ valuesSize → b ≡ true → at + (headerSize + getD sizes i 0) ≤ length out
+  parts-room e y =
+      let n : length (headerOf (entry i) ++ part (getD offsets i 0) (getD sizes i 0) v) ≡ headerSize + getD sizes i 0 =
+      rw (length-append, length-header, length-part _ _ v (row-inside i v h e)) in
+      written-room _ _ _ _ _ _ _ w _ h (ap length (part-item y) ∙ n)
+
+  pub parts-on : (out′ : List ℕ) (next : ℕ) → b ≡ true
+      → Wrote (headerOf (entry i) ++ part (getD offsets i 0) (getD sizes i 0) v) at out out′ next
+      → Written (partItem selection q list v) rowCount 0 out₀ out′ next (i + 1)
+  parts-on out′ next y d = wrote-next _ _ _ _ _ out′ _ _ next _ w h (part-item y) d
+
+  pub parts-skip : b ≡ false → Written (partItem selection q list v) rowCount 0 out₀ out at (i + 1)
+  unfolding partItem if_then_else_
+  parts-skip n = written-skip _ _ _ _ _ _ _ w h (rw (← chosen-row selection q list i, ← told, n))
+
+-- the bytes that a row adds
+module _ (selection : Selection) (q x : ℕ) (list : List ℕ) (i : ℕ)
+    (e : x ≡ (if asks selection q list (row (getD types i 0) (getD selectors i 0) 0) then headerSize + getD sizes i 0 else 0)) where
+  pub row-bytes : x ≡ itemSize selection q list i
+  row-bytes = e ∙ rw (chosen-row selection q list i, size-at i)
+
+  pub row-most : i < rowCount → x ≤ 272
+  row-most h = rw row-bytes (size-most selection q list i h)

@@ -1,5 +1,5 @@
 -- The headers and the parts of a member as bytes: document 01, "Metadata" and "Parts get". Assumes nothing.
-use mathlib.Core.Bool.{Bool, true}
+use mathlib.Core.Bool.{Bool}
 use mathlib.Core.List.{List, [], _++_}
 use mathlib.Core.Path.{_≡_}
 use Prim.Native.Nat.{ℕ, _+_}
@@ -7,7 +7,7 @@ use lib.ListN.{length}
 use Rattle.theory.specs.Logic.{if_then_else_, _and_}
 use Rattle.theory.specs.Bytes.{part, put}
 use Rattle.theory.specs.Items.{itemsFrom}
-use Rattle.inventory.specs.Inventory.{rowAt, rowCount, offsetOf, present}
+use Rattle.inventory.specs.Inventory.{Row, rowAt, rowCount, offsetOf, present}
 use Rattle.inventory.specs.Header.{headerOf}
 use Rattle.parts.specs.declared.ListForm.the-variants.{Headers}
 use Rattle.parts.specs.List.{partsOf}
@@ -31,14 +31,13 @@ pub record Wrote (item : List ℕ) (at : ℕ) (before after : List ℕ) (next : 
   pub buffer : after ≡ put at item before
   pub place : next ≡ at + length item
 
--- all parts, or those that the asked list names
-unfoldable pub asks : Selection → List ℕ → ℕ → Bool
-asks All list i = true
-asks Asked list i = among (rowAt i .partType) (rowAt i .selector) (partsOf Headers list)
+-- all parts that the member has, or those of them that the asked list names
+unfoldable pub asks : Selection → ℕ → List ℕ → Row → Bool
+asks All queues list r = present queues r
+asks Asked queues list r = present queues r and among (r .partType) (r .selector) (partsOf Headers list)
 
 unfoldable pub partItem : Selection → ℕ → List ℕ → List ℕ → ℕ → List ℕ
-partItem selection queues list values i =
-    if present queues (rowAt i) and asks selection list i then partAt values i else []
+partItem selection queues list values i = if asks selection queues list (rowAt i) then partAt values i else []
 
 -- "Parts come in the order of the table below, not in the order asked"
 unfoldable pub partsWritten : Selection → ℕ → List ℕ → List ℕ → List ℕ

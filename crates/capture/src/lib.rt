@@ -1,13 +1,13 @@
 // Writers of headers and parts into a lent tail, with the bytes that they need.
 ghost use mathlib.Core.Path.{_≡_};
-ghost use mathlib.Core.List.{List};
+ghost use mathlib.Core.List.{List, _++_};
 ghost use Prim.Native.Nat.{ℕ, _+_, _≤_, _<_};
 ghost use lib.ListN.{length};
-ghost use Rattle.theory.specs.Logic.{if_then_else_, _and_};
-ghost use Rattle.theory.specs.Bytes.{put};
-ghost use Rattle.inventory.specs.Inventory.{rowAt, rowCount, present, valuesSize};
-ghost use Rattle.inventory.specs.Header.{headerSize};
-ghost use Rattle.capture.specs.Capture.{headerItem, headersOf, partAt, asks, partItem, partsWritten, Wrote};
+ghost use Rattle.theory.specs.Logic.{if_then_else_};
+ghost use Rattle.theory.specs.Bytes.{part, put};
+ghost use Rattle.inventory.specs.Inventory.{row, valuesSize};
+ghost use Rattle.inventory.specs.Header.{headerSize, headerOf};
+ghost use Rattle.capture.specs.Capture.{headersOf, asks, partsWritten, Wrote};
 use parts::ListForm;
 
 // Which parts are written: all that the member has, or those of them that a list asks for.
@@ -18,27 +18,23 @@ pub enum Selection {
 
 // ---- headers ----
 
-// Row i's header, if the member has that part, and the place after it.
-fn write_header(out: &mut [u8], at: usize, queues: u8, i: usize) -> usize
-    requires { ⌜ (i < rowCount) × (at + length (headerItem queues i) ≤ length (now out)) ⌝ }
-    ensures { λ r. ⌜ Wrote (headerItem queues i) at (now (out .entry)) (now (out .exit)) r ⌝ }
-{
-    if !inventory::is_present(i, queues) {
-        return at;
-    }
-    inventory::write_header(out, at, i);
-    at + 16
-}
-
 // The headers of a member's parts, at the front of what is lent.
 pub fn write_headers(out: &mut [u8], queues: u8)
     requires { ⌜ length (headersOf queues) ≤ length (now out) ⌝ }
     ensures { λ _. ⌜ now (out .exit) ≡ put 0 (headersOf queues) (now (out .entry)) ⌝ }
 {
+    let types = inventory::TYPES;
+    let selectors = inventory::SELECTORS;
+    let sizes = inventory::SIZES;
     let mut at = 0;
     let mut i = 0;
     while i < 15 {
-        at = write_header(out, at, queues, i);
+        if inventory::is_present(queues, types[i], selectors[i]) {
+            inventory::write_header(out, at, types[i], selectors[i], sizes[i]);
+            at += 16;
+            i += 1;
+            continue;
+        }
         i += 1;
     }
 }
@@ -52,88 +48,109 @@ pub fn headers_bytes(queues: u8) -> usize
 
 // ---- parts ----
 
-// Whether row i's part is written.
-fn is_chosen(selection: Selection, queues: u8, asked: &[u8], i: usize) -> bool
-    requires { ⌜ i < rowCount ⌝ }
-    ensures { λ r. ⌜ r ≡ present queues (rowAt i) and asks selection (now (asked .entry)) i ⌝ }
+// Whether the part of this row is written. For all parts the list is not read.
+fn is_chosen(
+    selection: Selection,
+    queues: u8,
+    asked: &[u8],
+    row_type: u16,
+    row_selector: u8,
+) -> bool
+    ensures { λ r. ⌜ r ≡ asks selection queues (now (asked .entry)) (row «row_type» «row_selector» 0) ⌝ }
 {
-    if !inventory::is_present(i, queues) {
+    if !inventory::is_present(queues, row_type, row_selector) {
         return false;
     }
     match selection {
         Selection::All => true,
-        Selection::Asked => parts::names(
-            ListForm::Headers,
-            asked,
-            inventory::type_of(i),
-            inventory::row_selector(i),
-        ),
+        Selection::Asked => parts::names(ListForm::Headers, asked, row_type, row_selector as u64),
     }
 }
 
-// A part, the header and the value, and the place after it.
-fn write_part(out: &mut [u8], at: usize, values: &[u8], i: usize) -> usize
-    requires { ⌜ (i < rowCount) × (length (now values) ≡ valuesSize) × (at + (headerSize + rowAt i .size) ≤ length (now out)) ⌝ }
-    ensures { λ r. ⌜ Wrote (partAt (now (values .entry)) i) at (now (out .entry)) (now (out .exit)) r ⌝ }
-{
-    inventory::write_header(out, at, i);
-    let from = inventory::offset_of(i);
-    let size = inventory::size_of(i);
-    wire::copy(out, at + 16, &values[from..from + size]);
-    at + 16 + size
-}
-
-// Row i's part, if it is chosen, and the place after it.
-fn write_chosen(
+// The part of this row, the header and the value, whose place is `offset` among the values. Returns the place after it.
+fn write_part(
     out: &mut [u8],
     at: usize,
     values: &[u8],
-    queues: u8,
-    selection: Selection,
-    asked: &[u8],
-    i: usize,
+    row_type: u16,
+    row_selector: u8,
+    size: u8,
+    offset: u8,
 ) -> usize
-    requires { ⌜ (i < rowCount) × (length (now values) ≡ valuesSize) × (at + length (partItem selection queues (now asked) (now values) i) ≤ length (now out)) ⌝ }
-    ensures { λ r. ⌜ Wrote (partItem selection queues (now (asked .entry)) (now (values .entry)) i) at (now (out .entry)) (now (out .exit)) r ⌝ }
+    requires { ⌜ (offset + size ≤ length (now values)) × (at + (headerSize + size) ≤ length (now out)) ⌝ }
+    ensures { λ r. ⌜ Wrote (headerOf (row «row_type» «row_selector» size) ++ part offset size (now (values .entry))) at (now (out .entry)) (now (out .exit)) r ⌝ }
 {
-    if !is_chosen(selection, queues, asked, i) {
-        return at;
-    }
-    write_part(out, at, values, i)
+    inventory::write_header(out, at, row_type, row_selector, size);
+    let from = offset as usize;
+    let end = from + size as usize;
+    wire::copy(out, at + 16, &values[from..end]);
+    at + 16 + size as usize
 }
 
-// The chosen parts in the order of the table, at the front of what is lent. For all parts the list is not read.
+// The chosen parts in the order of the table, at the front of what is lent.
 pub fn write_parts(out: &mut [u8], values: &[u8], queues: u8, selection: Selection, asked: &[u8])
     requires { ⌜ (length (now values) ≡ valuesSize) × (length (partsWritten selection queues (now asked) (now values)) ≤ length (now out)) ⌝ }
     ensures { λ _. ⌜ now (out .exit) ≡ put 0 (partsWritten selection queues (now (asked .entry)) (now (values .entry))) (now (out .entry)) ⌝ }
 {
+    let types = inventory::TYPES;
+    let selectors = inventory::SELECTORS;
+    let sizes = inventory::SIZES;
+    let offsets = inventory::OFFSETS;
     let mut at = 0;
     let mut i = 0;
     while i < 15 {
-        at = write_chosen(out, at, values, queues, selection, asked, i);
+        if is_chosen(selection, queues, asked, types[i], selectors[i]) {
+            at = write_part(
+                out,
+                at,
+                values,
+                types[i],
+                selectors[i],
+                sizes[i],
+                offsets[i],
+            );
+            i += 1;
+            continue;
+        }
         i += 1;
     }
 }
 
-// The bytes of row i's part, if it is chosen.
-fn chosen_bytes(queues: u8, selection: Selection, asked: &[u8], i: usize) -> usize
-    requires { ⌜ i < rowCount ⌝ }
-    ensures { λ r. ⌜ r ≡ (if present queues (rowAt i) and asks selection (now (asked .entry)) i then headerSize + rowAt i .size else 0) ⌝ }
+// The bytes of this row's part, if it is chosen.
+fn chosen_bytes(
+    selection: Selection,
+    queues: u8,
+    asked: &[u8],
+    row_type: u16,
+    row_selector: u8,
+    size: u8,
+) -> usize
+    ensures { λ r. ⌜ r ≡ (if asks selection queues (now (asked .entry)) (row «row_type» «row_selector» 0) then headerSize + size else 0) ⌝ }
 {
-    if !is_chosen(selection, queues, asked, i) {
+    if !is_chosen(selection, queues, asked, row_type, row_selector) {
         return 0;
     }
-    16 + inventory::size_of(i)
+    16 + size as usize
 }
 
 // The bytes of the parts that a list asks for, whatever the values are.
 fn asked_bytes(queues: u8, asked: &[u8]) -> usize
     ensures { λ r. ⌜ ((values : List ℕ) → length values ≡ valuesSize → r ≡ length (partsWritten Selection.Asked queues (now (asked .entry)) values)) ⌝ }
 {
+    let types = inventory::TYPES;
+    let selectors = inventory::SELECTORS;
+    let sizes = inventory::SIZES;
     let mut n = 0;
     let mut i = 0;
     while i < 15 {
-        n += chosen_bytes(queues, Selection::Asked, asked, i);
+        n += chosen_bytes(
+            Selection::Asked,
+            queues,
+            asked,
+            types[i],
+            selectors[i],
+            sizes[i],
+        );
         i += 1;
     }
     n

@@ -2,14 +2,11 @@
 use mathlib.Core.Path.{_≡_, refl}
 use mathlib.Core.Bool.{Bool, true, not}
 use mathlib.Core.List.{List, [], _∷_, map}
-use Prim.Native.Nat.{ℕ, _+_, _/_, _%_, _<_, _≤_, _^_}
+use Prim.Native.Nat.{ℕ, _+_, _<_, _≤_, _^_}
 use borrow.Author.Tests.{eqb-true, ltb-true, leb-true, lt-leb, eq-eqb}
-use mir.Val.{boolByte}
 use lib.Dec.{leb, ltb, eqb}
 use lib.ListN.{length}
 use Rattle.theory.specs.Logic.{_and_, _or_, one, if_then_else_}
-use Rattle.theory.specs.Bytes.{same}
-use Rattle.theory.proofs.Tests.{same-true}
 use Rattle.theory.proofs.Table.{every, at}
 use Rattle.wire.specs.Le.{bytes}
 use Rattle.inventory.specs.Inventory.{Row, row, rows, rowAt, rowCount, deviceFeatures, present, total, offsetOf, valuesSize, partCount, partsSize, selectorOf, isRow, seek, placeOf}
@@ -96,17 +93,6 @@ features-place q = refl
 pub length-header : (r : Row) → length (headerOf r) ≡ headerSize
 unfolding headerOf bytes
 length-header r = refl
-
--- a row's header, byte by byte: no selector and no size takes more than one
-abbrev pub headerBytes : Row → List ℕ
-headerBytes r =
-    r .partType % 256 ∷ r .partType / 256 ∷ boolByte (eqb (r .partType) deviceFeatures) ∷ 0
-    ∷ r .selector ∷ 0 ∷ 0 ∷ 0 ∷ 0 ∷ 0 ∷ 0 ∷ 0
-    ∷ r .size ∷ 0 ∷ 0 ∷ 0 ∷ []
-
-pub header-bytes : (i : ℕ) → i < rowCount → headerBytes (rowAt i) ≡ headerOf (rowAt i)
-unfolding table headerOf bytes same
-header-bytes i h = same-true _ _ (every-row (λ k r. same (headerBytes r) (headerOf r)) refl i h)
 
 -- "The number of parts is 7 + 2Q and the size is 157 + 72Q"
 pub count-is : (q : ℕ) → q < 5 → total (map (λ (r : Row). one (present q r)) rows) ≡ partCount q

@@ -1,4 +1,5 @@
-// The inventory of a member's parts: constant tables, and the place of a part in them.
+// The inventory of a member's parts: constant tables, and the place of a part in them. A loop over the rows binds the
+// tables first, since each read of a constant table builds it anew.
 ghost use mathlib.Core.Path.{_≡_};
 ghost use Prim.Native.Nat.{_+_, _≤_, _<_};
 ghost use lib.ListN.{length};
@@ -6,7 +7,7 @@ ghost use Rattle.theory.specs.Bytes.{put};
 ghost use Rattle.inventory.specs.Inventory.{row, rowAt, rowCount, offsetOf, present, selectorOf, isRow, placeOf, partCount, partsSize};
 ghost use Rattle.inventory.specs.Header.{headerOf, headerSize};
 
-const TYPES: [u16; 15] = [
+pub const TYPES: [u16; 15] = [
     0x100,
     0x101,
     0x102,
@@ -24,12 +25,12 @@ const TYPES: [u16; 15] = [
     0x105,
 ];
 
-const SELECTORS: [u8; 15] = [0, 0, 0, 8, 16, 22, 0, 0, 1, 2, 3, 0, 1, 2, 3];
+pub const SELECTORS: [u8; 15] = [0, 0, 0, 8, 16, 22, 0, 0, 1, 2, 3, 0, 1, 2, 3];
 
-const SIZES: [u8; 15] = [16, 16, 4, 4, 2, 2, 1, 32, 32, 32, 32, 8, 8, 8, 8];
+pub const SIZES: [u8; 15] = [16, 16, 4, 4, 2, 2, 1, 32, 32, 32, 32, 8, 8, 8, 8];
 
 // Where a row's value starts among a member's values: the sum of the sizes before it.
-const OFFSETS: [u8; 15] = [
+pub const OFFSETS: [u8; 15] = [
     0,
     16,
     32,
@@ -53,43 +54,34 @@ pub enum Place {
     Absent,
 }
 
-pub fn type_of(i: usize) -> u16
-    requires { ⌜ i < rowCount ⌝ }
-    ensures { λ r. ⌜ r ≡ rowAt i .partType ⌝ }
+fn wide(x: u8) -> usize
+    ensures { λ r. ⌜ r ≡ x ⌝ }
 {
-    TYPES[i]
-}
-
-pub fn row_selector(i: usize) -> u64
-    requires { ⌜ i < rowCount ⌝ }
-    ensures { λ r. ⌜ r ≡ rowAt i .selector ⌝ }
-{
-    SELECTORS[i] as u64
+    x as usize
 }
 
 pub fn size_of(i: usize) -> usize
     requires { ⌜ i < rowCount ⌝ }
     ensures { λ r. ⌜ r ≡ rowAt i .size ⌝ }
 {
-    SIZES[i] as usize
+    wide(SIZES[i])
 }
 
 pub fn offset_of(i: usize) -> usize
     requires { ⌜ i < rowCount ⌝ }
     ensures { λ r. ⌜ r ≡ offsetOf i ⌝ }
 {
-    OFFSETS[i] as usize
+    wide(OFFSETS[i])
 }
 
-// Whether a member with so many queues has the part of row i.
-pub fn is_present(i: usize, queues: u8) -> bool
-    requires { ⌜ i < rowCount ⌝ }
-    ensures { λ r. ⌜ r ≡ present queues (rowAt i) ⌝ }
+// Whether a member with so many queues has the part of a row.
+pub fn is_present(queues: u8, row_type: u16, row_selector: u8) -> bool
+    ensures { λ r. ⌜ r ≡ present queues (row «row_type» «row_selector» 0) ⌝ }
 {
-    if TYPES[i] < 0x104 {
+    if row_type < 0x104 {
         return true;
     }
-    SELECTORS[i] < queues
+    row_selector < queues
 }
 
 // Of the eight selector bytes those that the type names.
@@ -118,10 +110,7 @@ fn is_row(queues: u8, t: u16, selector: u64, row_type: u16, row_selector: u8) ->
     if row_selector as u64 != selector {
         return false;
     }
-    if row_type < 0x104 {
-        return true;
-    }
-    row_selector < queues
+    is_present(queues, row_type, row_selector)
 }
 
 // The row of a type and selector that a member with so many queues has.
@@ -140,27 +129,25 @@ pub fn place_of(queues: u8, t: u16, selector: u64) -> Place
     Place::Absent
 }
 
-// The header of row i's part.
-fn header(i: usize) -> [u8; 16]
-    requires { ⌜ i < rowCount ⌝ }
-    ensures { λ r. ⌜ r ≡ headerOf (rowAt i) ⌝ }
+// The header of a row's part. No row's selector or size takes more than a byte.
+fn header(row_type: u16, row_selector: u8, size: u8) -> [u8; 16]
+    ensures { λ r. ⌜ r ≡ headerOf (row «row_type» «row_selector» size) ⌝ }
 {
-    let t = TYPES[i];
     let mut h = [0u8; 16];
-    h[0] = (t % 256) as u8;
-    h[1] = (t / 256) as u8;
-    h[2] = (t == 0x100) as u8;
-    h[4] = SELECTORS[i];
-    h[12] = SIZES[i];
+    h[0] = (row_type % 256) as u8;
+    h[1] = (row_type / 256) as u8;
+    h[2] = (row_type == 0x100) as u8;
+    h[4] = row_selector;
+    h[12] = size;
     h
 }
 
 // That header, written at a place.
-pub fn write_header(out: &mut [u8], at: usize, i: usize)
-    requires { ⌜ (i < rowCount) × (at + headerSize ≤ length (now out)) ⌝ }
-    ensures { λ _. ⌜ now (out .exit) ≡ put at (headerOf (rowAt i)) (now (out .entry)) ⌝ }
+pub fn write_header(out: &mut [u8], at: usize, row_type: u16, row_selector: u8, size: u8)
+    requires { ⌜ at + headerSize ≤ length (now out) ⌝ }
+    ensures { λ _. ⌜ now (out .exit) ≡ put at (headerOf (row «row_type» «row_selector» size)) (now (out .entry)) ⌝ }
 {
-    let h = header(i);
+    let h = header(row_type, row_selector, size);
     wire::copy(out, at, &h);
 }
 

@@ -1,6 +1,5 @@
 -- `capture::write_part` meets its contract: the header, then the value. Assumes nothing.
 use borrow.Author.Needs.{needs}
-use Rattle.capture.proofs.Sizes.{end-fits, end-within}
 use Rattle.capture.proofs.Writes.{wrote-part}
 use Rattle.capture.proofs.write_part.Statement.{statement}
 use Rattle.capture.proofs.write_part.Tie as tie
@@ -8,6 +7,6 @@ use Rattle.capture.proofs.write_part.Tie as tie
 pub write-part-spec : {M : Type 1} → statement M
 write-part-spec =
     tie.close
-    (tie.spec (λ c κs. search needs) (λ c κs. search needs) (λ c κs. search needs) (λ c. search needs) (λ c. search (needs, end-fits))
-    (λ c. search needs) (λ c. search needs) (λ c. search (needs, end-within)) (λ c κs. search needs) (λ c. search needs) (λ c. search needs)
-    (λ c. search needs) (λ c. search (needs, wrote-part)))
+    (tie.spec (λ c κs. search needs) (λ c. search needs) (λ c. search needs) (λ c. search needs) (λ c. search needs)
+    (λ c. search needs) (λ c κs. search needs) (λ c. search needs) (λ c. search needs) (λ c. search needs)
+    (λ c. search (needs, wrote-part)))

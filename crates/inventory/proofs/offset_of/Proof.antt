@@ -1,14 +1,12 @@
 -- `inventory::offset_of` meets its contract: the table has the running sums of the sizes. Assumes nothing.
-use native.Mathlib.Omega.{arith}
+use mathlib.Core.Path.{_∙_}
 use borrow.Author.Needs.{needs}
 use Rattle.inventory.proofs.Columns.{offset-at}
-use Rattle.inventory.proofs.Rules.{row-within}
 use Rattle.inventory.proofs.offset_of.Statement.{statement}
 use Rattle.inventory.proofs.offset_of.Tie as tie
 
 pub offset-of-spec : {M : Type 1} → statement M
 offset-of-spec =
     tie.close
-    (tie.spec (λ c. search needs)
-    (λ c. record { fits = omega (arith, offset-at (c .args .i) (c .pre), row-within (c .args .i) (c .pre)) })
-    (λ c. offset-at (c .args .i) (c .pre)))
+    (tie.spec (λ c. search needs) (λ c κs. search needs)
+    (λ c. c .wide .ensures ∙ offset-at (c .before .args .i) (c .before .pre)))
