@@ -2,7 +2,7 @@
 
 .PHONY: run test compare compare-teeth bench-capture clean
 
-# A guest moves from one card to another, and nothing of it stays behind. The first run proves the crates.
+# A guest moves from one card to another, and nothing of it stays behind. The first run proves the crates, in minutes.
 run:
 	@rt check migrate >/dev/null || { rt check migrate; exit 1; }
 	@./target/bin/migrate
