@@ -1,15 +1,15 @@
 -- Counting the bytes of a list, and whether each is at most a number: one byte changed, and what a loop has counted
 -- so far. Assumes nothing.
 use mathlib.Core.Path.{_≡_, refl, ap, sym, _∙_}
-use mathlib.Core.Bool.{Bool, true}
+use mathlib.Core.Bool.{Bool, true, false, not}
 use mathlib.Core.List.{List, [], _∷_, map}
-use Prim.Native.Nat.{ℕ, zero, suc, _+_, _-_, _≤_, _<_}
+use Prim.Native.Nat.{ℕ, zero, suc, _+_, _-_, _/_, _%_, _≤_, _<_}
 use native.Mathlib.Omega.{arith}
 use lib.Dec.{leb, ltb, eqb}
 use native.Mathlib.Numerals.{add-one}
 use lib.ListN.{length, getD, drop-of-length-le, drop, set, replicate}
 use lib.Seq.{drop-cons, drop-set-lt, drop-set-add}
-use borrow.Author.Tests.{leb-true, le-leb, ne-eqb}
+use borrow.Author.Tests.{leb-true, le-leb, ne-eqb, not-false}
 use Rattle.theory.specs.Logic.{_and_, one}
 use Rattle.theory.proofs.Tests.{by-cases, both, and-i, and-true, and-assoc, one-false, one-le, tests}
 use Rattle.member.specs.Record.{objectsSize}
@@ -83,6 +83,31 @@ module _ (v : ℕ) (bs : List ℕ) (i n k : ℕ) (e : count v bs ≡ n + count v
       let b : length bs ≤ i = omega arith in
       let z : count v (drop i bs) ≡ 0 = rw (drop-of-length-le bs b) in
       omega arith
+
+-- of the bytes up to 2, the odd one is 1, and the one with a half is 2
+pub odd-hit : (b : ℕ) → b ≤ 2 → b % 2 ≡ one (eqb b 1)
+unfolding one
+odd-hit zero h = refl
+odd-hit (suc zero) h = refl
+odd-hit (suc (suc zero)) h = refl
+odd-hit (suc (suc (suc b))) h = omega arith
+
+pub half-hit : (b : ℕ) → b ≤ 2 → b / 2 ≡ one (eqb b 2)
+unfolding one
+half-hit zero h = refl
+half-hit (suc zero) h = refl
+half-hit (suc (suc zero)) h = refl
+half-hit (suc (suc (suc b))) h = omega arith
+
+-- what a test of all bytes found
+pub all-found : (n : ℕ) (bs : List ℕ) (b : Bool) → b ≡ allUpTo n (drop 0 bs) → not b ≡ false → allUpTo n bs ≡ true
+all-found n bs b e h = sym e ∙ not-false b h
+
+pub all-at : (n : ℕ) (bs : List ℕ) (i : ℕ) → allUpTo n bs ≡ true → getD bs i 0 ≤ n
+unfolding allUpTo
+all-at n [] i e = omega arith
+all-at n (b ∷ bs) zero e = leb-true b n (both _ _ e .0)
+all-at n (b ∷ bs) (suc i) e = all-at n bs i (both _ _ e .1)
 
 pub hit-le : (t : Bool) (h : ℕ) → h ≡ one t → h ≤ 1
 hit-le t h e = rw e (one-le t)

@@ -82,6 +82,9 @@ unfolding allUpTo
 objects-low [] = refl
 objects-low (o ∷ os) = and-i _ _ (slot-low (o .slot)) (objects-low os)
 
+pub bytes-low : (os : List ObjectRecord) (bs : List ℕ) → bs ≡ map objectByte os → allUpTo 2 bs ≡ true
+bytes-low os bs e = rw e (objects-low os)
+
 -- ---- the record of a member ----
 
 module _ (m : Member) (s : Shaped m) where

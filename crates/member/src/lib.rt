@@ -1,7 +1,8 @@
 // A member of the card: its record as a struct by value, its bytes, and its resource objects.
 ghost use mathlib.Core.Path.{_≡_};
+ghost use mathlib.Core.Bool.{true};
 ghost use mathlib.Core.List.{map};
-ghost use Prim.Native.Nat.{_+_, _<_};
+ghost use Prim.Native.Nat.{_+_, _≤_, _<_};
 ghost use lib.Dec.{leb, eqb};
 ghost use lib.ListN.{length, drop, set};
 ghost use Rattle.theory.specs.Logic.{_and_, one};
@@ -122,13 +123,17 @@ fn object_bytes(objects: [ObjectRecord; IDS]) -> [u8; IDS]
 
 // ---- counting object bytes, without branches ----
 
+// 1 if the byte is v, else 0: of the bytes up to 2, 1 is the odd one and 2 the one that has a half. A sum of these is a
+// few vector additions; of the answers to a test it would be many more steps.
 fn hit(b: u8, v: u8) -> u8
+    requires { ⌜ (b ≤ 2) × (1 ≤ v) × (v ≤ 2) ⌝ }
     ensures { λ r. ⌜ r ≡ one (eqb b v) ⌝ }
 {
-    if b == v { 1 } else { 0 }
+    if v == 1 { b % 2 } else { b / 2 }
 }
 
 fn count_of(v: u8, bytes: [u8; IDS]) -> u8
+    requires { ⌜ (allUpTo 2 bytes ≡ true) × (1 ≤ v) × (v ≤ 2) ⌝ }
     ensures { λ r. ⌜ r ≡ count v bytes ⌝ }
 {
     let mut n: u8 = 0;
@@ -141,6 +146,7 @@ fn count_of(v: u8, bytes: [u8; IDS]) -> u8
 }
 
 fn is_within_limits(bytes: [u8; IDS], gets: u8, sets: u8) -> bool
+    requires { ⌜ allUpTo 2 bytes ≡ true ⌝ }
     ensures { λ r. ⌜ r ≡ withinLimits gets sets bytes ⌝ }
 {
     if gets < count_of(1, bytes) {

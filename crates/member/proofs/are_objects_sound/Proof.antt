@@ -1,5 +1,6 @@
 use borrow.Author.Needs.{needs}
 use Rattle.theory.proofs.Ladder.{ladder}
+use Rattle.member.proofs.Counts.{all-found}
 use Rattle.member.proofs.are_objects_sound.Statement.{statement}
 use Rattle.member.proofs.are_objects_sound.Tie as tie
 
@@ -7,4 +8,4 @@ pub are-objects-sound-spec : {M : Type 1} → statement M
 are-objects-sound-spec =
     tie.close
     (tie.spec (λ c κs. search needs) (λ c. search ladder) (λ c. search needs) (λ c κs. search needs)
-    (λ c. search ladder) (λ c κs. search needs) (λ c. search ladder))
+    (λ c. search ladder) (λ c κs. search (needs, all-found)) (λ c. search ladder))

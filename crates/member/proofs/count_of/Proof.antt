@@ -4,7 +4,7 @@ use mathlib.Core.Path.{_≡_}
 use Prim.Native.Nat.{_+_, _-_, _≤_}
 use lib.ListN.{drop}
 use Rattle.member.specs.Objects.{count}
-use Rattle.member.proofs.Counts.{count-on, counted, hit-le}
+use Rattle.member.proofs.Counts.{count-on, counted, hit-le, all-at}
 use Rattle.member.proofs.count_of.Statement.{statement}
 use Rattle.member.proofs.count_of.Tie as tie
 
@@ -23,5 +23,5 @@ loop-again c = let h : c .hit .result ≤ 1 = search (needs, hit-le) in (search 
 pub count-of-spec : {M : Type 1} → statement M
 count-of-spec =
     tie.close
-    (tie.spec Inv-loop μ-loop (λ c. search needs) (λ c. search needs) (λ c κs. search needs) add-n
+    (tie.spec Inv-loop μ-loop (λ c. search needs) (λ c. search needs) (λ c κs. (search (needs, all-at), search needs, search needs)) add-n
     (λ c. search needs) (λ c. search needs) loop-again (λ c. search (needs, counted)))

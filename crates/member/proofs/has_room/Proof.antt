@@ -1,4 +1,5 @@
 use borrow.Author.Needs.{needs}
+use Rattle.member.proofs.Record.{bytes-low}
 use Rattle.member.proofs.has_room.Statement.{statement}
 use Rattle.member.proofs.has_room.Tie as tie
 
@@ -6,4 +7,4 @@ returns : tie.Need-returns
 returns c = cc
 
 pub has-room-spec : {M : Type 1} → statement M
-has-room-spec = tie.close (tie.spec (λ c κs. search needs) (λ c κs. search needs) returns)
+has-room-spec = tie.close (tie.spec (λ c κs. search needs) (λ c κs. search (needs, bytes-low)) returns)

@@ -1,3 +1,4 @@
+use native.Mathlib.Omega.{arith}
 use Rattle.theory.proofs.Ladder.{ladder}
 use borrow.Author.Needs.{needs}
 use Rattle.member.specs.Objects.{withinLimits}
@@ -13,4 +14,4 @@ unfolding withinLimits
 returns-2 c = search ladder
 
 pub is-within-limits-spec : {M : Type 1} → statement M
-is-within-limits-spec = tie.close (tie.spec (λ c κs. search needs) returns (λ c κs. search needs) returns-2)
+is-within-limits-spec = tie.close (tie.spec (λ c κs. (search needs, omega arith, omega arith)) returns (λ c κs. (search needs, omega arith, omega arith)) returns-2)
