@@ -1,16 +1,16 @@
 -- A member comes back from its record, and a sound record from its member. Assumes nothing.
-use mathlib.Core.Path.{_≡_, refl, sym, _∙_}
+use mathlib.Core.Path.{_≡_, refl, ap, sym, _∙_}
 use mathlib.Core.Bool.{true}
 use mathlib.Core.List.{List, [], _∷_, _++_, map}
-use Prim.Native.Nat.{ℕ, zero, suc, _+_, _≤_}
+use Prim.Native.Nat.{ℕ, zero, suc, _+_, _≤_, _<_}
 use native.Mathlib.Omega.{arith}
 use borrow.Author.Tests.{leb-true}
 use lib.Dec.{leb}
-use lib.ListN.{length, getD, take, drop, set, replicate, length-append, length-map, length-set, length-drop, take-append-drop}
+use lib.ListN.{length, getD, take, drop, set, replicate, length-append, length-map, length-set, length-drop, take-append-drop, List·getD-map}
 use lib.Seq.{take-at, drop-at, take-all}
 use Rattle.theory.specs.Bytes.{part, put}
 use Rattle.theory.proofs.Tests.{both, and-i}
-use Rattle.theory.proofs.Bytes.{length-put, length-part, put-all, put-cons, put-append, put-front}
+use Rattle.theory.proofs.Bytes.{length-put, length-part, put-all, put-cons, put-append, put-front, getD-part}
 use Rattle.inventory.specs.Inventory.{valuesSize}
 use Rattle.protocol.specs.declared.Mode.{Mode}
 use Rattle.protocol.specs.declared.Mode.the-variants.{Running, Stopped}
@@ -18,9 +18,12 @@ use Rattle.member.specs.declared.Slot.{Slot}
 use Rattle.member.specs.declared.Slot.the-variants.{Free, Get, Set}
 use Rattle.member.specs.declared.ObjectRecord.{ObjectRecord}
 use Rattle.member.specs.declared.Member.{Member}
+use Rattle.member.specs.declared.Found.{Found}
+use Rattle.member.specs.declared.Found.the-variants.{Nothing}
 use Rattle.member.specs.Record.{objectsAt, objectsSize, valuesAt, recordSize, modeOf, modeByte, slotOf, slotByte, objectOf, objectByte, objectBytes, memberOf, recordOf}
-use Rattle.member.specs.Objects.{allUpTo, withObject}
+use Rattle.member.specs.Objects.{foundIn, lookupOf, allUpTo, withObject}
 use Rattle.member.specs.Member.{withMode, withValues}
+use Rattle.member.proofs.Objects.{lookup-out}
 
 -- its arrays are as long as its type says
 pub record Shaped (m : Member) : Type 0 where
@@ -156,3 +159,14 @@ module _ (m : Member) (s : Shaped m) (r : List ℕ) (e : length r ≡ recordSize
 
 pub fresh-values : (f : List ℕ) → length f ≡ 16 → put 0 f (replicate valuesSize 0) ≡ f ++ replicate 189 0
 fresh-values f e = put-front f (replicate valuesSize 0) (omega arith) ∙ rw e
+
+-- ---- a record read where it stands ----
+
+module _ (r : List ℕ) (n : length r ≡ recordSize) (id : ℕ) where
+  pub record-lookup : (f : Found) (o : ObjectRecord) → id < objectsSize → o ≡ objectOf (getD r (objectsAt + id) 0)
+      → f ≡ foundIn (o .slot) → f ≡ lookupOf (memberOf r) id
+  unfolding memberOf lookupOf
+  record-lookup f o h q e = rw (List·getD-map objectOf (objectBytes r) id 0, getD-part objectsAt objectsSize id r h) (e ∙ ap (λ (x : ObjectRecord). foundIn (x .slot)) q)
+
+  pub record-lookup-out : objectsSize ≤ id → Nothing ≡ lookupOf (memberOf r) id
+  record-lookup-out h = lookup-out (memberOf r) id objectsSize (member-shaped r n .ids) h

@@ -219,6 +219,19 @@ pub fn lookup(m: Member, id: usize) -> Found
     found_in(slot)
 }
 
+// The live object of an id, from a member's record. A command that reads has no need of the member by value.
+pub fn lookup_in(rec: &[u8], id: usize) -> Found
+    requires { ⌜ length (now rec) ≡ recordSize ⌝ }
+    ensures { λ r. ⌜ r ≡ lookupOf (memberOf (now (rec .entry))) id ⌝ }
+{
+    if IDS <= id {
+        return Found::Nothing;
+    }
+    let o = object_in(rec[OBJECTS_AT + id]);
+    let slot = o.slot;
+    found_in(slot)
+}
+
 // The member with this at the id; an id that no record has changes nothing.
 pub fn put_object(m: Member, id: usize, slot: Slot) -> Member
     ensures { λ r. ⌜ r ≡ withObject m id slot ⌝ }
@@ -294,6 +307,14 @@ fn values_in(rec: &[u8]) -> [u8; VALUES_SIZE]
     let mut values = [0u8; VALUES_SIZE];
     wire::copy(&mut values, 0, &rec[VALUES_AT..RECORD_SIZE]);
     values
+}
+
+// The values of a member, within its record.
+pub fn values_of(rec: &[u8]) -> &[u8]
+    requires { ⌜ length (now rec) ≡ recordSize ⌝ }
+    ensures { λ r. ⌜ now r ≡ memberOf (now (rec .entry)) .values ⌝ }
+{
+    &rec[VALUES_AT..RECORD_SIZE]
 }
 
 pub fn load(rec: &[u8]) -> Member
