@@ -1,23 +1,24 @@
 -- What the writers leave in the buffer, in the form in which their needs ask it. Assumes nothing.
-use mathlib.Core.Path.{_≡_, ap, sym, _∙_}
+use mathlib.Core.Path.{_≡_, refl, ap, sym, _∙_}
 use mathlib.Core.Bool.{Bool, true, false, not}
 use mathlib.Core.List.{List, _++_}
 use Prim.Native.Nat.{ℕ, _+_, _-_, _^_, _≤_, _<_}
-use native.Mathlib.Nat.{add-sub-cancel-left}
+use native.Mathlib.Nat.{add-sub-cancel-left, sub-zero}
 use native.Mathlib.Omega.{arith}
-use borrow.Author.Tests.{not-true, not-false}
+use borrow.Author.Tests.{leb-true}
 use mir.Syntax.{w64}
 use mir.Val.{Fits}
+use lib.Dec.{leb}
 use lib.ListN.{length, getD, take, drop, length-append}
 use Rattle.theory.specs.Logic.{if_then_else_}
 use Rattle.theory.specs.Bytes.{part, put}
 use Rattle.theory.proofs.Tests.{true-and, false-and}
-use Rattle.theory.proofs.Bytes.{put-append, length-part}
+use Rattle.theory.proofs.Bytes.{put-append, part-put-as, length-part}
 use Rattle.theory.proofs.Items.{Written, written-room, written-next, written-skip}
 use Rattle.inventory.specs.Inventory.{Row, row, rowAt, rowCount, present, valuesSize}
 use Rattle.inventory.specs.Header.{headerOf, headerSize}
 use Rattle.inventory.proofs.Columns.{types, selectors, sizes, offsets, type-at, selector-at, size-at, offset-at, row-at}
-use Rattle.inventory.proofs.Rules.{row-within, length-header}
+use Rattle.inventory.proofs.Rules.{table, every-row, row-within, length-header}
 use Rattle.parts.specs.declared.ListForm.the-variants.{Headers}
 use Rattle.parts.specs.List.{partsOf}
 use Rattle.parts.specs.Rules.{among}
@@ -26,38 +27,25 @@ use Rattle.capture.specs.declared.Selection.the-variants.{All, Asked}
 use Rattle.capture.specs.Capture.{headerItem, partAt, asks, partItem, Wrote}
 use Rattle.capture.proofs.Sizes.{itemSize, size-most}
 
--- ---- which parts are chosen ----
-
-chosen-absent : (selection : Selection) (q : ℕ) (list : List ℕ) (r : Row) → present q r ≡ false → asks selection q list r ≡ false
-unfolding asks
-chosen-absent All q list r e = e
-chosen-absent Asked q list r e = rw e (false-and _)
-
-module _ (selection : Selection) (q : ℕ) (list : List ℕ) (r : Row) (b : Bool) (told : b ≡ present q r) where
-  pub chosen-none : not b ≡ true → false ≡ asks selection q list r
-  chosen-none h = sym (chosen-absent selection q list r (sym told ∙ not-true b h))
-
-  pub chosen-all : not b ≡ false → selection ≡ All → true ≡ asks selection q list r
-  unfolding asks
-  chosen-all h e = rw e (sym (not-false b h) ∙ told)
-
-  pub chosen-asked : (x : Bool) → not b ≡ false → selection ≡ Asked → x ≡ among (r .partType) (r .selector) (partsOf Headers list)
-      → x ≡ asks selection q list r
-  unfolding asks
-  chosen-asked x h e f = rw (e, ← told, not-false b h, true-and) f
-
 -- ---- one part ----
 
--- the header, then the value
-pub wrote-part : (at t s n from : ℕ) (v out out₁ out₂ : List ℕ) → from + n ≤ length v
-    → out₁ ≡ put at (headerOf (row t s n)) out → out₂ ≡ put (at + headerSize) (take (from + n - from) (drop from v)) out₁
-    → Wrote (headerOf (row t s n) ++ part from n v) at out out₂ (at + headerSize + n)
-wrote-part at t s n from v out out₁ out₂ h p e =
-    let l = length-header (row t s n) in
-    record {
-      buffer = e ∙ rw (add-sub-cancel-left, p, ← l) (sym (put-append at (headerOf (row t s n)) (part from n v) out));
-      place = rw (length-append, l, length-part from n v h) (omega arith);
-    }
+-- the value in the array that it goes through, and the header, then the value
+module _ (from n : ℕ) (v : List ℕ) (h : from + n ≤ length v) (value z : List ℕ) (e : value ≡ put 0 (take (from + n - from) (drop from v)) z) where
+  value-is : value ≡ put 0 (part from n v) z
+  value-is = e ∙ rw add-sub-cancel-left
+
+  value-back : n ≤ length z → take (n - 0) (drop 0 value) ≡ part from n v
+  value-back l = rw (value-is, sub-zero) (part-put-as 0 n (part from n v) z (length-part from n v h) (omega arith))
+
+  pub wrote-part : (at t s : ℕ) (out out₁ out₂ : List ℕ) → n ≤ length z
+      → out₁ ≡ put at (headerOf (row t s n)) out → out₂ ≡ put (at + headerSize) (take (n - 0) (drop 0 value)) out₁
+      → Wrote (headerOf (row t s n) ++ part from n v) at out out₂ (at + headerSize + n)
+  wrote-part at t s out out₁ out₂ l p q =
+      let k = length-header (row t s n) in
+      record {
+        buffer = q ∙ rw (value-back l, p, ← k) (sym (put-append at (headerOf (row t s n)) (part from n v) out));
+        place = rw (length-append, k, length-part from n v h) (omega arith);
+      }
 
 -- ---- a turn of a loop over the tables ----
 
@@ -68,8 +56,12 @@ entry i = row (getD types i 0) (getD selectors i 0) (getD sizes i 0)
 pub row-inside : (i : ℕ) (v : List ℕ) → i < rowCount → length v ≡ valuesSize → getD offsets i 0 + getD sizes i 0 ≤ length v
 row-inside i v h e = omega (arith, offset-at i h, size-at i, row-within i h)
 
+pub row-small : (i : ℕ) → i < rowCount → getD sizes i 0 ≤ 32
+unfolding table
+row-small i h = rw (size-at i) (leb-true _ _ (every-row (λ j r. leb (r .size) 32) refl i h))
+
 -- what is written is the next item
-wrote-next : (item : ℕ → List ℕ) (n b : ℕ) (out₀ out out′ x : List ℕ) (at next i : ℕ) → Written item n b out₀ out at i → i < n
+pub wrote-next : (item : ℕ → List ℕ) (n b : ℕ) (out₀ out out′ x : List ℕ) (at next i : ℕ) → Written item n b out₀ out at i → i < n
     → item i ≡ x → Wrote x at out out′ next → Written item n b out₀ out′ next (i + 1)
 wrote-next item n b out₀ out out′ x at next i w h e d = rw (d .buffer, d .place, ← e) (written-next item n b out₀ out at i w h)
 

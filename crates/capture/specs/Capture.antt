@@ -2,7 +2,7 @@
 use mathlib.Core.Bool.{Bool}
 use mathlib.Core.List.{List, [], _++_}
 use mathlib.Core.Path.{_≡_}
-use Prim.Native.Nat.{ℕ, _+_}
+use Prim.Native.Nat.{ℕ, _+_, _≤_, _<_}
 use lib.ListN.{length}
 use Rattle.theory.specs.Logic.{if_then_else_, _and_}
 use Rattle.theory.specs.Bytes.{part, put}
@@ -25,6 +25,14 @@ headersOf queues = itemsFrom (headerItem queues) rowCount 0
 -- a part: the header and the value
 unfoldable pub partAt : List ℕ → ℕ → List ℕ
 partAt values i = headerOf (rowAt i) ++ part (offsetOf i) (rowAt i .size) values
+
+-- rows whose values are of one size, and their parts
+pub record RowsAlike (first count size : ℕ) : Type 0 where
+  pub there : first + count ≤ rowCount
+  pub same : (j : ℕ) → j < count → rowAt (first + j) .size ≡ size
+
+abbrev pub runOf : List ℕ → ℕ → ℕ → List ℕ
+runOf values first count = itemsFrom (λ j. partAt values (first + j)) count 0
 
 -- an item written at a place of a buffer, and the place after it
 pub record Wrote (item : List ℕ) (at : ℕ) (before after : List ℕ) (next : ℕ) : Type 0 where

@@ -1,13 +1,14 @@
 // Writers of headers and parts into a lent tail, with the bytes that they need.
 ghost use mathlib.Core.Path.{_≡_};
 ghost use mathlib.Core.List.{List, _++_};
-ghost use Prim.Native.Nat.{ℕ, _+_, _≤_, _<_};
+ghost use Prim.Native.Nat.{ℕ, _+_, _*_, _≤_, _<_};
 ghost use lib.ListN.{length};
 ghost use Rattle.theory.specs.Logic.{if_then_else_};
 ghost use Rattle.theory.specs.Bytes.{part, put};
-ghost use Rattle.inventory.specs.Inventory.{row, valuesSize};
+ghost use Rattle.inventory.specs.Inventory.{row, valuesSize, partsSize};
 ghost use Rattle.inventory.specs.Header.{headerSize, headerOf};
-ghost use Rattle.capture.specs.Capture.{headersOf, asks, partsWritten, Wrote};
+ghost use Rattle.capture.specs.Capture.{headersOf, asks, partsWritten, captureOf, RowsAlike, runOf, Wrote};
+ghost use Rattle.capture.specs.declared.Selection.the-variants.{Asked};
 use parts::ListForm;
 
 // Which parts are written: all that the member has, or those of them that a list asks for.
@@ -46,28 +47,10 @@ pub fn headers_bytes(queues: u8) -> usize
     16 * (inventory::part_count(queues) as usize)
 }
 
-// ---- parts ----
-
-// Whether the part of this row is written. For all parts the list is not read.
-fn is_chosen(
-    selection: Selection,
-    queues: u8,
-    asked: &[u8],
-    row_type: u16,
-    row_selector: u8,
-) -> bool
-    ensures { λ r. ⌜ r ≡ asks selection queues (now (asked .entry)) (row «row_type» «row_selector» 0) ⌝ }
-{
-    if !inventory::is_present(queues, row_type, row_selector) {
-        return false;
-    }
-    match selection {
-        Selection::All => true,
-        Selection::Asked => parts::names(ListForm::Headers, asked, row_type, row_selector as u64),
-    }
-}
+// ---- one part ----
 
 // The part of this row, the header and the value, whose place is `offset` among the values. Returns the place after it.
+// The value goes through an array: where its size is a constant, the copies are then single moves.
 fn write_part(
     out: &mut [u8],
     at: usize,
@@ -77,20 +60,75 @@ fn write_part(
     size: u8,
     offset: u8,
 ) -> usize
-    requires { ⌜ (offset + size ≤ length (now values)) × (at + (headerSize + size) ≤ length (now out)) ⌝ }
+    requires { ⌜ (size ≤ 32) × (offset + size ≤ length (now values)) × (at + (headerSize + size) ≤ length (now out)) ⌝ }
     ensures { λ r. ⌜ Wrote (headerOf (row «row_type» «row_selector» size) ++ part offset size (now (values .entry))) at (now (out .entry)) (now (out .exit)) r ⌝ }
 {
     inventory::write_header(out, at, row_type, row_selector, size);
     let from = offset as usize;
-    let end = from + size as usize;
-    wire::copy(out, at + 16, &values[from..end]);
-    at + 16 + size as usize
+    let len = size as usize;
+    let mut value = [0u8; 32];
+    wire::copy(&mut value, 0, &values[from..from + len]);
+    wire::copy(out, at + 16, &value[0..len]);
+    at + 16 + len
 }
 
-// The chosen parts in the order of the table, at the front of what is lent.
-pub fn write_parts(out: &mut [u8], values: &[u8], queues: u8, selection: Selection, asked: &[u8])
-    requires { ⌜ (length (now values) ≡ valuesSize) × (length (partsWritten selection queues (now asked) (now values)) ≤ length (now out)) ⌝ }
-    ensures { λ _. ⌜ now (out .exit) ≡ put 0 (partsWritten selection queues (now (asked .entry)) (now (values .entry))) (now (out .entry)) ⌝ }
+// ---- all parts ----
+
+// The parts of `count` rows from `first` on, whose values are all of one size.
+fn write_run(
+    out: &mut [u8],
+    at: usize,
+    values: &[u8],
+    first: usize,
+    count: usize,
+    size: u8,
+) -> usize
+    requires { ⌜ RowsAlike first count size × (length (now values) ≡ valuesSize) × (at + count * (headerSize + size) ≤ length (now out)) ⌝ }
+    ensures { λ r. ⌜ Wrote (runOf (now (values .entry)) first count) at (now (out .entry)) (now (out .exit)) r ⌝ }
+{
+    let types = inventory::TYPES;
+    let selectors = inventory::SELECTORS;
+    let offsets = inventory::OFFSETS;
+    let mut end = at;
+    let mut i = 0;
+    while i < count {
+        let r = first + i;
+        end = write_part(out, end, values, types[r], selectors[r], size, offsets[r]);
+        i += 1;
+    }
+    end
+}
+
+// All parts of a member, at the front of what is lent: a run of rows for each size, so that the sizes are constants.
+fn write_all(out: &mut [u8], values: &[u8], queues: u8)
+    requires { ⌜ (queues < 5) × (length (now values) ≡ valuesSize) × (partsSize queues ≤ length (now out)) ⌝ }
+    ensures { λ _. ⌜ now (out .exit) ≡ put 0 (captureOf queues (now (values .entry))) (now (out .entry)) ⌝ }
+{
+    let n = queues as usize;
+    let mut at = write_run(out, 0, values, 0, 2, 16);
+    at = write_run(out, at, values, 2, 2, 4);
+    at = write_run(out, at, values, 4, 2, 2);
+    at = write_run(out, at, values, 6, 1, 1);
+    at = write_run(out, at, values, 7, n, 32);
+    write_run(out, at, values, 11, n, 8);
+}
+
+// ---- the parts that a list asks for ----
+
+// Whether the member has the part of this row, and the list asks for it.
+fn is_asked(queues: u8, asked: &[u8], row_type: u16, row_selector: u8) -> bool
+    ensures { λ r. ⌜ r ≡ asks Asked queues (now (asked .entry)) (row «row_type» «row_selector» 0) ⌝ }
+{
+    if !inventory::is_present(queues, row_type, row_selector) {
+        return false;
+    }
+    parts::names(ListForm::Headers, asked, row_type, row_selector as u64)
+}
+
+// Those parts in the order of the table, at the front of what is lent.
+fn write_asked(out: &mut [u8], values: &[u8], queues: u8, asked: &[u8])
+    requires { ⌜ (length (now values) ≡ valuesSize) × (length (partsWritten Asked queues (now asked) (now values)) ≤ length (now out)) ⌝ }
+    ensures { λ _. ⌜ now (out .exit) ≡ put 0 (partsWritten Asked queues (now (asked .entry)) (now (values .entry))) (now (out .entry)) ⌝ }
 {
     let types = inventory::TYPES;
     let selectors = inventory::SELECTORS;
@@ -99,7 +137,7 @@ pub fn write_parts(out: &mut [u8], values: &[u8], queues: u8, selection: Selecti
     let mut at = 0;
     let mut i = 0;
     while i < 15 {
-        if is_chosen(selection, queues, asked, types[i], selectors[i]) {
+        if is_asked(queues, asked, types[i], selectors[i]) {
             at = write_part(
                 out,
                 at,
@@ -116,18 +154,11 @@ pub fn write_parts(out: &mut [u8], values: &[u8], queues: u8, selection: Selecti
     }
 }
 
-// The bytes of this row's part, if it is chosen.
-fn chosen_bytes(
-    selection: Selection,
-    queues: u8,
-    asked: &[u8],
-    row_type: u16,
-    row_selector: u8,
-    size: u8,
-) -> usize
-    ensures { λ r. ⌜ r ≡ (if asks selection queues (now (asked .entry)) (row «row_type» «row_selector» 0) then headerSize + size else 0) ⌝ }
+// The bytes of this row's part, if it is asked for.
+fn asked_size(queues: u8, asked: &[u8], row_type: u16, row_selector: u8, size: u8) -> usize
+    ensures { λ r. ⌜ r ≡ (if asks Asked queues (now (asked .entry)) (row «row_type» «row_selector» 0) then headerSize + size else 0) ⌝ }
 {
-    if !is_chosen(selection, queues, asked, row_type, row_selector) {
+    if !is_asked(queues, asked, row_type, row_selector) {
         return 0;
     }
     16 + size as usize
@@ -135,7 +166,7 @@ fn chosen_bytes(
 
 // The bytes of the parts that a list asks for, whatever the values are.
 fn asked_bytes(queues: u8, asked: &[u8]) -> usize
-    ensures { λ r. ⌜ ((values : List ℕ) → length values ≡ valuesSize → r ≡ length (partsWritten Selection.Asked queues (now (asked .entry)) values)) ⌝ }
+    ensures { λ r. ⌜ ((values : List ℕ) → length values ≡ valuesSize → r ≡ length (partsWritten Asked queues (now (asked .entry)) values)) ⌝ }
 {
     let types = inventory::TYPES;
     let selectors = inventory::SELECTORS;
@@ -143,20 +174,26 @@ fn asked_bytes(queues: u8, asked: &[u8]) -> usize
     let mut n = 0;
     let mut i = 0;
     while i < 15 {
-        n += chosen_bytes(
-            Selection::Asked,
-            queues,
-            asked,
-            types[i],
-            selectors[i],
-            sizes[i],
-        );
+        n += asked_size(queues, asked, types[i], selectors[i], sizes[i]);
         i += 1;
     }
     n
 }
 
-// The bytes of the chosen parts, whatever the values are. For all parts they are known without a walk.
+// ---- the chosen parts ----
+
+// At the front of what is lent. For all parts the list is not read.
+pub fn write_parts(out: &mut [u8], values: &[u8], queues: u8, selection: Selection, asked: &[u8])
+    requires { ⌜ (queues < 5) × (length (now values) ≡ valuesSize) × (length (partsWritten selection queues (now asked) (now values)) ≤ length (now out)) ⌝ }
+    ensures { λ _. ⌜ now (out .exit) ≡ put 0 (partsWritten selection queues (now (asked .entry)) (now (values .entry))) (now (out .entry)) ⌝ }
+{
+    match selection {
+        Selection::All => write_all(out, values, queues),
+        Selection::Asked => write_asked(out, values, queues, asked),
+    }
+}
+
+// Their bytes, whatever the values are. For all parts they are known without a walk.
 pub fn parts_bytes(queues: u8, selection: Selection, asked: &[u8]) -> usize
     requires { ⌜ queues < 5 ⌝ }
     ensures { λ r. ⌜ ((values : List ℕ) → length values ≡ valuesSize → r ≡ length (partsWritten selection queues (now (asked .entry)) values)) ⌝ }

@@ -19,7 +19,7 @@ Inv-loop queues asked types selectors sizes n₀ i₀ n i =
 abbrev μ-loop : tie.MeasureT-loop
 μ-loop queues asked types selectors sizes n₀ i₀ n i = rowCount - i
 
-most : (c : tie.After-chosen-bytes Inv-loop μ-loop) → c .chosen-bytes .result ≤ 272
+most : (c : tie.After-asked-size Inv-loop μ-loop) → c .asked-size .result ≤ 272
 unfolding rows
 most c = search (needs, row-most)
 

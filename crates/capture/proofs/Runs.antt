@@ -1,0 +1,176 @@
+-- Rows whose values are of one size, and all parts of a member as runs of such rows. Assumes nothing.
+use mathlib.Core.Path.{_≡_, refl, ap, sym, _∙_}
+use mathlib.Core.Bool.{Bool, true, false, not}
+use mathlib.Core.List.{List, [], _∷_, _++_, append-assoc}
+use Prim.Native.Nat.{ℕ, zero, suc, _+_, _*_, _≤_, _<_}
+use native.Mathlib.Omega.{arith}
+use borrow.Author.Tests.{eqb-true, le-leb, lt-leb}
+use lib.Dec.{leb, eqb}
+use lib.ListN.{length, getD, length-append}
+use Rattle.theory.specs.Logic.{_or_}
+use Rattle.theory.specs.Bytes.{part, put}
+use Rattle.theory.specs.Items.{itemsFrom}
+use Rattle.theory.proofs.Tests.{false-or}
+use Rattle.theory.proofs.Table.{every}
+use Rattle.theory.proofs.Bytes.{length-part}
+use Rattle.theory.proofs.Items.{Written, written-start, written-room, written-end, written-at}
+use Rattle.inventory.specs.Inventory.{Row, row, rows, rowAt, rowCount, offsetOf, valuesSize, partsSize}
+use Rattle.inventory.specs.Header.{headerOf, headerSize}
+use Rattle.inventory.proofs.Columns.{types, selectors, sizes, offsets, type-at, selector-at, size-at, offset-at, row-at}
+use Rattle.inventory.proofs.Rules.{table, every-row, every-count, row-within, length-header}
+use Rattle.capture.specs.declared.Selection.{Selection}
+use Rattle.capture.specs.declared.Selection.the-variants.{All, Asked}
+use Rattle.capture.specs.Capture.{partAt, asks, partItem, partsWritten, captureOf, RowsAlike, runOf, Wrote}
+use Rattle.capture.proofs.Sizes.{part-length, capture-length, all-parts}
+use Rattle.capture.proofs.Writes.{row-small, row-inside, wrote-next}
+
+-- ---- one run ----
+
+items-length : (item : ℕ → List ℕ) (k n : ℕ) → ((j : ℕ) → j < n → length (item j) ≡ k) → (i m : ℕ) → i + m ≡ n
+    → length (itemsFrom item m i) ≡ m * k
+unfolding itemsFrom
+items-length item k n l i zero e = omega arith
+items-length item k n l i (suc m) e =
+    rw (length-append, l i (omega arith), items-length item k n l (i + 1) m (omega arith)) (omega arith)
+
+module _ (v : List ℕ) (first count size : ℕ) (a : RowsAlike first count size) (e : length v ≡ valuesSize) where
+  abbrev item : ℕ → List ℕ
+  item j = partAt v (first + j)
+
+  inside : (j : ℕ) → j < count → first + j < rowCount
+  inside j h = let l = a .there in omega arith
+
+  run-item : (j : ℕ) → j < count → length (item j) ≡ headerSize + size
+  run-item j h = part-length v (first + j) (inside j h) e ∙ rw (a .same j h)
+
+  pub run-length : length (runOf v first count) ≡ count * (headerSize + size)
+  run-length = items-length item (headerSize + size) count run-item 0 count (omega arith)
+
+  pub run-start : (b : ℕ) (out : List ℕ) → b + count * (headerSize + size) ≤ length out → Written item count b out out b 0
+  run-start b out h = written-start item count b out (omega (arith, run-length))
+
+  -- a turn: row r is the next
+  module _ (b : ℕ) (out₀ out : List ℕ) (at i : ℕ) (w : Written item count b out₀ out at i) (h : i < count) where
+    pub run-row : first + i < rowCount
+    run-row = inside i h
+
+    sized : getD sizes (first + i) 0 ≡ size
+    sized = size-at (first + i) ∙ a .same i h
+
+    pub run-small : size ≤ 32
+    run-small = rw sized at (row-small (first + i) run-row)
+
+    pub run-inside : getD offsets (first + i) 0 + size ≤ length v
+    run-inside = rw sized at (row-inside (first + i) v run-row e)
+
+    pub run-room : at + (headerSize + size) ≤ length out
+    run-room = written-room item count b out₀ out at i w (headerSize + size) h (run-item i h)
+
+    next-item : item i ≡ headerOf (row (getD types (first + i) 0) (getD selectors (first + i) 0) size) ++ part (getD offsets (first + i) 0) size v
+    unfolding partAt
+    next-item = rw (← row-at (first + i), sized, offset-at (first + i) run-row)
+
+    pub run-on : (out′ : List ℕ) (next : ℕ)
+        → Wrote (headerOf (row (getD types (first + i) 0) (getD selectors (first + i) 0) size) ++ part (getD offsets (first + i) 0) size v) at out out′ next
+        → Written item count b out₀ out′ next (i + 1)
+    run-on out′ next d = wrote-next item count b out₀ out out′ _ at next i w h next-item d
+
+-- the whole run
+pub run-end : (v : List ℕ) (first count b : ℕ) (out₀ out : List ℕ) (at i : ℕ)
+    → Written (λ j. partAt v (first + j)) count b out₀ out at i → count ≤ i → Wrote (runOf v first count) b out₀ out at
+run-end v first count b out₀ out at i w h = record { buffer = written-end _ _ _ _ _ _ _ w h; place = written-at _ _ _ _ _ _ _ w h }
+
+-- ---- all parts, as runs ----
+
+pub alike : (first count size : ℕ) → every (λ i r. not (leb first i) or leb (first + count) i or eqb (r .size) size) 0 rows ≡ true
+    → first + count ≤ rowCount → RowsAlike first count size
+alike first count size t l = record {
+  there = l;
+  same = λ j h.
+      let k : first + j < rowCount = omega arith in
+      let x = every-row (λ i r. not (leb first i) or leb (first + count) i or eqb (r .size) size) t (first + j) k in
+      let y : leb first (first + j) ≡ true = le-leb first (first + j) (omega arith) in
+      let z : leb (first + count) (first + j) ≡ false = lt-leb (first + count) (first + j) (omega arith) in
+      eqb-true (rowAt (first + j) .size) size (simp (y, z, false-or) at x);
+}
+
+fewer : (first count n size : ℕ) → n ≤ count → RowsAlike first count size → RowsAlike first n size
+fewer first count n size h a = let l = a .there in record { there = omega arith; same = λ j k. a .same j (omega arith) }
+
+-- the runs: features, PCI common fields by their size, device status, queues, queue notify
+abbrev pub runCount : ℕ
+runCount = 6
+
+abbrev pub firstOf : ℕ → ℕ
+firstOf k = getD (0 ∷ 2 ∷ 4 ∷ 6 ∷ 7 ∷ 11 ∷ []) k 0
+
+abbrev pub countOf : ℕ → ℕ → ℕ
+countOf q k = getD (2 ∷ 2 ∷ 2 ∷ 1 ∷ q ∷ q ∷ []) k 0
+
+abbrev pub sizeOf : ℕ → ℕ
+sizeOf k = getD (16 ∷ 4 ∷ 2 ∷ 1 ∷ 32 ∷ 8 ∷ []) k 0
+
+pub run-alike : (q k : ℕ) → q < 5 → k < runCount → RowsAlike (firstOf k) (countOf q k) (sizeOf k)
+unfolding table
+run-alike q zero f h = alike 0 2 16 refl (omega arith)
+run-alike q (suc zero) f h = alike 2 2 4 refl (omega arith)
+run-alike q (suc (suc zero)) f h = alike 4 2 2 refl (omega arith)
+run-alike q (suc (suc (suc zero))) f h = alike 6 1 1 refl (omega arith)
+run-alike q (suc (suc (suc (suc zero)))) f h = fewer 7 4 q 32 (omega arith) (alike 7 4 32 refl (omega arith))
+run-alike q (suc (suc (suc (suc (suc zero))))) f h = fewer 11 4 q 8 (omega arith) (alike 11 4 8 refl (omega arith))
+run-alike q (suc (suc (suc (suc (suc (suc k)))))) f h = absurd (omega arith)
+
+abbrev pub run : ℕ → List ℕ → ℕ → List ℕ
+run q v k = runOf v (firstOf k) (countOf q k)
+
+runs-are : (q : ℕ) (v : List ℕ) → q < 5 → itemsFrom (run q v) runCount 0 ≡ captureOf q v
+unfolding table itemsFrom partsWritten partItem asks
+runs-are zero v h = simp append-assoc
+runs-are (suc zero) v h = simp append-assoc
+runs-are (suc (suc zero)) v h = simp append-assoc
+runs-are (suc (suc (suc zero))) v h = simp append-assoc
+runs-are (suc (suc (suc (suc zero)))) v h = simp append-assoc
+runs-are (suc (suc (suc (suc (suc q))))) v h = absurd (omega arith)
+
+-- the runs one after the other: out₀ is the buffer before them, and it has room for all
+pub record Ready (q : ℕ) (v out₀ : List ℕ) : Type 0 where
+  pub few : q < 5
+  pub long : length v ≡ valuesSize
+  pub room : partsSize q ≤ length out₀
+
+-- k runs are written, and the next goes to `at`
+pub record Upto (q : ℕ) (v out₀ : List ℕ) (k : ℕ) (out : List ℕ) (at : ℕ) : Type 0 where
+  pub written : Written (run q v) runCount 0 out₀ out at k
+
+module _ {q : ℕ} {v out₀ : List ℕ} (p : Ready q v out₀) where
+  pub upto-none : Upto q v out₀ 0 out₀ 0
+  upto-none =
+      let l = p .room in
+      record { written = written-start (run q v) runCount 0 out₀ (rw (runs-are q v (p .few), capture-length q v (p .few) (p .long)) (omega arith)) }
+
+  module _ (k : ℕ) {out : List ℕ} {at : ℕ} (w : Upto q v out₀ k out at) (h : k < runCount) where
+    pub next-fits : at + countOf q k * (headerSize + sizeOf k) ≤ length out
+    next-fits =
+        written-room _ _ _ _ _ _ _ (w .written) _ h
+        (run-length v (firstOf k) (countOf q k) (sizeOf k) (run-alike q k (p .few) h) (p .long))
+
+    pub upto-next : {out′ : List ℕ} {next : ℕ} → Wrote (run q v k) at out out′ next → Upto q v out₀ (k + 1) out′ next
+    upto-next d = record { written = wrote-next _ _ _ _ _ _ _ _ _ _ (w .written) h refl d }
+
+  pub upto-all : {out : List ℕ} {at : ℕ} → Upto q v out₀ runCount out at → out ≡ put 0 (captureOf q v) out₀
+  upto-all w = rw (← runs-are q v (p .few)) (written-end _ _ _ _ _ _ _ (w .written) (omega arith))
+
+-- ---- by the selection ----
+
+module _ (selection : Selection) (q : ℕ) (list v out : List ℕ) (l : length (partsWritten selection q list v) ≤ length out) where
+  pub all-fits : selection ≡ All → q < 5 → length v ≡ valuesSize → partsSize q ≤ length out
+  all-fits s f e = rw (← capture-length q v f e, ← all-parts q list v, ← s) l
+
+  pub asked-fits : selection ≡ Asked → length (partsWritten Asked q list v) ≤ length out
+  asked-fits s = rw (← s) l
+
+  pub wrote-all : (out′ : List ℕ) → selection ≡ All → out′ ≡ put 0 (captureOf q v) out → out′ ≡ put 0 (partsWritten selection q list v) out
+  wrote-all out′ s e = rw (s, all-parts) e
+
+  pub wrote-asked : (out′ : List ℕ) → selection ≡ Asked → out′ ≡ put 0 (partsWritten Asked q list v) out → out′ ≡ put 0 (partsWritten selection q list v) out
+  wrote-asked out′ s e = rw s e
