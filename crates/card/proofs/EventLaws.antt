@@ -16,7 +16,7 @@ use Rattle.protocol.specs.declared.EventAnswer.{EventAnswer}
 use Rattle.protocol.specs.declared.EventAnswer.the-variants.{Done, BadSetup}
 use Rattle.protocol.specs.Answers.{eventNumber}
 use Rattle.inventory.specs.Inventory.{selectorOf}
-use Rattle.parts.specs.Apply.{storable}
+use Rattle.values.specs.Apply.{storable}
 use Rattle.member.specs.declared.Member.{Member}
 use Rattle.member.specs.Member.{freshOf, withPart}
 use Rattle.card.specs.declared.Setup.{Setup}

@@ -11,7 +11,7 @@ use borrow.Author.Tests.{eqb-true, eqb-false}
 use Rattle.theory.specs.Logic.{if_then_else_}
 use Rattle.theory.proofs.Tests.{by-cases, inside, if-cases, true-and, false-and, and-false}
 use Rattle.protocol.specs.Answers.{isDone, eventNumber}
-use Rattle.parts.specs.Apply.{storable}
+use Rattle.values.specs.Apply.{storable}
 use Rattle.member.specs.declared.Member.{Member}
 use Rattle.member.specs.Member.{freshOf}
 use Rattle.member.proofs.Record.{Shaped}

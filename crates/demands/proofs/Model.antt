@@ -7,9 +7,9 @@ use Rattle.wire.specs.Le.{le, bytes, number}
 use Rattle.protocol.specs.Opcodes.{opcodeRows, opcodeRow, supported, lengthFits, namesMember, bit, supportedOnly}
 use Rattle.inventory.specs.Inventory.{rows as inventoryRows, rowAt, present, offsetOf, selectorOf, isRow, seek, placeOf}
 use Rattle.inventory.specs.Header.{headerOf}
-use Rattle.parts.specs.List.{headerAt, stepAt, atMost, partsFrom}
-use Rattle.parts.specs.Rules.{known, knownOrSkipped, lengthRight, featuresSame, asksKnown, whole, every, among, repeated, causeIn, askedIn}
-use Rattle.parts.specs.Apply.{storable, stored, applied}
+use Rattle.parts.specs.List.{headerAt, stepAt, atMost, partsFrom, whole, among}
+use Rattle.rules.specs.Rules.{known, knownOrSkipped, lengthRight, featuresSame, asksKnown, every, repeated, causeIn, askedIn}
+use Rattle.values.specs.Apply.{storable, stored, applied}
 use Rattle.capture.specs.Capture.{headerItem, headersOf, partAt, asks, partItem, partsWritten}
 use Rattle.member.specs.Record.{memberOf, recordOf}
 use Rattle.member.specs.Objects.{lookupOf, withObject, count, allUpTo, withinLimits}

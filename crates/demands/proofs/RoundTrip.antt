@@ -17,10 +17,10 @@ use Rattle.protocol.specs.declared.ObjectKind.the-variants.{Get, Set}
 use Rattle.protocol.specs.Opcodes.{largest, bit}
 use Rattle.inventory.specs.Inventory.{valuesSize, partsSize}
 use Rattle.parts.specs.declared.ListForm.the-variants.{Parts}
-use Rattle.parts.specs.declared.Cause.the-variants.{Accepted}
 use Rattle.parts.specs.List.{partsOf}
-use Rattle.parts.specs.Rules.{causeOf}
-use Rattle.parts.specs.Apply.{applied}
+use Rattle.rules.specs.declared.Cause.the-variants.{Accepted}
+use Rattle.rules.specs.Rules.{causeOf}
+use Rattle.values.specs.Apply.{applied}
 use Rattle.capture.specs.Capture.{captureOf}
 use Rattle.capture.proofs.Sizes.{capture-length}
 use Rattle.capture.proofs.RoundTrip.{accepted as capture-accepted, captured as capture-restored}

@@ -12,8 +12,8 @@ use Rattle.protocol.specs.declared.ChangeOp.{ChangeOp}
 use Rattle.protocol.specs.declared.ChangeOp.the-variants.{Create, Modify, Destroy, SetParts, SetMode}
 use Rattle.protocol.specs.Answers.{isDone}
 use Rattle.parts.specs.List.{PartList}
-use Rattle.parts.specs.Apply.{applied}
-use Rattle.parts.proofs.Kept.{applied-length}
+use Rattle.values.specs.Apply.{applied}
+use Rattle.values.proofs.Kept.{applied-length}
 use Rattle.member.specs.declared.Slot.{Slot}
 use Rattle.member.specs.declared.Slot.the-variants.{Free}
 use Rattle.member.specs.declared.Member.{Member}

@@ -13,8 +13,8 @@ use Rattle.protocol.specs.declared.ChangeOp.{ChangeOp}
 use Rattle.protocol.specs.declared.ChangeOp.the-variants.{Create, Modify, Destroy, SetParts, SetMode}
 use Rattle.parts.specs.declared.ListForm.the-variants.{Parts}
 use Rattle.parts.specs.List.{partsOf}
-use Rattle.parts.specs.Rules.{causeOf, isAccepted}
-use Rattle.parts.specs.Apply.{applied}
+use Rattle.rules.specs.Rules.{causeOf, isAccepted}
+use Rattle.values.specs.Apply.{applied}
 use Rattle.member.specs.declared.Slot.the-variants.{Free}
 use Rattle.member.specs.declared.Member.{Member}
 use Rattle.member.specs.Record.{modeByte}

@@ -11,7 +11,7 @@ use Rattle.protocol.specs.declared.Metadata.the-variants.{Size, Count, List as 
 use Rattle.protocol.specs.declared.ReadOp.{ReadOp}
 use Rattle.protocol.specs.declared.ReadOp.the-variants.{QueryObject, GetMetadata, GetSelected, GetAll}
 use Rattle.inventory.specs.Inventory.{partCount, partsSize}
-use Rattle.parts.specs.Rules.{askedOf}
+use Rattle.rules.specs.Rules.{askedOf}
 use Rattle.member.specs.declared.Member.{Member}
 use Rattle.member.specs.Objects.{lookupOf, onFound}
 use Rattle.operations.specs.declared.Body.{Body}

@@ -4,7 +4,7 @@ ghost use Rattle.operations.specs.Changes.{kindNumber, limited, createOf
 ghost use Rattle.operations.specs.Changes.{refuse as refused, done as accepted};
 ghost use Rattle.operations.specs.Reads.{refuseRead, found, queryOf, metadataOf, throughGet, selectedOf, readOf};
 ghost use Rattle.member.specs.Member.{featuresIn, withMode};
-ghost use Rattle.parts.specs.Rules.{causeOf, isAccepted};
+ghost use Rattle.rules.specs.Rules.{causeOf, isAccepted};
 use member::Found;
 use member::Member;
 use protocol::Answer;
@@ -106,7 +106,7 @@ fn get_selected(m: Member, id: usize, queues: u8, list: &[u8]) -> Reading
     if kind_number(kind) != 0 {
         return refuse_read(Answer::WrongKind);
     }
-    if !parts::check_asked(queues, list) {
+    if !rules::check_asked(queues, list) {
         return refuse_read(Answer::BadList);
     }
     answer_with(Body::Selected)
@@ -206,8 +206,8 @@ fn accepts(m: Member, queues: u8, list: &[u8]) -> bool
     ensures { λ r. ⌜ r ≡ isAccepted (causeOf queues (featuresIn m) (now (list .entry))) ⌝ }
 {
     let values = m.values;
-    let cause = parts::check_list(queues, &values[0..16], list);
-    parts::is_accepted(cause)
+    let cause = rules::check_list(queues, &values[0..16], list);
+    rules::is_accepted(cause)
 }
 
 // Steps 8, 9 and 10 of parts set; all or nothing.
