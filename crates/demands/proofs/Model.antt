@@ -19,7 +19,7 @@ use Rattle.operations.specs.Changes.{limited, createOf, modifyOf, destroyOf, se
 use Rattle.operations.specs.Reads.{queryOf, throughGet, selectedOf}
 use Rattle.card.specs.Layout.{setupIn, setupOf, inUseOf, withInUse, recordIn, withRecord, memberIn, withMember, freshCard}
 use Rattle.card.specs.Sound.{inNumbers, soundSetup, soundUpTo, isSound}
-use Rattle.card.specs.Events.{setUp, resetMember, resetCard, ifDone, storeIn, store}
+use Rattle.events.specs.Events.{setUp, resetMember, resetCard, ifDone, storeIn, store}
 use Rattle.frame.specs.Fields.{objectValid, flagsValid, kindValid, createIn, modifyIn, queryIn, destroyIn, metadataIn, getIn, setIn, modeIn, useIn, fieldsOf}
 use Rattle.frame.specs.Ask.{usable, reaches, framedOf, askOf}
 use Rattle.reply.specs.Result.{numberBytes, resultOf}

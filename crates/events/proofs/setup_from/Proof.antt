@@ -1,8 +1,8 @@
--- `card::setup_from` meets its contract: the features are copied whole. Assumes nothing.
+-- `events::setup_from` meets its contract: the features are copied whole. Assumes nothing.
 use borrow.Author.Needs.{needs}
-use Rattle.card.proofs.EventLaws.{setup-made}
-use Rattle.card.proofs.setup_from.Statement.{statement}
-use Rattle.card.proofs.setup_from.Tie as tie
+use Rattle.events.proofs.EventLaws.{setup-made}
+use Rattle.events.proofs.setup_from.Statement.{statement}
+use Rattle.events.proofs.setup_from.Tie as tie
 
 pub setup-from-spec : {M : Type 1} → statement M
 setup-from-spec =

@@ -1,11 +1,11 @@
--- `card::write_head` meets its contract: three writes, one after the other. Assumes nothing.
+-- `events::write_head` meets its contract: three writes, one after the other. Assumes nothing.
 use mathlib.Core.Path.{_≡_}
 use native.Mathlib.Omega.{arith}
 use borrow.Author.Needs.{needs}
 use lib.ListN.{length}
-use Rattle.card.proofs.WriteLaws.{head-written}
-use Rattle.card.proofs.write_head.Statement.{statement}
-use Rattle.card.proofs.write_head.Tie as tie
+use Rattle.events.proofs.WriteLaws.{head-written}
+use Rattle.events.proofs.write_head.Statement.{statement}
+use Rattle.events.proofs.write_head.Tie as tie
 
 features-long : (s : tie.Start) → length (s .args .s .features) ≡ 16
 features-long s = search needs

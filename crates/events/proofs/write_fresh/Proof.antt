@@ -1,10 +1,10 @@
--- `card::write_fresh` meets its contract: the header and the records are the whole card. Assumes nothing.
+-- `events::write_fresh` meets its contract: the header and the records are the whole card. Assumes nothing.
 use mathlib.Core.Path.{_≡_}
 use borrow.Author.Needs.{needs}
 use lib.ListN.{length}
-use Rattle.card.proofs.WriteLaws.{fresh-written}
-use Rattle.card.proofs.write_fresh.Statement.{statement}
-use Rattle.card.proofs.write_fresh.Tie as tie
+use Rattle.events.proofs.WriteLaws.{fresh-written}
+use Rattle.events.proofs.write_fresh.Statement.{statement}
+use Rattle.events.proofs.write_fresh.Tie as tie
 
 features-long : (s : tie.Start) → length (s .args .s .features) ≡ 16
 features-long s = search needs

@@ -1,8 +1,8 @@
--- `card::store_in` meets its contract: each return is an answer of `storeIn`. Assumes nothing.
+-- `events::store_in` meets its contract: each return is an answer of `storeIn`. Assumes nothing.
 use borrow.Author.Needs.{needs}
-use Rattle.card.proofs.EventLaws.{store-refused, stored-in}
-use Rattle.card.proofs.store_in.Statement.{statement}
-use Rattle.card.proofs.store_in.Tie as tie
+use Rattle.events.proofs.EventLaws.{store-refused, stored-in}
+use Rattle.events.proofs.store_in.Statement.{statement}
+use Rattle.events.proofs.store_in.Tie as tie
 
 returns-2 : tie.Need-returns-2
 returns-2 c =

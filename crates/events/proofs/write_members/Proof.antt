@@ -1,10 +1,10 @@
--- `card::write_members` meets its contract. The invariant: what is left of the records, put where it goes, gives the
+-- `events::write_members` meets its contract. The invariant: what is left of the records, put where it goes, gives the
 -- whole. Assumes nothing.
 use Prim.Native.Nat.{_-_}
 use borrow.Author.Needs.{needs}
-use Rattle.card.proofs.WriteLaws.{Filled, filled-start, filled-has, filled-on, filled-end}
-use Rattle.card.proofs.write_members.Statement.{statement}
-use Rattle.card.proofs.write_members.Tie as tie
+use Rattle.events.proofs.WriteLaws.{Filled, filled-start, filled-has, filled-on, filled-end}
+use Rattle.events.proofs.write_members.Statement.{statement}
+use Rattle.events.proofs.write_members.Tie as tie
 
 abbrev Inv-loop : tie.InvT-loop
 Inv-loop card₀ n fresh m₀ card m = Filled fresh card₀ card n m

@@ -1,10 +1,10 @@
--- `card::reset_member` meets its contract: each return is a step of `resetMember`. Assumes nothing.
+-- `events::reset_member` meets its contract: each return is a step of `resetMember`. Assumes nothing.
 use borrow.Author.Needs.{needs}
 use Rattle.theory.proofs.Ladder.{ladder}
-use Rattle.card.specs.Events.{resetMember}
-use Rattle.card.proofs.EventLaws.{told, member-reset}
-use Rattle.card.proofs.reset_member.Statement.{statement}
-use Rattle.card.proofs.reset_member.Tie as tie
+use Rattle.events.specs.Events.{resetMember}
+use Rattle.events.proofs.EventLaws.{told, member-reset}
+use Rattle.events.proofs.reset_member.Statement.{statement}
+use Rattle.events.proofs.reset_member.Tie as tie
 
 pub reset-member-spec : {M : Type 1} → statement M
 unfolding resetMember

@@ -19,12 +19,12 @@ use Rattle.inventory.specs.Inventory.{selectorOf}
 use Rattle.values.specs.Apply.{storable}
 use Rattle.member.specs.declared.Member.{Member}
 use Rattle.member.specs.Member.{freshOf, withPart}
 use Rattle.card.specs.declared.Setup.{Setup}
 use Rattle.card.specs.Layout.{headSize, cardSize, cardBytes, setupOf, isMember, HasRecord, memberIn, withMember, freshCard}
 use Rattle.card.specs.Sound.{inNumbers, soundSetup, isSound}
-use Rattle.card.specs.Events.{InBounds, setupWith, setUp, ifDone, storeIn}
+use Rattle.events.specs.Events.{InBounds, setupWith, setUp, ifDone, storeIn}
 use Rattle.card.proofs.LayoutLaws.{queues-read}
 use Rattle.card.proofs.SoundLaws.{numbers-of, sound-of, sound-long, sound-has}
 
 -- ---- what a test that held says ----
 

@@ -1,9 +1,9 @@
--- `card::is_setup` meets its contract: each return is a step of the test. Assumes nothing.
+-- `events::is_setup` meets its contract: each return is a step of the test. Assumes nothing.
 use borrow.Author.Needs.{needs}
 use Rattle.theory.proofs.Ladder.{ladder}
-use Rattle.card.proofs.EventLaws.{bytes-tested}
-use Rattle.card.proofs.is_setup.Statement.{statement}
-use Rattle.card.proofs.is_setup.Tie as tie
+use Rattle.events.proofs.EventLaws.{bytes-tested}
+use Rattle.events.proofs.is_setup.Statement.{statement}
+use Rattle.events.proofs.is_setup.Tie as tie
 
 pub is-setup-spec : {M : Type 1} → statement M
 is-setup-spec =

@@ -1,10 +1,10 @@
--- `card::reset_card` meets its contract: each return is a step of `resetCard`. Assumes nothing.
+-- `events::reset_card` meets its contract: each return is a step of `resetCard`. Assumes nothing.
 use borrow.Author.Needs.{needs}
 use Rattle.theory.proofs.Ladder.{ladder}
-use Rattle.card.specs.Events.{resetCard}
-use Rattle.card.proofs.EventLaws.{told, card-reset}
-use Rattle.card.proofs.reset_card.Statement.{statement}
-use Rattle.card.proofs.reset_card.Tie as tie
+use Rattle.events.specs.Events.{resetCard}
+use Rattle.events.proofs.EventLaws.{told, card-reset}
+use Rattle.events.proofs.reset_card.Statement.{statement}
+use Rattle.events.proofs.reset_card.Tie as tie
 
 pub reset-card-spec : {M : Type 1} → statement M
 unfolding resetCard

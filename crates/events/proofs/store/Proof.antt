@@ -1,10 +1,10 @@
--- `card::store` meets its contract: each return is a step of `store`. Assumes nothing.
+-- `events::store` meets its contract: each return is a step of `store`. Assumes nothing.
 use borrow.Author.Needs.{needs}
 use Rattle.theory.proofs.Ladder.{ladder}
-use Rattle.card.specs.Events.{store}
-use Rattle.card.proofs.EventLaws.{told, store-done}
-use Rattle.card.proofs.store.Statement.{statement}
-use Rattle.card.proofs.store.Tie as tie
+use Rattle.events.specs.Events.{store}
+use Rattle.events.proofs.EventLaws.{told, store-done}
+use Rattle.events.proofs.store.Statement.{statement}
+use Rattle.events.proofs.store.Tie as tie
 
 pub store-spec : {M : Type 1} → statement M
 unfolding store

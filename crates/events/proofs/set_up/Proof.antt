@@ -1,8 +1,8 @@
--- `card::set_up` meets its contract: each return is a step of `setUp`. Assumes nothing.
+-- `events::set_up` meets its contract: each return is a step of `setUp`. Assumes nothing.
 use borrow.Author.Needs.{needs}
-use Rattle.card.proofs.EventLaws.{setup-refused, setup-bounds, setup-sixteen, setup-long, setup-done}
-use Rattle.card.proofs.set_up.Statement.{statement}
-use Rattle.card.proofs.set_up.Tie as tie
+use Rattle.events.proofs.EventLaws.{setup-refused, setup-bounds, setup-sixteen, setup-long, setup-done}
+use Rattle.events.proofs.set_up.Statement.{statement}
+use Rattle.events.proofs.set_up.Tie as tie
 
 pub set-up-spec : {M : Type 1} → statement M
 set-up-spec =

@@ -1,11 +1,11 @@
--- `card::clear` meets its contract. The invariant: the bytes passed are 0. Assumes nothing.
+-- `events::clear` meets its contract. The invariant: the bytes passed are 0. Assumes nothing.
 use mathlib.Core.Path.{_≡_}
 use Prim.Native.Nat.{_-_, _≤_}
 use borrow.Author.Needs.{needs}
 use lib.ListN.{length, take, replicate}
-use Rattle.card.proofs.WriteLaws.{clears-on, cleared}
-use Rattle.card.proofs.clear.Statement.{statement}
-use Rattle.card.proofs.clear.Tie as tie
+use Rattle.events.proofs.WriteLaws.{clears-on, cleared}
+use Rattle.events.proofs.clear.Statement.{statement}
+use Rattle.events.proofs.clear.Tie as tie
 
 abbrev Inv-loop : tie.InvT-loop
 Inv-loop card₀ i₀ card i = (i ≤ length card₀) × (length card ≡ length card₀) × (take i card ≡ replicate i 0)
