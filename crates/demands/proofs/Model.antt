@@ -15,8 +15,8 @@ use Rattle.member.specs.Record.{memberOf, recordOf}
 use Rattle.member.specs.Objects.{lookupOf, withObject, count, allUpTo, withinLimits}
 use Rattle.member.specs.Member.{freshOf}
 use Rattle.member.specs.Sound.{soundRecord}
-use Rattle.operations.specs.Changes.{limited, createOf, modifyOf, destroyOf, setPartsOf}
-use Rattle.operations.specs.Reads.{queryOf, throughGet, selectedOf}
+use Rattle.changes.specs.Changes.{limited, createOf, modifyOf, destroyOf, setPartsOf}
+use Rattle.reads.specs.Reads.{queryOf, throughGet, selectedOf}
 use Rattle.card.specs.Layout.{setupIn, setupOf, inUseOf, withInUse, recordIn, withRecord, memberIn, withMember, freshCard}
 use Rattle.card.specs.Sound.{inNumbers, soundSetup, soundUpTo, isSound}
 use Rattle.events.specs.Events.{setUp, resetMember, resetCard, ifDone, storeIn, store}

@@ -29,8 +29,8 @@ use Rattle.member.specs.declared.Found.the-variants.{Live}
 use Rattle.member.specs.Objects.{lookupOf}
 use Rattle.member.specs.Member.{featuresIn, withValues}
 use Rattle.member.proofs.Sound.{sound-applied}
-use Rattle.operations.specs.Changes.{setPartsOf}
-use Rattle.operations.specs.Reads.{throughGet}
+use Rattle.changes.specs.Changes.{setPartsOf}
+use Rattle.reads.specs.Reads.{throughGet}
 use Rattle.card.specs.declared.Setup.{Setup}
 use Rattle.card.specs.Layout.{setupOf, inUseOf, isMember, memberIn, withMember}
 use Rattle.card.specs.Sound.{isSound}

@@ -11,7 +11,7 @@ use Rattle.protocol.specs.declared.ChangeOp.{ChangeOp}
 use Rattle.protocol.specs.declared.ChangeOp.the-variants.{Create, Modify, Destroy, SetParts, SetMode}
 use Rattle.member.specs.Member.{freshOf}
 use Rattle.member.proofs.Sound.{sound-fresh, sound-part}
-use Rattle.operations.proofs.Kept.{IdBelow, change-sound}
+use Rattle.changes.proofs.Kept.{IdBelow, change-sound}
 use Rattle.card.specs.Layout.{setupOf, inUseOf, isMember, memberIn}
 use Rattle.events.specs.Events.{resetMember, resetCard, ifDone, storeIn, store}
 use Rattle.card.proofs.LayoutLaws.{features-long}
