@@ -14,10 +14,10 @@ use Rattle.protocol.specs.declared.ChangeOp.{ChangeOp}
 use Rattle.protocol.specs.Answers.{isDone}
 use Rattle.protocol.specs.Opcodes.{supportedMask}
 use Rattle.member.specs.declared.Member.{Member}
-use Rattle.operations.specs.declared.Reading.{Reading}
-use Rattle.operations.specs.declared.Changed.{Changed}
-use Rattle.operations.specs.Changes.{changeOf}
-use Rattle.operations.specs.Reads.{readOf}
+use Rattle.reads.specs.declared.Reading.{Reading}
+use Rattle.changes.specs.declared.Changed.{Changed}
+use Rattle.changes.specs.Changes.{changeOf}
+use Rattle.reads.specs.Reads.{readOf}
 use Rattle.card.specs.declared.Setup.{Setup}
 use Rattle.card.specs.Layout.{setupOf, inUseOf, isMember, memberIn, withMember}
 use Rattle.card.specs.Sound.{isSound}

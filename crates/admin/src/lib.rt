@@ -41,7 +41,7 @@ fn read_member(card: &[u8], m: u64, op: ReadOp, request: &[u8], reply: &mut [u8]
     let queues = s.queues;
     let member = card::load_member(card, m);
     let list = from(request, 40);
-    let found = operations::read(member, op, queues, list);
+    let found = reads::read(member, op, queues, list);
     let answer = found.answer;
     let body = found.body;
     let values = member.values;
@@ -56,7 +56,7 @@ fn change_member(card: &mut [u8], m: u64, op: ChangeOp, request: &[u8], reply: &
 {
     let s = card::setup_of(card);
     let before = card::load_member(card, m);
-    let outcome = operations::change(before, op, s.queues, s.gets, s.sets, from(request, 32));
+    let outcome = changes::change(before, op, s.queues, s.gets, s.sets, from(request, 32));
     let answer = outcome.answer;
     let after = outcome.member;
     let told = reply::write_answer(answer, reply);

@@ -17,11 +17,11 @@ use Rattle.inventory.proofs.Rules.{row-within, rows-apart, features-row, row-ze
 use Rattle.inventory.proofs.Find.{own-place, rows-distinct}
 use Rattle.inventory.specs.declared.Place.the-variants.{At}
 use Rattle.parts.specs.declared.ListForm.the-variants.{Parts}
-use Rattle.parts.specs.declared.Cause.the-variants.{Accepted}
-use Rattle.parts.specs.List.{Part, PartList, partsOf}
-use Rattle.parts.specs.Rules.{known, knownOrSkipped, lengthRight, featuresSame, whole, every, among, repeated, causeIn, causeOf}
-use Rattle.parts.specs.Apply.{stored, applied}
-use Rattle.parts.proofs.Kept.{stored-at, stored-length, applied-features}
+use Rattle.parts.specs.List.{Part, PartList, partsOf, whole, among}
+use Rattle.rules.specs.declared.Cause.the-variants.{Accepted}
+use Rattle.rules.specs.Rules.{known, knownOrSkipped, lengthRight, featuresSame, every, repeated, causeIn, causeOf}
+use Rattle.values.specs.Apply.{stored, applied}
+use Rattle.values.proofs.Kept.{stored-at, stored-length, applied-features}
 use Rattle.capture.specs.declared.Selection.the-variants.{All}
 use Rattle.capture.specs.Capture.{partItem, partsWritten, captureOf}
 use Rattle.capture.proofs.Rows.{rowPart, rowParts, capture-parts, by-rows, items-same, item-same}

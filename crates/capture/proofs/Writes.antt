@@ -20,8 +20,7 @@ use Rattle.inventory.specs.Header.{headerOf, headerSize}
 use Rattle.inventory.proofs.Columns.{types, selectors, sizes, offsets, type-at, selector-at, size-at, offset-at, row-at}
 use Rattle.inventory.proofs.Rules.{table, every-row, row-within, length-header}
 use Rattle.parts.specs.declared.ListForm.the-variants.{Headers}
-use Rattle.parts.specs.List.{partsOf}
-use Rattle.parts.specs.Rules.{among}
+use Rattle.parts.specs.List.{partsOf, among}
 use Rattle.capture.specs.declared.Selection.{Selection}
 use Rattle.capture.specs.declared.Selection.the-variants.{All, Asked}
 use Rattle.capture.specs.Capture.{headerItem, partAt, asks, partItem, Wrote}

@@ -10,8 +10,7 @@ use Rattle.theory.specs.Items.{itemsFrom}
 use Rattle.inventory.specs.Inventory.{Row, rowAt, rowCount, offsetOf, present}
 use Rattle.inventory.specs.Header.{headerOf}
 use Rattle.parts.specs.declared.ListForm.the-variants.{Headers}
-use Rattle.parts.specs.List.{partsOf}
-use Rattle.parts.specs.Rules.{among}
+use Rattle.parts.specs.List.{partsOf, among}
 use Rattle.capture.specs.declared.Selection.{Selection}
 use Rattle.capture.specs.declared.Selection.the-variants.{All, Asked}
 

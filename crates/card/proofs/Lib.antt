@@ -2,4 +2,3 @@ pub mod LayoutLaws
 pub mod SoundLaws
 pub mod ReadLaws
 pub mod WriteLaws
-pub mod EventLaws

@@ -19,7 +19,7 @@ use Rattle.member.proofs.Record.{length-record}
 use Rattle.member.proofs.Sound.{sound-fresh}
 use Rattle.card.specs.Layout.{inUseAt, setupOf, inUseOf, isMember, withMember}
 use Rattle.card.specs.Sound.{isSound}
-use Rattle.card.specs.Events.{resetMember, resetCard, ifDone, storeIn, store}
+use Rattle.events.specs.Events.{resetMember, resetCard, ifDone, storeIn, store}
 use Rattle.card.proofs.LayoutLaws.{features-long, record-none, record-eq, same-setup, setup-with-member, use-with-member}
 use Rattle.card.proofs.SoundLaws.{sound-of, is-sound, sound-long, sound-has, sound-with-member}
 use Rattle.frame.proofs.Asked.{asked}

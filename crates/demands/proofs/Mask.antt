@@ -11,13 +11,13 @@ use borrow.Author.Tests.{eqb-true, eqb-false}
 use Rattle.theory.specs.Logic.{if_then_else_}
 use Rattle.theory.proofs.Tests.{by-cases, inside, if-cases, true-and, false-and, and-false}
 use Rattle.protocol.specs.Answers.{isDone, eventNumber}
-use Rattle.parts.specs.Apply.{storable}
+use Rattle.values.specs.Apply.{storable}
 use Rattle.member.specs.declared.Member.{Member}
 use Rattle.member.specs.Member.{freshOf}
 use Rattle.member.proofs.Record.{Shaped}
 use Rattle.member.proofs.Sound.{sound-fresh}
 use Rattle.card.specs.Layout.{inUseAt, setupOf, withInUse, memberIn, withMember}
-use Rattle.card.specs.Events.{ifDone, storeIn}
+use Rattle.events.specs.Events.{ifDone, storeIn}
 use Rattle.card.proofs.LayoutLaws.{features-long, length-with-member, setup-with-member, member-other, member-over, member-swap, length-with-use, use-swap}
 use Rattle.frame.specs.declared.Ask.{Ask}
 use Rattle.frame.specs.declared.Ask.the-variants.{Refused, QueryList, UseList, Read, Change}

@@ -7,19 +7,19 @@ use Rattle.wire.specs.Le.{le, bytes, number}
 use Rattle.protocol.specs.Opcodes.{opcodeRows, opcodeRow, supported, lengthFits, namesMember, bit, supportedOnly}
 use Rattle.inventory.specs.Inventory.{rows as inventoryRows, rowAt, present, offsetOf, selectorOf, isRow, seek, placeOf}
 use Rattle.inventory.specs.Header.{headerOf}
-use Rattle.parts.specs.List.{headerAt, stepAt, atMost, partsFrom}
-use Rattle.parts.specs.Rules.{known, knownOrSkipped, lengthRight, featuresSame, asksKnown, whole, every, among, repeated, causeIn, askedIn}
-use Rattle.parts.specs.Apply.{storable, stored, applied}
+use Rattle.parts.specs.List.{headerAt, stepAt, atMost, partsFrom, whole, among}
+use Rattle.rules.specs.Rules.{known, knownOrSkipped, lengthRight, featuresSame, asksKnown, every, repeated, causeIn, askedIn}
+use Rattle.values.specs.Apply.{storable, stored, applied}
 use Rattle.capture.specs.Capture.{headerItem, headersOf, partAt, asks, partItem, partsWritten}
 use Rattle.member.specs.Record.{memberOf, recordOf}
 use Rattle.member.specs.Objects.{lookupOf, withObject, count, allUpTo, withinLimits}
 use Rattle.member.specs.Member.{freshOf}
 use Rattle.member.specs.Sound.{soundRecord}
-use Rattle.operations.specs.Changes.{limited, createOf, modifyOf, destroyOf, setPartsOf}
-use Rattle.operations.specs.Reads.{queryOf, throughGet, selectedOf}
+use Rattle.changes.specs.Changes.{limited, createOf, modifyOf, destroyOf, setPartsOf}
+use Rattle.reads.specs.Reads.{queryOf, throughGet, selectedOf}
 use Rattle.card.specs.Layout.{setupIn, setupOf, inUseOf, withInUse, recordIn, withRecord, memberIn, withMember, freshCard}
 use Rattle.card.specs.Sound.{inNumbers, soundSetup, soundUpTo, isSound}
-use Rattle.card.specs.Events.{setUp, resetMember, resetCard, ifDone, storeIn, store}
+use Rattle.events.specs.Events.{setUp, resetMember, resetCard, ifDone, storeIn, store}
 use Rattle.frame.specs.Fields.{objectValid, flagsValid, kindValid, createIn, modifyIn, queryIn, destroyIn, metadataIn, getIn, setIn, modeIn, useIn, fieldsOf}
 use Rattle.frame.specs.Ask.{usable, reaches, framedOf, askOf}
 use Rattle.reply.specs.Result.{numberBytes, resultOf}

@@ -11,7 +11,7 @@ use Rattle.wire.specs.Le.{le, bytes, number}
 use Rattle.protocol.specs.declared.Answer.{Answer}
 use Rattle.protocol.specs.declared.EventAnswer.{EventAnswer}
 use Rattle.protocol.specs.Answers.{statusOf, isDone, eventNumber}
-use Rattle.card.specs.Events.{resetMember, resetCard, ifDone, storeIn, store}
+use Rattle.events.specs.Events.{resetMember, resetCard, ifDone, storeIn, store}
 use Rattle.reply.specs.Reply.{headOf, replyOf}
 use Rattle.admin.specs.Command.{finish, conclude, respond}
 use Rattle.demands.specs.Calls.{command, memberReset, cardReset, cardStore, written, answered, step}

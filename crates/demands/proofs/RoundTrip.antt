@@ -17,10 +17,10 @@ use Rattle.protocol.specs.declared.ObjectKind.the-variants.{Get, Set}
 use Rattle.protocol.specs.Opcodes.{largest, bit}
 use Rattle.inventory.specs.Inventory.{valuesSize, partsSize}
 use Rattle.parts.specs.declared.ListForm.the-variants.{Parts}
-use Rattle.parts.specs.declared.Cause.the-variants.{Accepted}
 use Rattle.parts.specs.List.{partsOf}
-use Rattle.parts.specs.Rules.{causeOf}
-use Rattle.parts.specs.Apply.{applied}
+use Rattle.rules.specs.declared.Cause.the-variants.{Accepted}
+use Rattle.rules.specs.Rules.{causeOf}
+use Rattle.values.specs.Apply.{applied}
 use Rattle.capture.specs.Capture.{captureOf}
 use Rattle.capture.proofs.Sizes.{capture-length}
 use Rattle.capture.proofs.RoundTrip.{accepted as capture-accepted, captured as capture-restored}
@@ -29,8 +29,8 @@ use Rattle.member.specs.declared.Found.the-variants.{Live}
 use Rattle.member.specs.Objects.{lookupOf}
 use Rattle.member.specs.Member.{featuresIn, withValues}
 use Rattle.member.proofs.Sound.{sound-applied}
-use Rattle.operations.specs.Changes.{setPartsOf}
-use Rattle.operations.specs.Reads.{throughGet}
+use Rattle.changes.specs.Changes.{setPartsOf}
+use Rattle.reads.specs.Reads.{throughGet}
 use Rattle.card.specs.declared.Setup.{Setup}
 use Rattle.card.specs.Layout.{setupOf, inUseOf, isMember, memberIn, withMember}
 use Rattle.card.specs.Sound.{isSound}

@@ -11,9 +11,9 @@ use Rattle.protocol.specs.declared.ChangeOp.{ChangeOp}
 use Rattle.protocol.specs.declared.ChangeOp.the-variants.{Create, Modify, Destroy, SetParts, SetMode}
 use Rattle.member.specs.Member.{freshOf}
 use Rattle.member.proofs.Sound.{sound-fresh, sound-part}
-use Rattle.operations.proofs.Kept.{IdBelow, change-sound}
+use Rattle.changes.proofs.Kept.{IdBelow, change-sound}
 use Rattle.card.specs.Layout.{setupOf, inUseOf, isMember, memberIn}
-use Rattle.card.specs.Events.{resetMember, resetCard, ifDone, storeIn, store}
+use Rattle.events.specs.Events.{resetMember, resetCard, ifDone, storeIn, store}
 use Rattle.card.proofs.LayoutLaws.{features-long}
 use Rattle.card.proofs.SoundLaws.{Sound, SoundIn, sound-of, is-sound, numbers-sound, sound-long, sound-member-in, sound-with-member, sound-with-use, sound-fresh-card}
 use Rattle.frame.specs.declared.Ask.{Ask}

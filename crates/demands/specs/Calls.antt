@@ -8,7 +8,7 @@ use Rattle.theory.specs.Logic.{_and_, within}
 use Rattle.protocol.specs.declared.EventAnswer.{EventAnswer}
 use Rattle.protocol.specs.Answers.{eventNumber}
 use Rattle.protocol.specs.Opcodes.{namesMember}
-use Rattle.card.specs.Events.{resetMember, resetCard, store}
+use Rattle.events.specs.Events.{resetMember, resetCard, store}
 use Rattle.frame.specs.Frame.{opcodeOf, groupOf, targetOf}
 use Rattle.admin.specs.Command.{respond}
 

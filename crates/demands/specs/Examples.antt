@@ -7,7 +7,7 @@ use lib.ListN.{length, drop, replicate}
 use Rattle.theory.specs.Machine.{Event, trace}
 use Rattle.wire.specs.Le.{bytes}
 use Rattle.card.specs.Layout.{cardSize}
-use Rattle.card.specs.Events.{setUp}
+use Rattle.events.specs.Events.{setUp}
 use Rattle.demands.specs.Calls.{Call, command, cardStore, Reply, written, answered, step}
 use Rattle.demands.specs.Requests.{request, objectHeader, getAll, setParts}
 

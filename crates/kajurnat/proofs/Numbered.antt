@@ -4,7 +4,7 @@ use mathlib.Core.List.{List}
 use Prim.Native.Nat.{ℕ}
 use Rattle.protocol.specs.declared.EventAnswer.{EventAnswer}
 use Rattle.protocol.specs.Answers.{eventNumber}
-use Rattle.card.specs.Events.{numbered}
+use Rattle.events.specs.Events.{numbered}
 
 pub as-number : (a : EventAnswer) (n : ℕ) (d : List ℕ) (x : EventAnswer × List ℕ) → _≡_ {A = EventAnswer × List ℕ} (a, d) x
     → n ≡ eventNumber a → _≡_ {A = ℕ × List ℕ} (n, d) (numbered x)

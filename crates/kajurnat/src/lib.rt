@@ -2,7 +2,7 @@
 // the definition of a lower crate.
 ghost use mathlib.Core.Path.{_≡_};
 ghost use Rattle.card.specs.Layout.{cardBytes};
-ghost use Rattle.card.specs.Events.{numbered, setUp, resetMember, resetCard, store};
+ghost use Rattle.events.specs.Events.{numbered, setUp, resetMember, resetCard, store};
 ghost use Rattle.admin.specs.Command.{commandOf};
 
 // The exact length of a card, 0 if members is not 1 to 16.
@@ -25,7 +25,7 @@ pub extern "C" fn kajurnat_setup(
 ) -> u8
     ensures { λ r. ⌜ (r, now (card .exit)) ≡ numbered (setUp (now (card .entry)) members queues gets sets (now (features .entry))) ⌝ }
 {
-    protocol::event_number(card::set_up(card, members, queues, gets, sets, features))
+    protocol::event_number(events::set_up(card, members, queues, gets, sets, features))
 }
 
 // One group administration command: the bytes written to the reply, the card and the reply buffer after it.
@@ -40,14 +40,14 @@ pub extern "C" fn kajurnat_command(card: &mut [u8], request: &[u8], reply: &mut 
 pub extern "C" fn kajurnat_reset_member(card: &mut [u8], member: u64) -> u8
     ensures { λ r. ⌜ (r, now (card .exit)) ≡ numbered (resetMember (now (card .entry)) member) ⌝ }
 {
-    protocol::event_number(card::reset_member(card, member))
+    protocol::event_number(events::reset_member(card, member))
 }
 
 #[no_mangle]
 pub extern "C" fn kajurnat_reset_card(card: &mut [u8]) -> u8
     ensures { λ r. ⌜ (r, now (card .exit)) ≡ numbered (resetCard (now (card .entry))) ⌝ }
 {
-    protocol::event_number(card::reset_card(card))
+    protocol::event_number(events::reset_card(card))
 }
 
 // The data path sets one part of a member; selector is the eight selector bytes as a little-endian number.
@@ -61,5 +61,5 @@ pub extern "C" fn kajurnat_store(
 ) -> u8
     ensures { λ r. ⌜ (r, now (card .exit)) ≡ numbered (store (now (card .entry)) member «part_type» selector (now (value .entry))) ⌝ }
 {
-    protocol::event_number(card::store(card, member, part_type, selector, value))
+    protocol::event_number(events::store(card, member, part_type, selector, value))
 }

@@ -15,8 +15,8 @@ use Rattle.theory.proofs.Tests.{both, and-i, and-assoc, same-true, eq-same}
 use Rattle.theory.proofs.Ladder.{ladder}
 use Rattle.inventory.specs.Inventory.{valuesSize}
 use Rattle.parts.specs.List.{PartList}
-use Rattle.parts.specs.Apply.{applied}
-use Rattle.parts.proofs.Kept.{stored-length, stored-features, applied-length, applied-features}
+use Rattle.values.specs.Apply.{applied}
+use Rattle.values.proofs.Kept.{stored-length, stored-features, applied-length, applied-features}
 use Rattle.protocol.specs.declared.Mode.{Mode}
 use Rattle.member.specs.declared.Slot.{Slot}
 use Rattle.member.specs.declared.Slot.the-variants.{Free}

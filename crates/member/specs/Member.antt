@@ -6,7 +6,7 @@ use lib.ListN.{replicate}
 use Rattle.theory.specs.Bytes.{part}
 use Rattle.protocol.specs.declared.Mode.{Mode}
 use Rattle.protocol.specs.declared.Mode.the-variants.{Running}
-use Rattle.parts.specs.Apply.{stored}
+use Rattle.values.specs.Apply.{stored}
 use Rattle.member.specs.declared.Member.{Member}
 use Rattle.member.specs.Objects.{free}
 

@@ -10,7 +10,7 @@ ghost use Rattle.theory.specs.Bytes.{part};
 ghost use Rattle.inventory.specs.Inventory.{valuesSize};
 ghost use Rattle.parts.specs.declared.ListForm.the-variants.{Parts};
 ghost use Rattle.parts.specs.List.{partsOf};
-ghost use Rattle.parts.specs.Apply.{applied};
+ghost use Rattle.values.specs.Apply.{applied};
 ghost use Rattle.member.specs.Record.{valuesAt, recordSize, modeOf, modeByte, objectOf, objectByte, objectBytes, memberOf, recordOf};
 ghost use Rattle.member.specs.Objects.{free, slotFor, foundIn, lookupOf, withObject, count, allUpTo, withinLimits, roomIn};
 ghost use Rattle.member.specs.Member.{freshOf, withMode, withValues, withPart};
@@ -418,7 +418,7 @@ impl Member {
         ensures { λ r. ⌜ r ≡ withPart queues self t selector (now (value .entry)) ⌝ }
     {
         let mut values = self.values;
-        parts::store_part(&mut values, queues, t, selector, value);
+        values::store_part(&mut values, queues, t, selector, value);
         self.with_values(values)
     }
 
@@ -427,7 +427,7 @@ impl Member {
         ensures { λ r. ⌜ r ≡ withValues self (applied queues (partsOf Parts (now (list .entry))) (self .values)) ⌝ }
     {
         let mut values = self.values;
-        parts::apply(&mut values, queues, list);
+        values::apply(&mut values, queues, list);
         self.with_values(values)
     }
 }

@@ -1,28 +1,23 @@
 -- The turns and returns of a walk: what the parts that are left answer gives what the whole list answers.
 -- `r` is what next_part answered at `at`, `x` what the whole list answers. Assumes nothing.
 use mathlib.Core.Path.{_≡_, refl, ap, sym, _∙_}
-use mathlib.Core.Bool.{Bool, true, false, not}
+use mathlib.Core.Bool.{Bool, true, false}
 use mathlib.Core.List.{List, [], _∷_}
 use Prim.Native.Nat.{ℕ, _+_, _-_, _^_, _<_, _≤_}
-use native.Mathlib.Nat.{add-sub-cancel-left}
 use native.Mathlib.Omega.{arith}
 use types.Run.{OneOf, miss}
 use denote.Enum.Declared.{tagOf}
 use mir.Val.{Fits}
 use mir.Syntax.{w64}
 use borrow.Author.Needs.{needs}
-use borrow.Author.Tests.{not-true, not-false}
 use lib.Dec.{eqb}
-use lib.ListN.{length, take, drop}
+use lib.ListN.{length}
 use Rattle.theory.specs.Logic.{_and_, _or_}
-use Rattle.theory.specs.Bytes.{part as bytesAt}
-use Rattle.theory.proofs.Tests.{true-and, false-and, true-or, false-or}
+use Rattle.theory.proofs.Tests.{true-or, false-or}
 use Rattle.parts.specs.declared.ListForm.{ListForm}
 use Rattle.parts.specs.declared.Step.{Step}
 use Rattle.parts.specs.declared.Step.the-variants as step
-use Rattle.parts.specs.List.{stepAt, Part, PartList, end, cut, part, partWith, partIn, partsFrom}
-use Rattle.parts.specs.Rules.{known, whole, every, among, repeated}
-use Rattle.parts.specs.Apply.{stored, applied}
+use Rattle.parts.specs.List.{stepAt, PartList, end, cut, part, partIn, partsFrom, whole, among}
 use Rattle.parts.proofs.Walk.{Within, step-part, parts-end, parts-cut, parts-part}
 
 module _ (form : ListForm) (l : List ℕ) (at : ℕ) (r : Step) (here : r ≡ stepAt form l at) where
@@ -38,7 +33,7 @@ module _ (form : ListForm) (l : List ℕ) (at : ℕ) (r : Step) (here : r ≡ st
 
   -- of the end and of a part that is cut short the same is said
   module _ (none : OneOf (1 ∷ 2 ∷ []) (tagOf Rattle.parts.proofs.Step.the-type r)) where
-    stopped : {A : Type 0} (ask : PartList → A) (a : A) → ask cut ≡ a → ask end ≡ a → ask (partsFrom form l at) ≡ a
+    pub stopped : {A : Type 0} (ask : PartList → A) (a : A) → ask cut ≡ a → ask end ≡ a → ask (partsFrom form l at) ≡ a
     stopped ask a at-cut at-end = cases r none here
       where
         cases : (r : Step) → OneOf (1 ∷ 2 ∷ []) (tagOf Rattle.parts.proofs.Step.the-type r) → r ≡ stepAt form l at
@@ -51,25 +46,13 @@ module _ (form : ListForm) (l : List ℕ) (at : ℕ) (r : Step) (here : r ≡ st
     unfolding among
     among-stop t s x y e = e ∙ rw (stopped (among t s) false refl refl) (false-or y)
 
-    pub every-stop : (rule : Part → Bool) (x : Bool) → x ≡ every rule (partsFrom form l at) → x ≡ true
-    unfolding every
-    every-stop rule x e = e ∙ stopped (every rule) true refl refl
-
-    pub repeated-stop : (queues : ℕ) (x : Bool) → x ≡ repeated queues (partsFrom form l at) → x ≡ false
-    unfolding repeated
-    repeated-stop queues x e = e ∙ stopped (repeated queues) false refl refl
-
-    pub applied-stop : (queues : ℕ) (x v : List ℕ) → x ≡ applied queues (partsFrom form l at) v → x ≡ v
-    unfolding applied
-    applied-stop queues x v e = e ∙ stopped (λ ps. applied queues ps v) v refl refl
-
   -- ---- a part is found ----
 
   module _ (t f s start len : ℕ) (found : r ≡ step.Part t f s start len) where
     within : Within l at start len
     within = step-part form l at (sym here ∙ found)
 
-    opened : partsFrom form l at ≡ part (partIn l t f s start len) (partsFrom form l (start + len))
+    pub opened : partsFrom form l at ≡ part (partIn l t f s start len) (partsFrom form l (start + len))
     opened = parts-part form l at (sym here ∙ found)
 
     -- it lies within the list, and the walk gets on
@@ -98,37 +81,6 @@ module _ (form : ListForm) (l : List ℕ) (at : ℕ) (r : Step) (here : r ≡ st
       pub among-hit : b ≡ true → x ≡ true
       unfolding among
       among-hit h = e ∙ rw (opened, ← named, h, true-or, true-or)
-
-    -- b: it obeys the rule. Its value is lent, to start + len
-    module _ (rule : Part → Bool) (b x : Bool) (e : x ≡ every rule (partsFrom form l at))
-        (told : b ≡ rule (partWith t f s (take (start + len - start) (drop start l)))) where
-      pub every-on : not b ≡ false → x ≡ every rule (partsFrom form l (start + len))
-      unfolding every
-      every-on h = e ∙ rw (opened, ← add-sub-cancel-left start len, ← told, not-false b h, true-and)
-
-      pub every-out : not b ≡ true → x ≡ false
-      unfolding every
-      every-out h = e ∙ rw (opened, ← add-sub-cancel-left start len, ← told, not-true b h, false-and)
-
-    -- b: it is known
-    module _ (queues : ℕ) (b x : Bool) (e : x ≡ repeated queues (partsFrom form l at)) (told : b ≡ known queues t s) where
-      pub repeated-skip : not b ≡ true → x ≡ repeated queues (partsFrom form l (start + len))
-      unfolding repeated
-      repeated-skip h = e ∙ rw (opened, ← told, not-true b h, false-and, false-or)
-
-      pub repeated-rest : not b ≡ false
-          → x ≡ among t s (partsFrom form l (start + len)) or repeated queues (partsFrom form l (start + len))
-      unfolding repeated
-      repeated-rest h = e ∙ rw (opened, ← told, not-false b h, true-and)
-
-    -- w: the values with its value stored
-    pub applied-on : (queues : ℕ) (x v w : List ℕ) → x ≡ applied queues (partsFrom form l at) v
-        → w ≡ stored queues t s (take (start + len - start) (drop start l)) v
-        → x ≡ applied queues (partsFrom form l (start + len)) w
-    unfolding applied
-    applied-on queues x v w e told =
-        let here : w ≡ stored queues t s (bytesAt start len l) v = rw add-sub-cancel-left at told in
-        e ∙ rw (opened, here)
 
 -- `search walk` closes what the code asks of a part that is found
 pub ruleset walk = (needs, found-start, found-end, found-fits, found-less)

@@ -1,9 +1,10 @@
 -- A list of parts and its bytes: document 01, "The parts of a member". Assumes nothing.
+use mathlib.Core.Bool.{Bool, true, false}
 use mathlib.Core.List.{List}
 use Prim.Native.Nat.{ℕ, zero, suc, _+_, _-_}
-use lib.Dec.{leb, ltb}
+use lib.Dec.{leb, ltb, eqb}
 use lib.ListN.{length, getD}
-use Rattle.theory.specs.Logic.{unless_answer_then_}
+use Rattle.theory.specs.Logic.{unless_answer_then_, _and_, _or_}
 use Rattle.theory.specs.Bytes.{part as bytesAt}
 use Rattle.wire.specs.Le.{number}
 use Rattle.inventory.specs.Inventory.{selectorOf}
@@ -69,3 +70,15 @@ partsFrom form l at = atMost form (length l) l at
 
 abbrev pub partsOf : ListForm → List ℕ → PartList
 partsOf form l = partsFrom form l 0
+
+-- no header and no value runs past the end
+unfoldable pub whole : PartList → Bool
+whole end = true
+whole cut = false
+whole (part p ps) = whole ps
+
+-- some part has this type and selector
+unfoldable pub among : ℕ → ℕ → PartList → Bool
+among t s end = false
+among t s cut = false
+among t s (part p ps) = (eqb (p .partType) t and eqb (p .selector) s) or among t s ps

@@ -1,4 +1,4 @@
--- The numbers of the answers: document 01, "Statuses, and which comes first". Assumes nothing.
+-- The numbers of the answers, document 01, "Statuses, and which comes first", and of the kinds of objects. Assumes nothing.
 use mathlib.Core.Bool.{Bool}
 use Prim.Native.Nat.{ℕ}
 use lib.Dec.{eqb}
@@ -6,6 +6,8 @@ use Rattle.protocol.specs.declared.Answer.{Answer}
 use Rattle.protocol.specs.declared.Answer.the-variants.{Done, BadLength, BadGroup, BadOpcode, NoMember, BadField, Exists, NotLive, NoRoom, WrongKind, Running, BadList, ShortReply}
 use Rattle.protocol.specs.declared.EventAnswer.{EventAnswer}
 use Rattle.protocol.specs.declared.EventAnswer.the-variants as event
+use Rattle.protocol.specs.declared.ObjectKind.{ObjectKind}
+use Rattle.protocol.specs.declared.ObjectKind.the-variants.{Get, Set}
 
 abbrev pub statusOf : Answer → ℕ
 statusOf Done = 0
@@ -49,3 +51,8 @@ eventNumber event.NoMember = 1
 eventNumber event.NoPart = 2
 eventNumber event.WrongLength = 3
 eventNumber event.BadSetup = 4
+
+-- 0 get, 1 set
+abbrev pub kindNumber : ObjectKind → ℕ
+kindNumber Get = 0
+kindNumber Set = 1

@@ -2,7 +2,7 @@
 // ask of a member.
 ghost use mathlib.Core.Path.{_≡_};
 ghost use mathlib.Core.Bool.{true};
-ghost use Rattle.protocol.specs.Answers.{statusOf, qualifierOf, isDone, eventNumber};
+ghost use Rattle.protocol.specs.Answers.{statusOf, qualifierOf, isDone, eventNumber, kindNumber};
 ghost use Rattle.protocol.specs.Opcodes.{supported, lengthFits, namesMember, bit, supportedOnly};
 
 // The answer to a command: document 01, "Statuses, and which comes first".
@@ -123,6 +123,15 @@ pub fn event_number(a: EventAnswer) -> u8
         EventAnswer::NoPart => 2,
         EventAnswer::WrongLength => 3,
         EventAnswer::BadSetup => 4,
+    }
+}
+
+pub fn kind_number(kind: ObjectKind) -> u8
+    ensures { λ r. ⌜ r ≡ kindNumber kind ⌝ }
+{
+    match kind {
+        ObjectKind::Get => 0,
+        ObjectKind::Set => 1,
     }
 }
 

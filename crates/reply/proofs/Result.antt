@@ -15,10 +15,10 @@ use Rattle.capture.specs.Capture.{headersOf, partsWritten}
 use Rattle.capture.proofs.Sizes.{all-parts, headers-length}
 use Rattle.protocol.specs.declared.ObjectKind.{ObjectKind}
 use Rattle.protocol.specs.declared.ObjectKind.the-variants.{Get, Set}
-use Rattle.operations.specs.declared.Body.{Body}
-use Rattle.operations.specs.declared.Body.the-variants.{Nothing, Kind, Number, Headers, Selected}
-use Rattle.operations.specs.declared.Body.the-variants as body
-use Rattle.operations.specs.Changes.{kindNumber}
+use Rattle.protocol.specs.Answers.{kindNumber}
+use Rattle.reads.specs.declared.Body.{Body}
+use Rattle.reads.specs.declared.Body.the-variants.{Nothing, Kind, Number, Headers, Selected}
+use Rattle.reads.specs.declared.Body.the-variants as body
 use Rattle.reply.specs.Result.{numberBytes, resultOf}
 
 pub number-long : (n : ℕ) → length (numberBytes n) ≡ 8

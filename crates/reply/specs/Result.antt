@@ -3,12 +3,12 @@ use mathlib.Core.List.{List, [], _∷_, _++_}
 use Prim.Native.Nat.{ℕ}
 use lib.ListN.{replicate}
 use Rattle.wire.specs.Le.{bytes}
+use Rattle.protocol.specs.Answers.{kindNumber}
 use Rattle.inventory.specs.Inventory.{partCount}
 use Rattle.capture.specs.declared.Selection.the-variants.{Asked}
 use Rattle.capture.specs.Capture.{headersOf, partsWritten, captureOf}
-use Rattle.operations.specs.declared.Body.{Body}
-use Rattle.operations.specs.declared.Body.the-variants.{Nothing, Kind, Number, Headers, Selected, All}
-use Rattle.operations.specs.Changes.{kindNumber}
+use Rattle.reads.specs.declared.Body.{Body}
+use Rattle.reads.specs.declared.Body.the-variants.{Nothing, Kind, Number, Headers, Selected, All}
 
 -- "a 4-byte number and 4 zero bytes"
 unfoldable pub numberBytes : ℕ → List ℕ

@@ -10,8 +10,8 @@ ghost use Rattle.capture.specs.Capture.{headersOf};
 ghost use Rattle.reply.specs.Result.{numberBytes, resultOf};
 ghost use Rattle.reply.specs.Reply.{headOf, finalOf, concludeOf};
 use capture::Selection;
-use operations::Body;
 use protocol::Answer;
+use reads::Body;
 
 // What was answered in the end, and how many bytes were written.
 pub struct Written {
@@ -116,7 +116,7 @@ fn write_result(body: Body, queues: u8, list: &[u8], values: &[u8], out: &mut [u
 {
     match body {
         Body::Nothing => {}
-        Body::Kind(kind) => write_number(out, operations::kind_number(kind) as u32),
+        Body::Kind(kind) => write_number(out, protocol::kind_number(kind) as u32),
         Body::Number(n) => write_number(out, n),
         Body::Headers => write_metadata_list(out, queues),
         Body::Selected => capture::write_parts(out, values, queues, Selection::Asked, list),

@@ -3,8 +3,7 @@ use mathlib.Core.Path.{_≡_, refl, sym}
 use Prim.Native.Nat.{_-_}
 use borrow.Author.Needs.{needs}
 use lib.ListN.{length}
-use Rattle.parts.specs.List.{partsOf, partsFrom}
-use Rattle.parts.specs.Rules.{whole}
+use Rattle.parts.specs.List.{partsOf, partsFrom, whole}
 use Rattle.parts.proofs.Turns.{walk, whole-on, whole-end, whole-cut}
 use Rattle.parts.proofs.is_whole.Statement.{statement}
 use Rattle.parts.proofs.is_whole.Tie as tie

@@ -6,8 +6,7 @@ use borrow.Author.Needs.{needs}
 use lib.ListN.{length}
 use Rattle.theory.specs.Logic.{_or_}
 use Rattle.theory.proofs.Tests.{or-false}
-use Rattle.parts.specs.List.{partsOf, partsFrom}
-use Rattle.parts.specs.Rules.{among}
+use Rattle.parts.specs.List.{partsOf, partsFrom, among}
 use Rattle.parts.proofs.Turns.{walk, among-stop, among-on, among-hit}
 use Rattle.parts.proofs.names.Statement.{statement}
 use Rattle.parts.proofs.names.Tie as tie

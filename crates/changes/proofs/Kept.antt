@@ -1,0 +1,95 @@
+-- What a change of a member can come to, and what it keeps: a refusal leaves the member, and a sound member stays sound.
+-- Assumes nothing.
+use mathlib.Core.Path.{_≡_, refl, _∙_}
+use mathlib.Core.Bool.{true, false}
+use mathlib.Core.List.{List}
+use Prim.Native.Nat.{ℕ, _+_, _<_}
+use Rattle.theory.proofs.Tests.{unless-cases}
+use Rattle.protocol.specs.declared.Answer.{Answer}
+use Rattle.protocol.specs.declared.Mode.{Mode}
+use Rattle.protocol.specs.declared.ObjectKind.{ObjectKind}
+use Rattle.protocol.specs.declared.ChangeOp.{ChangeOp}
+use Rattle.protocol.specs.declared.ChangeOp.the-variants.{Create, Modify, Destroy, SetParts, SetMode}
+use Rattle.protocol.specs.Answers.{isDone}
+use Rattle.parts.specs.List.{PartList}
+use Rattle.values.specs.Apply.{applied}
+use Rattle.values.proofs.Kept.{applied-length}
+use Rattle.member.specs.declared.Slot.{Slot}
+use Rattle.member.specs.declared.Slot.the-variants.{Free}
+use Rattle.member.specs.declared.Member.{Member}
+use Rattle.member.specs.declared.Found.{Found}
+use Rattle.member.specs.declared.Found.the-variants.{Live, Nothing}
+use Rattle.member.specs.Objects.{slotFor, lookupOf, onFound, withObject, roomIn}
+use Rattle.member.specs.Member.{withMode, withValues}
+use Rattle.member.proofs.Record.{Shaped, shaped-mode, shaped-values, shaped-object}
+use Rattle.member.proofs.Sound.{SoundMember, sound-mode, sound-object, sound-free, sound-applied}
+use Rattle.changes.specs.declared.Changed.{Changed}
+use Rattle.changes.specs.Changes.{refuse, done, limited, createOf, modifyOf, destroyOf, setPartsOf, changeOf}
+
+-- the commands that put an object, and its id
+pub data Puts : ChangeOp → ℕ → Type 0 where
+  creates : {id : ℕ} {kind : ObjectKind} → Puts (Create id kind) id
+  modifies : {id : ℕ} {kind : ObjectKind} → Puts (Modify id kind) id
+
+-- the ids of a command are valid: step 7
+abbrev pub IdBelow : ℕ → ChangeOp → Type 0
+IdBelow ids (Create id kind) = id < ids
+IdBelow ids (Modify id kind) = id < ids
+IdBelow ids (Destroy id) = id < ids
+IdBelow ids (SetParts id) = id < ids
+IdBelow ids (SetMode mode) = Unit {0}
+
+put-below : (ids : ℕ) {op : ChangeOp} {id : ℕ} → IdBelow ids op → Puts op id → id < ids
+put-below ids h creates = h
+put-below ids h modifies = h
+
+found-cases : {A : Type 0} (P : A → Type 0) (x : Found) (f : ObjectKind → A) (a : A) → ((k : ObjectKind) → P (f k)) → P a → P (onFound x f a)
+found-cases P (Live k) f a h n = h k
+found-cases P Nothing f a h n = n
+
+-- what holds of a refusal and of each thing that can be done holds of every change
+module _ (queues gets sets : ℕ) (m : Member) (P : Changed → Type 0) (refused : (a : Answer) → isDone a ≡ false → P (refuse m a)) where
+  if-room : (n : Member) → (roomIn gets sets n ≡ true → P (done n)) → P (limited gets sets m n)
+  unfolding limited
+  if-room n f = unless-cases P _ _ _ (λ t. refused _ refl) f
+
+  pub change-cases : (list : List ℕ) (op : ChangeOp)
+      → ((id : ℕ) (slot : Slot) → Puts op id → roomIn gets sets (withObject m id slot) ≡ true → P (done (withObject m id slot)))
+      → ((id : ℕ) → P (done (withObject m id Free)))
+      → ((mode : Mode) → P (done (withMode m mode)))
+      → ((ps : PartList) → P (done (withValues m (applied queues ps (m .values)))))
+      → P (changeOf queues gets sets list op m)
+  unfolding createOf modifyOf destroyOf setPartsOf
+  change-cases list (Create id kind) put free mode set =
+      found-cases P (lookupOf m id) _ _ (λ k. refused _ refl) (if-room _ (put id (slotFor kind) creates))
+  change-cases list (Modify id kind) put free mode set =
+      found-cases P (lookupOf m id) _ _ (λ k. if-room _ (put id (slotFor kind) modifies)) (refused _ refl)
+  change-cases list (Destroy id) put free mode set = found-cases P (lookupOf m id) _ _ (λ k. free id) (refused _ refl)
+  change-cases list (SetParts id) put free mode set =
+      found-cases P (lookupOf m id) _ _
+      (λ k.
+      unless-cases P _ _ _ (λ t. refused _ refl) (λ t.
+      unless-cases P _ _ _ (λ t. refused _ refl) (λ t.
+      unless-cases P _ _ _ (λ t. refused _ refl) (λ t. set _))))
+      (refused _ refl)
+  change-cases list (SetMode x) put free mode set = mode x
+
+module _ (queues gets sets : ℕ) (list : List ℕ) (op : ChangeOp) (m : Member) where
+  -- "Every refusal leaves the card unchanged"
+  pub change-refused : isDone (changeOf queues gets sets list op m .answer) ≡ false → changeOf queues gets sets list op m .member ≡ m
+  change-refused =
+      change-cases queues gets sets m (λ x. isDone (x .answer) ≡ false → x .member ≡ m) (λ a e f. refl) list op
+      (λ id slot p e f. cc) (λ id f. cc) (λ mode f. cc) (λ ps f. cc)
+
+  pub change-shaped : Shaped m → Shaped (changeOf queues gets sets list op m .member)
+  change-shaped s =
+      change-cases queues gets sets m (λ x. Shaped (x .member)) (λ a e. s) list op
+      (λ id slot p e. shaped-object m s id slot) (λ id. shaped-object m s id Free) (λ mode. shaped-mode m s mode)
+      (λ ps. shaped-values m s _ (applied-length queues ps (m .values) ∙ s .long))
+
+  pub change-sound : (features : List ℕ) → IdBelow (gets + sets) op → SoundMember gets sets features m
+      → SoundMember gets sets features (changeOf queues gets sets list op m .member)
+  change-sound f h s =
+      change-cases queues gets sets m (λ x. SoundMember gets sets f (x .member)) (λ a e. s) list op
+      (λ id slot p e. sound-object gets sets f m s id slot (put-below (gets + sets) h p) e) (λ id. sound-free gets sets f m s id)
+      (λ mode. sound-mode gets sets f m s mode) (λ ps. sound-applied gets sets f m s queues ps)

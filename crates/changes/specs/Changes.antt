@@ -1,0 +1,70 @@
+-- The commands that change a member: document 01, "What each command does", steps 8 to 10. Assumes nothing.
+use mathlib.Core.Bool.{Bool}
+use mathlib.Core.List.{List}
+use Prim.Native.Nat.{ℕ}
+use lib.Dec.{eqb}
+use Rattle.theory.specs.Logic.{unless_answer_then_}
+use Rattle.protocol.specs.declared.Answer.{Answer}
+use Rattle.protocol.specs.declared.Answer.the-variants.{Done, Exists, NotLive, NoRoom, WrongKind, Running, BadList}
+use Rattle.protocol.specs.declared.Mode.{Mode}
+use Rattle.protocol.specs.declared.ObjectKind.{ObjectKind}
+use Rattle.protocol.specs.declared.ChangeOp.{ChangeOp}
+use Rattle.protocol.specs.declared.ChangeOp.the-variants.{Create, Modify, Destroy, SetParts, SetMode}
+use Rattle.protocol.specs.Answers.{kindNumber}
+use Rattle.parts.specs.declared.ListForm.the-variants.{Parts}
+use Rattle.parts.specs.List.{partsOf}
+use Rattle.rules.specs.Rules.{causeOf, isAccepted}
+use Rattle.values.specs.Apply.{applied}
+use Rattle.member.specs.declared.Slot.the-variants.{Free}
+use Rattle.member.specs.declared.Member.{Member}
+use Rattle.member.specs.Record.{modeByte}
+use Rattle.member.specs.Objects.{slotFor, lookupOf, onFound, withObject, roomIn}
+use Rattle.member.specs.Member.{featuresIn, withMode, withValues}
+use Rattle.changes.specs.declared.Changed.{Changed}
+
+abbrev pub refuse : Member → Answer → Changed
+refuse m a = record { answer = a; member = m }
+
+abbrev pub done : Member → Changed
+done m = record { answer = Done; member = m }
+
+-- "create or modify that would make more than G get or S set objects 28/1": n is the member after it
+unfoldable pub limited : ℕ → ℕ → Member → Member → Changed
+limited gets sets m n = unless roomIn gets sets n answer refuse m NoRoom then done n
+
+-- "create on a live id 17/1"
+unfoldable pub createOf : ℕ → ℕ → ℕ → ObjectKind → Member → Changed
+createOf gets sets id kind m =
+    onFound (lookupOf m id)
+    (λ k. refuse m Exists)
+    (limited gets sets m (withObject m id (slotFor kind)))
+
+-- "another object command, metadata, get or set on an id that is not live 6/1"
+unfoldable pub modifyOf : ℕ → ℕ → ℕ → ObjectKind → Member → Changed
+modifyOf gets sets id kind m =
+    onFound (lookupOf m id)
+    (λ k. limited gets sets m (withObject m id (slotFor kind)))
+    (refuse m NotLive)
+
+-- "destroy removes it and its id and room are free again"
+unfoldable pub destroyOf : ℕ → Member → Changed
+destroyOf id m = onFound (lookupOf m id) (λ k. done (withObject m id Free)) (refuse m NotLive)
+
+-- parts set "needs a set object", a stopped member and a good list, and "takes all or nothing"
+unfoldable pub setPartsOf : ℕ → ℕ → List ℕ → Member → Changed
+setPartsOf queues id list m =
+    onFound (lookupOf m id)
+    (λ k.
+    unless eqb (kindNumber k) 1 answer refuse m WrongKind then  -- 8
+    unless eqb (modeByte (m .mode)) 1 answer refuse m Running then  -- 9
+    unless isAccepted (causeOf queues (featuresIn m) list) answer refuse m BadList then  -- 10
+    done (withValues m (applied queues (partsOf Parts list) (m .values))))
+    (refuse m NotLive)
+
+-- mode set: "either may be repeated"
+abbrev pub changeOf : ℕ → ℕ → ℕ → List ℕ → ChangeOp → Member → Changed
+changeOf queues gets sets list (Create id kind) m = createOf gets sets id kind m
+changeOf queues gets sets list (Modify id kind) m = modifyOf gets sets id kind m
+changeOf queues gets sets list (Destroy id) m = destroyOf id m
+changeOf queues gets sets list (SetParts id) m = setPartsOf queues id list m
+changeOf queues gets sets list (SetMode mode) m = done (withMode m mode)

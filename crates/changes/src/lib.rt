@@ -1,0 +1,123 @@
+// The commands that change a member: steps 8 to 10 of document 01's table of statuses.
+ghost use mathlib.Core.Path.{_≡_};
+ghost use Rattle.member.specs.Member.{featuresIn, withMode};
+ghost use Rattle.rules.specs.Rules.{causeOf, isAccepted};
+ghost use Rattle.changes.specs.Changes.{limited, createOf, modifyOf, destroyOf, setPartsOf, changeOf};
+ghost use Rattle.changes.specs.Changes.{refuse as refused, done as accepted};
+use member::Found;
+use member::Member;
+use protocol::Answer;
+use protocol::ChangeOp;
+use protocol::Mode;
+use protocol::ObjectKind;
+
+// The outcome of an operation that changes the member: refused, it is the member as it was.
+pub struct Changed {
+    pub answer: Answer,
+    pub member: Member,
+}
+
+fn refuse(m: Member, answer: Answer) -> Changed
+    ensures { λ r. ⌜ r ≡ refused m answer ⌝ }
+{
+    Changed { answer, member: m }
+}
+
+fn done(m: Member) -> Changed
+    ensures { λ r. ⌜ r ≡ accepted m ⌝ }
+{
+    Changed {
+        answer: Answer::Done,
+        member: m,
+    }
+}
+
+// n, if it has room for its objects; else m.
+fn if_room(m: Member, n: Member, gets: u8, sets: u8) -> Changed
+    ensures { λ r. ⌜ r ≡ limited gets sets m n ⌝ }
+{
+    if !member::has_room(n, gets, sets) {
+        return refuse(m, Answer::NoRoom);
+    }
+    done(n)
+}
+
+fn create(m: Member, id: usize, kind: ObjectKind, gets: u8, sets: u8) -> Changed
+    ensures { λ r. ⌜ r ≡ createOf gets sets id kind m ⌝ }
+{
+    let Found::Nothing = member::lookup(m, id) else {
+        return refuse(m, Answer::Exists);
+    };
+    let n = member::put_object(m, id, member::slot_for(kind));
+    if_room(m, n, gets, sets)
+}
+
+fn modify(m: Member, id: usize, kind: ObjectKind, gets: u8, sets: u8) -> Changed
+    ensures { λ r. ⌜ r ≡ modifyOf gets sets id kind m ⌝ }
+{
+    let Found::Live(_) = member::lookup(m, id) else {
+        return refuse(m, Answer::NotLive);
+    };
+    let n = member::put_object(m, id, member::slot_for(kind));
+    if_room(m, n, gets, sets)
+}
+
+fn destroy(m: Member, id: usize) -> Changed
+    ensures { λ r. ⌜ r ≡ destroyOf id m ⌝ }
+{
+    let Found::Live(_) = member::lookup(m, id) else {
+        return refuse(m, Answer::NotLive);
+    };
+    done(member::without(m, id))
+}
+
+fn set_mode(m: Member, mode: Mode) -> Changed
+    ensures { λ r. ⌜ r ≡ accepted (withMode m mode) ⌝ }
+{
+    match mode {
+        Mode::Running => done(m.resume()),
+        Mode::Stopped => done(m.stop()),
+    }
+}
+
+// Whether the member accepts this list.
+fn accepts(m: Member, queues: u8, list: &[u8]) -> bool
+    ensures { λ r. ⌜ r ≡ isAccepted (causeOf queues (featuresIn m) (now (list .entry))) ⌝ }
+{
+    let values = m.values;
+    let cause = rules::check_list(queues, &values[0..16], list);
+    rules::is_accepted(cause)
+}
+
+// Steps 8, 9 and 10 of parts set; all or nothing.
+fn set_parts(m: Member, id: usize, queues: u8, list: &[u8]) -> Changed
+    ensures { λ r. ⌜ r ≡ setPartsOf queues id (now (list .entry)) m ⌝ }
+{
+    let Found::Live(kind) = member::lookup(m, id) else {
+        return refuse(m, Answer::NotLive);
+    };
+    if protocol::kind_number(kind) != 1 {
+        return refuse(m, Answer::WrongKind);
+    }
+    let mode = m.mode;
+    if member::mode_byte(mode) != 1 {
+        return refuse(m, Answer::Running);
+    }
+    if !accepts(m, queues, list) {
+        return refuse(m, Answer::BadList);
+    }
+    done(m.set_parts(queues, list))
+}
+
+// A command that changes the member; list holds the parts given.
+pub fn change(m: Member, op: ChangeOp, queues: u8, gets: u8, sets: u8, list: &[u8]) -> Changed
+    ensures { λ r. ⌜ r ≡ changeOf queues gets sets (now (list .entry)) op m ⌝ }
+{
+    match op {
+        ChangeOp::Create(id, kind) => create(m, id, kind, gets, sets),
+        ChangeOp::Modify(id, kind) => modify(m, id, kind, gets, sets),
+        ChangeOp::Destroy(id) => destroy(m, id),
+        ChangeOp::SetParts(id) => set_parts(m, id, queues, list),
+        ChangeOp::SetMode(mode) => set_mode(m, mode),
+    }
+}

@@ -1,9 +1,0 @@
-use borrow.Author.Needs.{needs}
-use Rattle.operations.proofs.set_mode.Statement.{statement}
-use Rattle.operations.proofs.set_mode.Tie as tie
-
-pub set-mode-spec : {M : Type 1} → statement M
-set-mode-spec =
-    tie.close
-    (tie.spec (λ c. search needs) (λ c κs. search needs) (λ c κs. search needs) (λ c. search needs)
-    (λ c κs. search needs) (λ c κs. search needs) (λ c. cc) (λ c. cc))

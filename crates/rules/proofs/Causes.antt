@@ -1,0 +1,41 @@
+-- What is said of a list, return by return of check_list. Assumes nothing.
+use mathlib.Core.Path.{_≡_, sym, _∙_}
+use mathlib.Core.Bool.{Bool, true, false, not}
+use mathlib.Core.List.{List}
+use Prim.Native.Nat.{ℕ}
+use Rattle.theory.proofs.Ladder.{pass, stop, said-true, said-false}
+use Rattle.rules.specs.declared.Cause.the-variants.{Accepted, Cut, Unknown, Length, Features, Twice}
+use Rattle.parts.specs.List.{PartList, whole}
+use Rattle.rules.specs.Rules.{knownOrSkipped, lengthRight, featuresSame, every, repeated, causeIn}
+use Rattle.rules.proofs.Tests.{yes-not, no-not}
+
+ruleset steps = (pass, stop, said-true, said-false)
+
+module _ (q : ℕ) (features : List ℕ) (ps : PartList) (w : Bool) (ew : w ≡ whole ps) where
+  pub cut-short : not w ≡ true → Cut ≡ causeIn q features ps
+  unfolding causeIn
+  cut-short h = search steps
+
+  module _ (hw : not w ≡ false) (k : Bool) (ek : k ≡ every (knownOrSkipped q) ps) where
+    pub unknown : not k ≡ true → Unknown ≡ causeIn q features ps
+    unfolding causeIn
+    unknown h = search steps
+
+    module _ (hk : not k ≡ false) (n : Bool) (en : n ≡ every (lengthRight q) ps) where
+      pub wrong-length : not n ≡ true → Length ≡ causeIn q features ps
+      unfolding causeIn
+      wrong-length h = search steps
+
+      module _ (hn : not n ≡ false) (f : Bool) (ef : f ≡ every (featuresSame features) ps) where
+        pub wrong-features : not f ≡ true → Features ≡ causeIn q features ps
+        unfolding causeIn
+        wrong-features h = search steps depth 9
+
+        module _ (hf : not f ≡ false) (d : Bool) (ed : d ≡ repeated q ps) where
+          pub twice : d ≡ true → Twice ≡ causeIn q features ps
+          unfolding causeIn
+          twice h = search (steps, yes-not (repeated q ps) (sym ed ∙ h)) depth 9
+
+          pub accepted : d ≡ false → Accepted ≡ causeIn q features ps
+          unfolding causeIn
+          accepted h = search (steps, no-not (repeated q ps) (sym ed ∙ h)) depth 9

@@ -1,0 +1,90 @@
+-- Step 10, a bad list, given or asked: document 01, "The parts of a member". Assumes nothing.
+use mathlib.Core.Bool.{Bool, true, false, not}
+use mathlib.Core.List.{List}
+use Prim.Native.Nat.{ℕ, _%_}
+use lib.Dec.{ltb, eqb}
+use lib.ListN.{length}
+use Rattle.theory.specs.Logic.{unless_answer_then_, _and_, _or_}
+use Rattle.theory.specs.Bytes.{same}
+use Rattle.inventory.specs.Inventory.{rowAt, deviceFeatures, placeOf, onPlace}
+use Rattle.parts.specs.declared.ListForm.the-variants.{Parts, Headers}
+use Rattle.parts.specs.List.{Part, PartList, end, cut, part, partsOf, whole, among}
+use Rattle.rules.specs.declared.Rule.{Rule}
+use Rattle.rules.specs.declared.Rule.the-variants.{KnownOrSkipped, LengthRight, FeaturesSame, AsksKnown}
+use Rattle.rules.specs.declared.Cause.{Cause}
+use Rattle.rules.specs.declared.Cause.the-variants.{Accepted, Cut, Unknown, Length, Features, Twice}
+
+-- ---- rules of one part ----
+
+-- the member has got this part; 01 calls it known
+unfoldable pub known : ℕ → ℕ → ℕ → Bool
+known queues t s = onPlace (placeOf queues t s) (λ i. true) false
+
+-- "a part the member has not got lacks the optional bit, or has a type of 0x600 or more"
+unfoldable pub knownOrSkipped : ℕ → Part → Bool
+knownOrSkipped queues p =
+    known queues (p .partType) (p .selector)
+    or (eqb (p .flags % 2) 1 and ltb (p .partType) 0x600)
+
+-- "a known part has another length than the table's"
+unfoldable pub lengthRight : ℕ → Part → Bool
+lengthRight queues p =
+    onPlace (placeOf queues (p .partType) (p .selector)) (λ i. eqb (length (p .value)) (rowAt i .size)) true
+
+-- "the device features supplied differ from the member's"
+unfoldable pub featuresSame : List ℕ → Part → Bool
+featuresSame features p = not (eqb (p .partType) deviceFeatures) or same (p .value) features
+
+-- an asked header "that names a part the member has not got"
+unfoldable pub asksKnown : ℕ → Part → Bool
+asksKnown queues p = known queues (p .partType) (p .selector)
+
+-- the four rules by name
+abbrev pub obeys : Rule → ℕ → List ℕ → Part → Bool
+obeys KnownOrSkipped queues features = knownOrSkipped queues
+obeys LengthRight queues features = lengthRight queues
+obeys FeaturesSame queues features = featuresSame features
+obeys AsksKnown queues features = asksKnown queues
+
+-- ---- rules of a list ----
+
+unfoldable pub every : (Part → Bool) → PartList → Bool
+every rule end = true
+every rule cut = true
+every rule (part p ps) = rule p and every rule ps
+
+-- "A part named twice in one list": a known part that is among those after it
+unfoldable pub repeated : ℕ → PartList → Bool
+repeated queues end = false
+repeated queues cut = false
+repeated queues (part p ps) =
+    (known queues (p .partType) (p .selector) and among (p .partType) (p .selector) ps)
+    or repeated queues ps
+
+-- a list given to be set: the first cause, in 01's order, that occurs anywhere in it
+unfoldable pub causeIn : ℕ → List ℕ → PartList → Cause
+causeIn queues features ps =
+    unless whole ps answer Cut then
+    unless every (knownOrSkipped queues) ps answer Unknown then
+    unless every (lengthRight queues) ps answer Length then
+    unless every (featuresSame features) ps answer Features then
+    unless not (repeated queues ps) answer Twice then
+    Accepted
+
+abbrev pub causeOf : ℕ → List ℕ → List ℕ → Cause
+causeOf queues features l = causeIn queues features (partsOf Parts l)
+
+abbrev pub isAccepted : Cause → Bool
+isAccepted Accepted = true
+isAccepted Cut = false
+isAccepted Unknown = false
+isAccepted Length = false
+isAccepted Features = false
+isAccepted Twice = false
+
+-- a list of headers asked for: whole headers, each of a known part, none twice
+unfoldable pub askedIn : ℕ → PartList → Bool
+askedIn queues ps = whole ps and every (asksKnown queues) ps and not (repeated queues ps)
+
+abbrev pub askedOf : ℕ → List ℕ → Bool
+askedOf queues l = askedIn queues (partsOf Headers l)

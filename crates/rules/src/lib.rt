@@ -1,0 +1,227 @@
+// Step 10, a bad list, given or asked: the rules of one part, and of a list.
+ghost use mathlib.Core.Path.{_≡_};
+ghost use mathlib.Core.Bool.{true, not};
+ghost use Prim.Native.Nat.{_%_};
+ghost use lib.Dec.{eqb, ltb};
+ghost use Rattle.theory.specs.Logic.{_and_, _or_};
+ghost use Rattle.theory.specs.Bytes.{same};
+ghost use Rattle.inventory.specs.Inventory.{rowAt, deviceFeatures, placeOf, onPlace};
+ghost use Rattle.parts.specs.List.{partsOf, partWith};
+ghost use Rattle.rules.specs.Rules.{known, obeys, every, repeated, causeOf, isAccepted, askedOf};
+use inventory::Place;
+use parts::ListForm;
+use parts::Step;
+
+// A rule of one part.
+pub enum Rule {
+    KnownOrSkipped,
+    LengthRight,
+    FeaturesSame,
+    AsksKnown,
+}
+
+// What is said of a list given to be set: the first of document 01's causes that occurs anywhere in it.
+pub enum Cause {
+    Accepted,
+    Cut,
+    Unknown,
+    Length,
+    Features,
+    Twice,
+}
+
+// ---- the rules of one part ----
+
+// Whether a member with so many queues has got this part.
+pub fn is_known(queues: u8, t: u16, selector: u64) -> bool
+    ensures { λ r. ⌜ r ≡ known queues t selector ⌝ }
+{
+    if let Place::At(_) = inventory::place_of(queues, t, selector) {
+        true
+    } else {
+        false
+    }
+}
+
+// Whether the member has got the part, or it is to be skipped.
+fn is_known_or_skipped(queues: u8, t: u16, flags: u8, selector: u64) -> bool
+    ensures { λ r. ⌜ r ≡ known queues t selector or (eqb (flags % 2) 1 and ltb t 0x600) ⌝ }
+{
+    if is_known(queues, t, selector) {
+        return true;
+    }
+    if flags % 2 != 1 {
+        return false;
+    }
+    t < 0x600
+}
+
+// Whether a value of n bytes is as long as the table says, where the member has got the part.
+fn is_length_right(queues: u8, t: u16, selector: u64, n: usize) -> bool
+    ensures { λ r. ⌜ r ≡ onPlace (placeOf queues t selector) (λ i. eqb n (rowAt i .size)) true ⌝ }
+{
+    let Place::At(i) = inventory::place_of(queues, t, selector) else {
+        return true;
+    };
+    n == inventory::size_of(i)
+}
+
+// Whether a value is the features, where the part is the device features.
+fn is_features(t: u16, value: &[u8], features: &[u8]) -> bool
+    ensures { λ r. ⌜ r ≡ not (eqb t deviceFeatures) or same (now (value .entry)) (now (features .entry)) ⌝ }
+{
+    if t != 0x100 {
+        return true;
+    }
+    wire::equal(value, features)
+}
+
+// Whether a part obeys a rule.
+fn obeys(
+    rule: Rule,
+    queues: u8,
+    features: &[u8],
+    t: u16,
+    flags: u8,
+    selector: u64,
+    value: &[u8],
+) -> bool
+    ensures { λ r. ⌜ r ≡ obeys rule queues (now (features .entry)) (partWith t flags selector (now (value .entry))) ⌝ }
+{
+    match rule {
+        Rule::KnownOrSkipped => is_known_or_skipped(queues, t, flags, selector),
+        Rule::LengthRight => is_length_right(queues, t, selector, value.len()),
+        Rule::FeaturesSame => is_features(t, value, features),
+        Rule::AsksKnown => is_known(queues, t, selector),
+    }
+}
+
+// Whether every part obeys a rule.
+pub fn every_obeys(rule: Rule, form: ListForm, list: &[u8], queues: u8, features: &[u8]) -> bool
+    ensures { λ r. ⌜ r ≡ every (obeys rule queues (now (features .entry))) (partsOf form (now (list .entry))) ⌝ }
+{
+    let mut at = 0;
+    loop {
+        let Step::Part {
+            part_type,
+            flags,
+            selector,
+            start,
+            len,
+        } = parts::next_part(form, list, at)
+        else {
+            return true;
+        };
+        let next = start + len;
+        if !obeys(
+            rule,
+            queues,
+            features,
+            part_type,
+            flags,
+            selector,
+            &list[start..next],
+        ) {
+            return false;
+        }
+        at = next;
+    }
+}
+
+// ---- the rules of a list ----
+
+// Whether a known part is named twice.
+pub fn repeats(form: ListForm, list: &[u8], queues: u8) -> bool
+    ensures { λ r. ⌜ r ≡ repeated queues (partsOf form (now (list .entry))) ⌝ }
+{
+    let mut at = 0;
+    'parts: loop {
+        let Step::Part {
+            part_type,
+            flags: _,
+            selector,
+            start,
+            len,
+        } = parts::next_part(form, list, at)
+        else {
+            return false;
+        };
+        at = start + len;
+        if !is_known(queues, part_type, selector) {
+            continue 'parts;
+        }
+        let mut on = at;
+        'rest: loop {
+            let Step::Part {
+                part_type: other,
+                flags: _,
+                selector: other_selector,
+                start: other_start,
+                len: other_len,
+            } = parts::next_part(form, list, on)
+            else {
+                break 'rest;
+            };
+            if parts::is_named(part_type, selector, other, other_selector) {
+                break 'parts;
+            }
+            on = other_start + other_len;
+        }
+    }
+    true
+}
+
+// What is said of a list given to be set.
+pub fn check_list(queues: u8, features: &[u8], list: &[u8]) -> Cause
+    ensures { λ r. ⌜ r ≡ causeOf queues (now (features .entry)) (now (list .entry)) ⌝ }
+{
+    if !parts::is_whole(ListForm::Parts, list) {
+        return Cause::Cut;
+    }
+    if !every_obeys(
+        Rule::KnownOrSkipped,
+        ListForm::Parts,
+        list,
+        queues,
+        features,
+    ) {
+        return Cause::Unknown;
+    }
+    if !every_obeys(Rule::LengthRight, ListForm::Parts, list, queues, features) {
+        return Cause::Length;
+    }
+    if !every_obeys(Rule::FeaturesSame, ListForm::Parts, list, queues, features) {
+        return Cause::Features;
+    }
+    if repeats(ListForm::Parts, list, queues) {
+        return Cause::Twice;
+    }
+    Cause::Accepted
+}
+
+// Whether nothing is said against it.
+pub fn is_accepted(c: Cause) -> bool
+    ensures { λ r. ⌜ r ≡ isAccepted c ⌝ }
+{
+    match c {
+        Cause::Accepted => true,
+        Cause::Cut => false,
+        Cause::Unknown => false,
+        Cause::Length => false,
+        Cause::Features => false,
+        Cause::Twice => false,
+    }
+}
+
+// Whether a list of headers can be asked for. No features are compared, so the list stands in for them.
+pub fn check_asked(queues: u8, list: &[u8]) -> bool
+    ensures { λ r. ⌜ r ≡ askedOf queues (now (list .entry)) ⌝ }
+{
+    if !parts::is_whole(ListForm::Headers, list) {
+        return false;
+    }
+    if !every_obeys(Rule::AsksKnown, ListForm::Headers, list, queues, list) {
+        return false;
+    }
+    !repeats(ListForm::Headers, list, queues)
+}

@@ -1,0 +1,65 @@
+-- What a card store and a list leave as it was: the length of the values, and the device features. Assumes nothing.
+use mathlib.Core.Path.{_≡_, refl, _∙_}
+use mathlib.Core.List.{List}
+use Prim.Native.Nat.{ℕ, _<_}
+use native.Mathlib.Omega.{arith}
+use borrow.Author.Tests.{lt-ltb, ltb-true, eq-eqb, eqb-true}
+use lib.Dec.{ltb, eqb}
+use lib.ListN.{length}
+use Rattle.theory.specs.Logic.{if_then_else_, _and_}
+use Rattle.theory.specs.Bytes.{part as bytesAt, put}
+use Rattle.theory.proofs.Tests.{if-cases, both, and-i}
+use Rattle.theory.proofs.Bytes.{length-put, part-before}
+use Rattle.inventory.specs.Inventory.{rowAt, offsetOf, placeOf, onPlace}
+use Rattle.inventory.specs.declared.Place.{Place}
+use Rattle.inventory.specs.declared.Place.the-variants.{At, Absent}
+use Rattle.inventory.proofs.Find.{Found, place-found}
+use Rattle.inventory.proofs.Rules.{rows-apart, row-zero, offset-zero}
+use Rattle.parts.specs.List.{PartList, end, cut, part}
+use Rattle.values.specs.Apply.{stored, applied}
+
+module _ (q t s : ℕ) (x v : List ℕ) where
+  -- a value is stored in a row after the first, of its length, or nothing is
+  pub stored-cases {ℓ} : (P : List ℕ → Type ℓ) → P v
+      → ((i : ℕ) → Found q t s i → 0 < i → length x ≡ rowAt i .size → P (put (offsetOf i) x v))
+      → P (stored q t s x v)
+  unfolding stored
+  stored-cases P none some = cases (placeOf q t s) refl
+    where
+      cases : (p : Place) → placeOf q t s ≡ p
+          → P (onPlace p (λ i. if ltb 0 i and eqb (length x) (rowAt i .size) then put (offsetOf i) x v else v) v)
+      cases (At i) e =
+          if-cases P (ltb 0 i and eqb (length x) (rowAt i .size)) (put (offsetOf i) x v) v
+          (λ h. let b = both _ _ h in some i (place-found q t s i e) (ltb-true 0 i (b .0)) (eqb-true _ _ (b .1)))
+          (λ h. none)
+      cases Absent e = none
+
+  pub stored-at : (i : ℕ) → placeOf q t s ≡ At i → 0 < i → length x ≡ rowAt i .size → stored q t s x v ≡ put (offsetOf i) x v
+  unfolding stored if_then_else_
+  stored-at i e h l = rw (e, and-i _ _ (lt-ltb 0 i h) (eq-eqb _ _ l))
+
+  pub stored-length : length (stored q t s x v) ≡ length v
+  stored-length = stored-cases (λ w. length w ≡ length v) refl (λ i f h l. length-put (offsetOf i) x v)
+
+  -- the rows after the first start where it ends
+  pub stored-features : bytesAt 0 16 (stored q t s x v) ≡ bytesAt 0 16 v
+  stored-features =
+      stored-cases (λ w. bytesAt 0 16 w ≡ bytesAt 0 16 v) refl
+      (λ i f h l. part-before 0 16 (offsetOf i) x v (rw (offset-zero, row-zero) at (rows-apart 0 (omega arith) i (f .below) h)))
+
+-- what no store changes no list does
+applied-keeps : {A : Type 0} (look : List ℕ → A) (q : ℕ)
+    → ((t s : ℕ) (x v : List ℕ) → look (stored q t s x v) ≡ look v)
+    → (ps : PartList) (v : List ℕ) → look (applied q ps v) ≡ look v
+unfolding applied
+applied-keeps look q keeps end v = refl
+applied-keeps look q keeps cut v = refl
+applied-keeps look q keeps (part p ps) v =
+    applied-keeps look q keeps ps (stored q (p .partType) (p .selector) (p .value) v)
+    ∙ keeps (p .partType) (p .selector) (p .value) v
+
+pub applied-length : (q : ℕ) (ps : PartList) (v : List ℕ) → length (applied q ps v) ≡ length v
+applied-length q = applied-keeps length q (stored-length q)
+
+pub applied-features : (q : ℕ) (ps : PartList) (v : List ℕ) → bytesAt 0 16 (applied q ps v) ≡ bytesAt 0 16 v
+applied-features q = applied-keeps (bytesAt 0 16) q (stored-features q)

@@ -1,0 +1,3 @@
+pub mod Tests
+pub mod Turns
+pub mod Kept
