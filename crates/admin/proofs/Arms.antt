@@ -14,12 +14,13 @@ use Rattle.protocol.specs.declared.ChangeOp.{ChangeOp}
 use Rattle.protocol.specs.Answers.{isDone}
 use Rattle.protocol.specs.Opcodes.{supportedMask}
 use Rattle.member.specs.declared.Member.{Member}
+use Rattle.member.specs.Record.{memberOf}
 use Rattle.reads.specs.declared.Reading.{Reading}
 use Rattle.changes.specs.declared.Changed.{Changed}
 use Rattle.changes.specs.Changes.{changeOf}
 use Rattle.reads.specs.Reads.{readOf}
 use Rattle.card.specs.declared.Setup.{Setup}
-use Rattle.card.specs.Layout.{setupOf, inUseOf, isMember, memberIn, withMember}
+use Rattle.card.specs.Layout.{setupOf, inUseOf, isMember, recordIn, memberIn, withMember}
 use Rattle.card.specs.Sound.{isSound}
 use Rattle.frame.specs.declared.Ask.{Ask}
 use Rattle.frame.specs.declared.Ask.the-variants.{Refused, QueryList, UseList, Read, Change}
@@ -36,14 +37,16 @@ Left = ℕ × (List ℕ × List ℕ)
 
 -- ---- members ----
 
+-- rec is the member's record, where it stands in the card
+pub read-told : (c r l l′ : List ℕ) (m : ℕ) (s : Setup) (rec list values : List ℕ) (w : Written) (op : ReadOp) (y : Reading)
+    → s ≡ setupOf c → rec ≡ recordIn c m → list ≡ drop 40 r → y ≡ readOf (s .queues) list op (memberOf rec) → values ≡ memberOf rec .values
+    → _≡_ {A = Written × List ℕ} (w, l′) (concludeOf (y .answer) (resultOf (s .queues) list values (y .body)) l)
+    → _≡_ {A = Left} (w .bytes, (c, l′)) (delivered (conclude c (length l) (perform c r (Read m op))) l)
+unfolding perform memberIn
+read-told c r l l′ m s rec list values w op y e f g h v k = kept c _ _ l l′ w (k ∙ rw (h, v, g, e, f))
+
 module _ (c r l l′ : List ℕ) (m : ℕ) (s : Setup) (x : Member) (list : List ℕ) (w : Written)
     (e : s ≡ setupOf c) (f : x ≡ memberIn c m) where
-  pub read-told : (op : ReadOp) (y : Reading) → list ≡ drop 40 r → y ≡ readOf (s .queues) list op x
-      → _≡_ {A = Written × List ℕ} (w, l′) (concludeOf (y .answer) (resultOf (s .queues) list (x .values) (y .body)) l)
-      → _≡_ {A = Left} (w .bytes, (c, l′)) (delivered (conclude c (length l) (perform c r (Read m op))) l)
-  unfolding perform
-  read-told op y g h k = kept c _ _ l l′ w (k ∙ rw (h, g, e, f))
-
   module _ (op : ChangeOp) (y : Changed) (g : list ≡ drop 32 r)
       (h : y ≡ changeOf (s .queues) (s .gets) (s .sets) list op x)
       (k : _≡_ {A = Written × List ℕ} (w, l′) (concludeOf (y .answer) [] l)) (b : Bool) (said : b ≡ isDone (w .answer)) where

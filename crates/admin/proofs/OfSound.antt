@@ -8,9 +8,10 @@ use lib.ListN.{length}
 use Rattle.theory.proofs.Tests.{tests}
 use Rattle.card.specs.declared.Setup.{Setup}
 use Rattle.inventory.specs.Inventory.{valuesSize}
-use Rattle.member.specs.declared.Member.{Member}
-use Rattle.card.specs.Layout.{headSize, setupOf, isMember, HasRecord, memberIn}
+use Rattle.member.specs.Record.{recordSize, memberOf}
+use Rattle.card.specs.Layout.{headSize, setupOf, isMember, HasRecord, recordIn, memberIn}
 use Rattle.card.specs.Sound.{isSound}
+use Rattle.card.proofs.ReadLaws.{record-long}
 use Rattle.card.proofs.SoundLaws.{sound-of, sound-long, sound-has, sound-member-in}
 
 module _ (c : List ℕ) (s : isSound c ≡ true) where
@@ -26,5 +27,11 @@ module _ (c : List ℕ) (s : isSound c ≡ true) where
   pub queues-few : (x : Setup) → x ≡ setupOf c → x .queues < 5
   queues-few x e = let n = sound-of c s .numbers in rw e (omega arith)
 
-  pub values-long : (m : ℕ) → isMember c m ≡ true → (x : Member) → x ≡ memberIn c m → length (x .values) ≡ valuesSize
-  values-long m h x e = rw e (sound-member-in c (sound-of c s) m h .shaped .long)
+  -- the record of a member, and the values in it
+  module _ (m : ℕ) (h : isMember c m ≡ true) (r : List ℕ) (e : r ≡ recordIn c m) where
+    pub record-sized : length r ≡ recordSize
+    record-sized = record-long c m r e (record-there m h)
+
+    pub values-long : (v : List ℕ) → v ≡ memberOf r .values → length v ≡ valuesSize
+    unfolding memberIn
+    values-long v q = rw (q, e) (sound-member-in c (sound-of c s) m h .shaped .long)

@@ -39,13 +39,13 @@ fn read_member(card: &[u8], m: u64, op: ReadOp, request: &[u8], reply: &mut [u8]
 {
     let s = card::setup_of(card);
     let queues = s.queues;
-    let member = card::load_member(card, m);
+    let rec = card::record_of(card, m);
     let list = from(request, 40);
-    let found = reads::read(member, op, queues, list);
+    let found = reads::read(rec, op, queues, list);
     let answer = found.answer;
     let body = found.body;
-    let values = member.values;
-    let told = reply::write_reading(answer, body, queues, list, &values, reply);
+    let values = member::values_of(rec);
+    let told = reply::write_reading(answer, body, queues, list, values, reply);
     told.bytes
 }
 

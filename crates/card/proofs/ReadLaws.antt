@@ -53,18 +53,23 @@ numbers-tested c n q g s t a b d e f = f ∙ rw (a, b, d, e, members-read c, que
 
 -- ---- a member's record, from its place ----
 
-module _ (c : List ℕ) (m at : ℕ) (e : at ≡ recordAt m) where
-  record-read : part at (at + recordSize - at) c ≡ recordIn c m
+module _ (c : List ℕ) (m : ℕ) where
+  pub record-lent : (at : ℕ) → at ≡ recordAt m → part at (at + recordSize - at) c ≡ recordIn c m
   unfolding recordIn
-  record-read = rw (e, add-sub-cancel-left (recordAt m) recordSize)
+  record-lent at e = rw (e, add-sub-cancel-left (recordAt m) recordSize)
 
-  pub member-loaded : (x : Member) → x ≡ memberOf (part at (at + recordSize - at) c) → x ≡ memberIn c m
-  unfolding memberIn
-  member-loaded x q = q ∙ rw record-read
+  module _ (r : List ℕ) (e : r ≡ recordIn c m) where
+    pub record-long : HasRecord c m → length r ≡ recordSize
+    unfolding recordIn
+    record-long h = rw e (length-part (recordAt m) recordSize c (h .high))
 
-  pub record-tested : (t : Bool) → HasRecord c m
-      → t ≡ soundRecord (getD c 2 0) (getD c 3 0) (part featuresAt 16 c) (part at (at + recordSize - at) c) → t ≡ soundAt (setupOf c) c m
-  record-tested t h q = q ∙ rw (record-read, gets-read c, sets-read c, features-read c (omega arith))
+    pub member-loaded : (x : Member) → x ≡ memberOf r → x ≡ memberIn c m
+    unfolding memberIn
+    member-loaded x q = q ∙ rw e
+
+    pub record-tested : (t : Bool) → HasRecord c m → t ≡ soundRecord (getD c 2 0) (getD c 3 0) (part featuresAt 16 c) r
+        → t ≡ soundAt (setupOf c) c m
+    record-tested t h q = q ∙ rw (e, gets-read c, sets-read c, features-read c (omega arith))
 
 -- ---- the pass over the members ----
 

@@ -4,7 +4,7 @@ ghost use Prim.Native.Nat.{_+_, _^_, _≤_, _<_};
 ghost use lib.Dec.{eqb};
 ghost use lib.ListN.{length};
 ghost use Rattle.protocol.specs.Opcodes.{supportedOnly};
-ghost use Rattle.card.specs.Layout.{headSize, cardSize, cardBytes, setupOf, inUseOf, withInUse, isMember, recordAt, HasRecord, memberIn, withMember};
+ghost use Rattle.card.specs.Layout.{headSize, cardSize, cardBytes, setupOf, inUseOf, withInUse, isMember, recordAt, recordIn, HasRecord, memberIn, withMember};
 ghost use Rattle.card.specs.Sound.{inNumbers, soundSetup, soundAt, soundUpTo, isSound};
 use member::Member;
 
@@ -98,13 +98,21 @@ fn record_at(m: u64) -> usize
     HEAD_SIZE + RECORD_SIZE * (m as usize - 1)
 }
 
+// The record of member m.
+pub fn record_of(card: &[u8], m: u64) -> &[u8]
+    requires { ⌜ HasRecord (now card) m ⌝ }
+    ensures { λ r. ⌜ now r ≡ recordIn (now (card .entry)) m ⌝ }
+{
+    let at = record_at(m);
+    &card[at..at + RECORD_SIZE]
+}
+
 // Member m by value, and the card with another member m.
 pub fn load_member(card: &[u8], m: u64) -> Member
     requires { ⌜ HasRecord (now card) m ⌝ }
     ensures { λ r. ⌜ r ≡ memberIn (now (card .entry)) m ⌝ }
 {
-    let at = record_at(m);
-    member::load(&card[at..at + RECORD_SIZE])
+    member::load(record_of(card, m))
 }
 
 pub fn save_member(card: &mut [u8], m: u64, x: Member)
@@ -150,9 +158,8 @@ fn is_sound_at(card: &[u8], m: u64) -> bool
     requires { ⌜ HasRecord (now card) m ⌝ }
     ensures { λ r. ⌜ r ≡ soundAt (setupOf (now (card .entry))) (now (card .entry)) m ⌝ }
 {
-    let at = record_at(m);
     member::is_sound_record(
-        &card[at..at + RECORD_SIZE],
+        record_of(card, m),
         card[2],
         card[3],
         &card[FEATURES_AT..IN_USE_AT],

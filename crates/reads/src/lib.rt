@@ -1,8 +1,10 @@
-// The commands that read a member: steps 8 to 10 of document 01's table of statuses.
+// The commands that read a member: steps 8 to 10 of document 01's table of statuses. They read its record where it
+// stands in the card.
 ghost use mathlib.Core.Path.{_≡_};
+ghost use lib.ListN.{length};
+ghost use Rattle.member.specs.Record.{recordSize, memberOf};
 ghost use Rattle.reads.specs.Reads.{refuseRead, found, queryOf, metadataOf, throughGet, selectedOf, readOf};
 use member::Found;
-use member::Member;
 use protocol::Answer;
 use protocol::Metadata;
 use protocol::ObjectKind;
@@ -42,10 +44,11 @@ fn answer_with(body: Body) -> Reading
     }
 }
 
-fn query(m: Member, id: usize) -> Reading
-    ensures { λ r. ⌜ r ≡ queryOf id m ⌝ }
+fn query(rec: &[u8], id: usize) -> Reading
+    requires { ⌜ length (now rec) ≡ recordSize ⌝ }
+    ensures { λ r. ⌜ r ≡ queryOf id (memberOf (now (rec .entry))) ⌝ }
 {
-    let Found::Live(kind) = member::lookup(m, id) else {
+    let Found::Live(kind) = member::lookup_in(rec, id) else {
         return refuse_read(Answer::NotLive);
     };
     answer_with(Body::Kind(kind))
@@ -61,10 +64,11 @@ fn metadata(what: Metadata, queues: u8) -> Body
     }
 }
 
-fn get_metadata(m: Member, id: usize, what: Metadata, queues: u8) -> Reading
-    ensures { λ r. ⌜ r ≡ throughGet id m (found (metadataOf queues what)) ⌝ }
+fn get_metadata(rec: &[u8], id: usize, what: Metadata, queues: u8) -> Reading
+    requires { ⌜ length (now rec) ≡ recordSize ⌝ }
+    ensures { λ r. ⌜ r ≡ throughGet id (memberOf (now (rec .entry))) (found (metadataOf queues what)) ⌝ }
 {
-    let Found::Live(kind) = member::lookup(m, id) else {
+    let Found::Live(kind) = member::lookup_in(rec, id) else {
         return refuse_read(Answer::NotLive);
     };
     if protocol::kind_number(kind) != 0 {
@@ -74,10 +78,11 @@ fn get_metadata(m: Member, id: usize, what: Metadata, queues: u8) -> Reading
     answer_with(body)
 }
 
-fn get_selected(m: Member, id: usize, queues: u8, list: &[u8]) -> Reading
-    ensures { λ r. ⌜ r ≡ throughGet id m (selectedOf queues (now (list .entry))) ⌝ }
+fn get_selected(rec: &[u8], id: usize, queues: u8, list: &[u8]) -> Reading
+    requires { ⌜ length (now rec) ≡ recordSize ⌝ }
+    ensures { λ r. ⌜ r ≡ throughGet id (memberOf (now (rec .entry))) (selectedOf queues (now (list .entry))) ⌝ }
 {
-    let Found::Live(kind) = member::lookup(m, id) else {
+    let Found::Live(kind) = member::lookup_in(rec, id) else {
         return refuse_read(Answer::NotLive);
     };
     if protocol::kind_number(kind) != 0 {
@@ -89,10 +94,11 @@ fn get_selected(m: Member, id: usize, queues: u8, list: &[u8]) -> Reading
     answer_with(Body::Selected)
 }
 
-fn get_all(m: Member, id: usize) -> Reading
-    ensures { λ r. ⌜ r ≡ throughGet id m (found Body.All) ⌝ }
+fn get_all(rec: &[u8], id: usize) -> Reading
+    requires { ⌜ length (now rec) ≡ recordSize ⌝ }
+    ensures { λ r. ⌜ r ≡ throughGet id (memberOf (now (rec .entry))) (found Body.All) ⌝ }
 {
-    let Found::Live(kind) = member::lookup(m, id) else {
+    let Found::Live(kind) = member::lookup_in(rec, id) else {
         return refuse_read(Answer::NotLive);
     };
     if protocol::kind_number(kind) != 0 {
@@ -102,13 +108,14 @@ fn get_all(m: Member, id: usize) -> Reading
 }
 
 // A command that reads; list holds the headers asked for.
-pub fn read(m: Member, op: ReadOp, queues: u8, list: &[u8]) -> Reading
-    ensures { λ r. ⌜ r ≡ readOf queues (now (list .entry)) op m ⌝ }
+pub fn read(rec: &[u8], op: ReadOp, queues: u8, list: &[u8]) -> Reading
+    requires { ⌜ length (now rec) ≡ recordSize ⌝ }
+    ensures { λ r. ⌜ r ≡ readOf queues (now (list .entry)) op (memberOf (now (rec .entry))) ⌝ }
 {
     match op {
-        ReadOp::QueryObject(id) => query(m, id),
-        ReadOp::GetMetadata(id, what) => get_metadata(m, id, what, queues),
-        ReadOp::GetSelected(id) => get_selected(m, id, queues, list),
-        ReadOp::GetAll(id) => get_all(m, id),
+        ReadOp::QueryObject(id) => query(rec, id),
+        ReadOp::GetMetadata(id, what) => get_metadata(rec, id, what, queues),
+        ReadOp::GetSelected(id) => get_selected(rec, id, queues, list),
+        ReadOp::GetAll(id) => get_all(rec, id),
     }
 }

@@ -111,7 +111,7 @@ fn write_metadata_list(out: &mut [u8], queues: u8)
 
 // The result, at the front of the lent tail.
 fn write_result(body: Body, queues: u8, list: &[u8], values: &[u8], out: &mut [u8])
-    requires { ⌜ (length (now values) ≡ valuesSize) × (length (resultOf queues (now list) (now values) body) ≤ length (now out)) ⌝ }
+    requires { ⌜ (queues < 5) × (length (now values) ≡ valuesSize) × (length (resultOf queues (now list) (now values) body) ≤ length (now out)) ⌝ }
     ensures { λ _. ⌜ now (out .exit) ≡ put 0 (resultOf queues (now (list .entry)) (now (values .entry)) body) (now (out .entry)) ⌝ }
 {
     match body {

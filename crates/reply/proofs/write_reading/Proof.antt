@@ -18,6 +18,7 @@ write-result-requires c κs =
     let at-head = c .before .before .before .before .before in
     let at-size = at-head .before .before .before in
     let pre = at-size .before .before .before .before .pre in (
+      pre .0,
       pre .1,
       tail-fits _ _ _ _ _ _ (at-head .before .before .settle .ensures) (c .before .before .is-done .ensures)
           (c .before .if1 .left) (at-head .write-head .ensures) _ _ _ _ (at-size .result-bytes .ensures _ (pre .1)),
