@@ -3,6 +3,7 @@ use mathlib.Core.Path.{_≡_, refl, ap, sym, _∙_}
 use mathlib.Core.Bool.{Bool, true, false, not}
 use mathlib.Core.List.{List, [], _∷_, _++_, append-assoc}
 use Prim.Native.Nat.{ℕ, zero, suc, _+_, _*_, _≤_, _<_}
+use native.Mathlib.Nat.{add-zero, add-assoc}
 use native.Mathlib.Omega.{arith}
 use borrow.Author.Tests.{eqb-true, le-leb, lt-leb}
 use lib.Dec.{leb, eqb}
@@ -17,7 +18,7 @@ use Rattle.theory.proofs.Items.{Written, written-start, written-room, written-e
 use Rattle.inventory.specs.Inventory.{Row, row, rows, rowAt, rowCount, offsetOf, valuesSize, partsSize}
 use Rattle.inventory.specs.Header.{headerOf, headerSize}
 use Rattle.inventory.proofs.Columns.{types, selectors, sizes, offsets, type-at, selector-at, size-at, offset-at, row-at}
-use Rattle.inventory.proofs.Rules.{table, every-row, every-count, row-within, length-header}
+use Rattle.inventory.proofs.Rules.{table, every-row, every-count, row-within, offset-next, length-header}
 use Rattle.capture.specs.declared.Selection.{Selection}
 use Rattle.capture.specs.declared.Selection.the-variants.{All, Asked}
 use Rattle.capture.specs.Capture.{partAt, asks, partItem, partsWritten, captureOf, RowsAlike, runOf, Wrote}
@@ -33,7 +34,17 @@ items-length item k n l i zero e = omega arith
 items-length item k n l i (suc m) e =
     rw (length-append, l i (omega arith), items-length item k n l (i + 1) m (omega arith)) (omega arith)
 
-module _ (v : List ℕ) (first count size : ℕ) (a : RowsAlike first count size) (e : length v ≡ valuesSize) where
+-- i parts are written; the next goes to `at`, and its value starts at `from`
+pub record Running (v : List ℕ) (first count b : ℕ) (out₀ out : List ℕ) (at from i : ℕ) : Type 0 where
+  pub written : Written (λ j. partAt v (first + j)) count b out₀ out at i
+  pub starts : from ≡ offsetOf (first + i)
+
+pub run-end : (v : List ℕ) (first count b : ℕ) (out₀ out : List ℕ) (at from i : ℕ) → Running v first count b out₀ out at from i → count ≤ i
+    → Wrote (runOf v first count) b out₀ out at
+run-end v first count b out₀ out at from i w h =
+    record { buffer = written-end _ _ _ _ _ _ _ (w .written) h; place = written-at _ _ _ _ _ _ _ (w .written) h }
+
+module _ (v : List ℕ) (first count size offset : ℕ) (a : RowsAlike first count size offset) (e : length v ≡ valuesSize) where
   abbrev item : ℕ → List ℕ
   item j = partAt v (first + j)
 
@@ -46,46 +57,43 @@ module _ (v : List ℕ) (first count size : ℕ) (a : RowsAlike first count size
   pub run-length : length (runOf v first count) ≡ count * (headerSize + size)
   run-length = items-length item (headerSize + size) count run-item 0 count (omega arith)
 
-  pub run-start : (b : ℕ) (out : List ℕ) → b + count * (headerSize + size) ≤ length out → Written item count b out out b 0
-  run-start b out h = written-start item count b out (omega (arith, run-length))
+  pub run-start : (b : ℕ) (out : List ℕ) → b + count * (headerSize + size) ≤ length out → Running v first count b out out b offset 0
+  run-start b out h = record { written = written-start item count b out (omega (arith, run-length)); starts = a .starts ∙ rw add-zero }
 
   -- a turn: row r is the next
-  module _ (b : ℕ) (out₀ out : List ℕ) (at i : ℕ) (w : Written item count b out₀ out at i) (h : i < count) where
-    pub run-row : first + i < rowCount
-    run-row = inside i h
-
-    sized : getD sizes (first + i) 0 ≡ size
-    sized = size-at (first + i) ∙ a .same i h
+  module _ (b : ℕ) (out₀ out : List ℕ) (at from i : ℕ) (w : Running v first count b out₀ out at from i) (h : i < count) where
+    row-there : first + i < rowCount
+    row-there = inside i h
 
     pub run-small : size ≤ 32
-    run-small = rw sized at (row-small (first + i) run-row)
+    run-small = rw (size-at (first + i), a .same i h) at (row-small (first + i) row-there)
 
-    pub run-inside : getD offsets (first + i) 0 + size ≤ length v
-    run-inside = rw sized at (row-inside (first + i) v run-row e)
+    pub run-inside : from + size ≤ valuesSize
+    run-inside = rw (w .starts, ← a .same i h) (row-within (first + i) row-there)
 
     pub run-room : at + (headerSize + size) ≤ length out
-    run-room = written-room item count b out₀ out at i w (headerSize + size) h (run-item i h)
+    run-room = written-room item count b out₀ out at i (w .written) (headerSize + size) h (run-item i h)
 
-    next-item : item i ≡ headerOf (row (getD types (first + i) 0) (getD selectors (first + i) 0) size) ++ part (getD offsets (first + i) 0) size v
+    next-item : item i ≡ headerOf (row (getD types (first + i) 0) (getD selectors (first + i) 0) size) ++ part from size v
     unfolding partAt
-    next-item = rw (← row-at (first + i), sized, offset-at (first + i) run-row)
+    next-item = rw (w .starts, type-at (first + i), selector-at (first + i), ← a .same i h)
+
+    next-starts : from + size ≡ offsetOf (first + (i + 1))
+    next-starts = rw (w .starts, ← a .same i h, ← add-assoc) (sym (offset-next (first + i) row-there))
 
     pub run-on : (out′ : List ℕ) (next : ℕ)
-        → Wrote (headerOf (row (getD types (first + i) 0) (getD selectors (first + i) 0) size) ++ part (getD offsets (first + i) 0) size v) at out out′ next
-        → Written item count b out₀ out′ next (i + 1)
-    run-on out′ next d = wrote-next item count b out₀ out out′ _ at next i w h next-item d
-
--- the whole run
-pub run-end : (v : List ℕ) (first count b : ℕ) (out₀ out : List ℕ) (at i : ℕ)
-    → Written (λ j. partAt v (first + j)) count b out₀ out at i → count ≤ i → Wrote (runOf v first count) b out₀ out at
-run-end v first count b out₀ out at i w h = record { buffer = written-end _ _ _ _ _ _ _ w h; place = written-at _ _ _ _ _ _ _ w h }
+        → Wrote (headerOf (row (getD types (first + i) 0) (getD selectors (first + i) 0) size) ++ part from size v) at out out′ next
+        → Running v first count b out₀ out′ next (from + size) (i + 1)
+    run-on out′ next d =
+        record { written = wrote-next item count b out₀ out out′ _ at next i (w .written) h next-item d; starts = next-starts }
 
 -- ---- all parts, as runs ----
 
 pub alike : (first count size : ℕ) → every (λ i r. not (leb first i) or leb (first + count) i or eqb (r .size) size) 0 rows ≡ true
-    → first + count ≤ rowCount → RowsAlike first count size
+    → first + count ≤ rowCount → RowsAlike first count size (offsetOf first)
 alike first count size t l = record {
   there = l;
+  starts = refl;
   same = λ j h.
       let k : first + j < rowCount = omega arith in
       let x = every-row (λ i r. not (leb first i) or leb (first + count) i or eqb (r .size) size) t (first + j) k in
@@ -94,8 +102,10 @@ alike first count size t l = record {
       eqb-true (rowAt (first + j) .size) size (simp (y, z, false-or) at x);
 }
 
-fewer : (first count n size : ℕ) → n ≤ count → RowsAlike first count size → RowsAlike first n size
-fewer first count n size h a = let l = a .there in record { there = omega arith; same = λ j k. a .same j (omega arith) }
+fewer : (first count n size offset : ℕ) → n ≤ count → RowsAlike first count size offset → RowsAlike first n size offset
+fewer first count n size offset h a =
+    let l = a .there in
+    record { there = omega arith; same = λ j k. a .same j (omega arith); starts = a .starts }
 
 -- the runs: features, PCI common fields by their size, device status, queues, queue notify
 abbrev pub runCount : ℕ
@@ -110,14 +120,17 @@ countOf q k = getD (2 ∷ 2 ∷ 2 ∷ 1 ∷ q ∷ q ∷ []) k 0
 abbrev pub sizeOf : ℕ → ℕ
 sizeOf k = getD (16 ∷ 4 ∷ 2 ∷ 1 ∷ 32 ∷ 8 ∷ []) k 0
 
-pub run-alike : (q k : ℕ) → q < 5 → k < runCount → RowsAlike (firstOf k) (countOf q k) (sizeOf k)
+abbrev pub startOf : ℕ → ℕ
+startOf k = getD (0 ∷ 32 ∷ 40 ∷ 44 ∷ 45 ∷ 173 ∷ []) k 0
+
+pub run-alike : (q k : ℕ) → q < 5 → k < runCount → RowsAlike (firstOf k) (countOf q k) (sizeOf k) (startOf k)
 unfolding table
 run-alike q zero f h = alike 0 2 16 refl (omega arith)
 run-alike q (suc zero) f h = alike 2 2 4 refl (omega arith)
 run-alike q (suc (suc zero)) f h = alike 4 2 2 refl (omega arith)
 run-alike q (suc (suc (suc zero))) f h = alike 6 1 1 refl (omega arith)
-run-alike q (suc (suc (suc (suc zero)))) f h = fewer 7 4 q 32 (omega arith) (alike 7 4 32 refl (omega arith))
-run-alike q (suc (suc (suc (suc (suc zero))))) f h = fewer 11 4 q 8 (omega arith) (alike 11 4 8 refl (omega arith))
+run-alike q (suc (suc (suc (suc zero)))) f h = fewer 7 4 q 32 45 (omega arith) (alike 7 4 32 refl (omega arith))
+run-alike q (suc (suc (suc (suc (suc zero))))) f h = fewer 11 4 q 8 173 (omega arith) (alike 11 4 8 refl (omega arith))
 run-alike q (suc (suc (suc (suc (suc (suc k)))))) f h = absurd (omega arith)
 
 abbrev pub run : ℕ → List ℕ → ℕ → List ℕ
@@ -152,7 +165,7 @@ module _ {q : ℕ} {v out₀ : List ℕ} (p : Ready q v out₀) where
     pub next-fits : at + countOf q k * (headerSize + sizeOf k) ≤ length out
     next-fits =
         written-room _ _ _ _ _ _ _ (w .written) _ h
-        (run-length v (firstOf k) (countOf q k) (sizeOf k) (run-alike q k (p .few) h) (p .long))
+        (run-length v (firstOf k) (countOf q k) (sizeOf k) (startOf k) (run-alike q k (p .few) h) (p .long))
 
     pub upto-next : {out′ : List ℕ} {next : ℕ} → Wrote (run q v k) at out out′ next → Upto q v out₀ (k + 1) out′ next
     upto-next d = record { written = wrote-next _ _ _ _ _ _ _ _ _ _ (w .written) h refl d }

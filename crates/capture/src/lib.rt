@@ -74,7 +74,8 @@ fn write_part(
 
 // ---- all parts ----
 
-// The parts of `count` rows from `first` on, whose values are all of one size.
+// The parts of `count` rows from `first` on, whose values are all of one size and start at `offset`. Each value is where
+// the one before it ends.
 fn write_run(
     out: &mut [u8],
     at: usize,
@@ -82,18 +83,20 @@ fn write_run(
     first: usize,
     count: usize,
     size: u8,
+    offset: u8,
 ) -> usize
-    requires { ⌜ RowsAlike first count size × (length (now values) ≡ valuesSize) × (at + count * (headerSize + size) ≤ length (now out)) ⌝ }
+    requires { ⌜ RowsAlike first count size offset × (length (now values) ≡ valuesSize) × (at + count * (headerSize + size) ≤ length (now out)) ⌝ }
     ensures { λ r. ⌜ Wrote (runOf (now (values .entry)) first count) at (now (out .entry)) (now (out .exit)) r ⌝ }
 {
     let types = inventory::TYPES;
     let selectors = inventory::SELECTORS;
-    let offsets = inventory::OFFSETS;
     let mut end = at;
+    let mut from = offset;
     let mut i = 0;
     while i < count {
         let r = first + i;
-        end = write_part(out, end, values, types[r], selectors[r], size, offsets[r]);
+        end = write_part(out, end, values, types[r], selectors[r], size, from);
+        from += size;
         i += 1;
     }
     end
@@ -105,12 +108,12 @@ fn write_all(out: &mut [u8], values: &[u8], queues: u8)
     ensures { λ _. ⌜ now (out .exit) ≡ put 0 (captureOf queues (now (values .entry))) (now (out .entry)) ⌝ }
 {
     let n = queues as usize;
-    let mut at = write_run(out, 0, values, 0, 2, 16);
-    at = write_run(out, at, values, 2, 2, 4);
-    at = write_run(out, at, values, 4, 2, 2);
-    at = write_run(out, at, values, 6, 1, 1);
-    at = write_run(out, at, values, 7, n, 32);
-    write_run(out, at, values, 11, n, 8);
+    let mut at = write_run(out, 0, values, 0, 2, 16, 0);
+    at = write_run(out, at, values, 2, 2, 4, 32);
+    at = write_run(out, at, values, 4, 2, 2, 40);
+    at = write_run(out, at, values, 6, 1, 1, 44);
+    at = write_run(out, at, values, 7, n, 32, 45);
+    write_run(out, at, values, 11, n, 8, 173);
 }
 
 // ---- the parts that a list asks for ----

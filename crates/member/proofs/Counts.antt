@@ -69,19 +69,17 @@ none-counted gets sets = and-i _ _ (le-leb 0 gets (omega arith)) (le-leb 0 sets 
 -- ---- a loop that counts ----
 
 -- n of the first i bytes are v
-module _ (v : ℕ) (bs : List ℕ) (i n k : ℕ) (e : count v bs ≡ n + count v (drop i bs)) (l : length bs ≡ k) where
-  pub count-on : (h : ℕ) → h ≡ one (eqb (getD bs i 0) v) → i < k → count v bs ≡ (n + h) + count v (drop (i + 1) bs)
+module _ (v : ℕ) (bs : List ℕ) (i n : ℕ) (e : count v bs ≡ n + count v (drop i bs)) where
+  pub count-on : (h : ℕ) → h ≡ one (eqb (getD bs i 0) v) → i < length bs → count v bs ≡ (n + h) + count v (drop (i + 1) bs)
   unfolding count
   count-on h q a =
-      let b : i < length bs = omega arith in
-      let x : count v (drop i bs) ≡ h + count v (drop (i + 1) bs) = rw (drop-cons bs i 0 b, add-one i, q) in
+      let x : count v (drop i bs) ≡ h + count v (drop (i + 1) bs) = rw (drop-cons bs i 0 a, add-one i, q) in
       omega arith
 
-  pub counted : k ≤ i → n ≡ count v bs
+  pub counted : length bs ≤ i → n ≡ count v bs
   unfolding count
   counted a =
-      let b : length bs ≤ i = omega arith in
-      let z : count v (drop i bs) ≡ 0 = rw (drop-of-length-le bs b) in
+      let z : count v (drop i bs) ≡ 0 = rw (drop-of-length-le bs a) in
       omega arith
 
 -- of the bytes up to 2, the odd one is 1, and the one with a half is 2
@@ -115,11 +113,11 @@ hit-le t h e = rw e (one-le t)
 -- ---- a loop that tests each byte from a place on ----
 
 -- all is what was found of those before i
-module _ (n from : ℕ) (bs : List ℕ) (i k : ℕ) (all : Bool) (e : allUpTo n (drop from bs) ≡ all and allUpTo n (drop i bs)) (l : length bs ≡ k) where
-  pub up-to-on : (x : Bool) → x ≡ all and leb (getD bs i 0) n → i < k → allUpTo n (drop from bs) ≡ x and allUpTo n (drop (i + 1) bs)
+module _ (n from : ℕ) (bs : List ℕ) (i : ℕ) (all : Bool) (e : allUpTo n (drop from bs) ≡ all and allUpTo n (drop i bs)) where
+  pub up-to-on : (x : Bool) → x ≡ all and leb (getD bs i 0) n → i < length bs → allUpTo n (drop from bs) ≡ x and allUpTo n (drop (i + 1) bs)
   unfolding allUpTo
-  up-to-on x q a = let b : i < length bs = omega arith in e ∙ rw (drop-cons bs i 0 b, add-one i, q, and-assoc)
+  up-to-on x q a = e ∙ rw (drop-cons bs i 0 a, add-one i, q, and-assoc)
 
-  pub up-to-end : k ≤ i → all ≡ allUpTo n (drop from bs)
+  pub up-to-end : length bs ≤ i → all ≡ allUpTo n (drop from bs)
   unfolding allUpTo
-  up-to-end a = let b : length bs ≤ i = omega arith in sym (e ∙ rw (drop-of-length-le bs b) (and-true all))
+  up-to-end a = sym (e ∙ rw (drop-of-length-le bs a) (and-true all))

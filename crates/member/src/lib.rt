@@ -11,7 +11,7 @@ ghost use Rattle.inventory.specs.Inventory.{valuesSize};
 ghost use Rattle.parts.specs.declared.ListForm.the-variants.{Parts};
 ghost use Rattle.parts.specs.List.{partsOf};
 ghost use Rattle.values.specs.Apply.{applied};
-ghost use Rattle.member.specs.Record.{valuesAt, recordSize, modeOf, modeByte, objectOf, objectByte, objectBytes, memberOf, recordOf};
+ghost use Rattle.member.specs.Record.{objectsSize, valuesAt, recordSize, modeOf, modeByte, objectOf, objectByte, objectBytes, memberOf, recordOf};
 ghost use Rattle.member.specs.Objects.{free, slotFor, foundIn, lookupOf, withObject, count, allUpTo, withinLimits, roomIn};
 ghost use Rattle.member.specs.Member.{freshOf, withMode, withValues, withPart};
 ghost use Rattle.member.specs.Sound.{soundRecord};
@@ -121,7 +121,7 @@ fn object_bytes(objects: [ObjectRecord; IDS]) -> [u8; IDS]
     bytes
 }
 
-// ---- counting object bytes, without branches ----
+// ---- counting object bytes, without branches, where they stand in the record ----
 
 // 1 if the byte is v, else 0: of the bytes up to 2, 1 is the odd one and 2 the one that has a half. A sum of these is a
 // few vector additions; of the answers to a test it would be many more steps.
@@ -132,22 +132,22 @@ fn hit(b: u8, v: u8) -> u8
     if v == 1 { b % 2 } else { b / 2 }
 }
 
-fn count_of(v: u8, bytes: [u8; IDS]) -> u8
-    requires { ⌜ (allUpTo 2 bytes ≡ true) × (1 ≤ v) × (v ≤ 2) ⌝ }
-    ensures { λ r. ⌜ r ≡ count v bytes ⌝ }
+fn count_of(v: u8, bytes: &[u8]) -> u8
+    requires { ⌜ (length (now bytes) ≡ objectsSize) × (allUpTo 2 (now bytes) ≡ true) × (1 ≤ v) × (v ≤ 2) ⌝ }
+    ensures { λ r. ⌜ r ≡ count v (now (bytes .entry)) ⌝ }
 {
     let mut n: u8 = 0;
     let mut i = 0;
-    while i < IDS {
+    while i < bytes.len() {
         n += hit(bytes[i], v);
         i += 1;
     }
     n
 }
 
-fn is_within_limits(bytes: [u8; IDS], gets: u8, sets: u8) -> bool
-    requires { ⌜ allUpTo 2 bytes ≡ true ⌝ }
-    ensures { λ r. ⌜ r ≡ withinLimits gets sets bytes ⌝ }
+fn is_within_limits(bytes: &[u8], gets: u8, sets: u8) -> bool
+    requires { ⌜ (length (now bytes) ≡ objectsSize) × (allUpTo 2 (now bytes) ≡ true) ⌝ }
+    ensures { λ r. ⌜ r ≡ withinLimits gets sets (now (bytes .entry)) ⌝ }
 {
     if gets < count_of(1, bytes) {
         return false;
@@ -162,20 +162,21 @@ fn still_up_to(all: bool, b: u8, n: u8) -> bool
 }
 
 // Whether each byte from an id on is at most n: every one is looked at, the loop has no early exit.
-fn are_up_to(n: u8, from: usize, bytes: [u8; IDS]) -> bool
-    ensures { λ r. ⌜ r ≡ allUpTo n (drop from bytes) ⌝ }
+fn are_up_to(n: u8, from: usize, bytes: &[u8]) -> bool
+    ensures { λ r. ⌜ r ≡ allUpTo n (drop from (now (bytes .entry))) ⌝ }
 {
     let mut all = true;
     let mut i = from;
-    while i < IDS {
+    while i < bytes.len() {
         all = still_up_to(all, bytes[i], n);
         i += 1;
     }
     all
 }
 
-fn are_objects_sound(bytes: [u8; IDS], gets: u8, sets: u8) -> bool
-    ensures { λ r. ⌜ r ≡ allUpTo 2 bytes and allUpTo 0 (drop (gets + sets) bytes) and withinLimits gets sets bytes ⌝ }
+fn are_objects_sound(bytes: &[u8], gets: u8, sets: u8) -> bool
+    requires { ⌜ length (now bytes) ≡ objectsSize ⌝ }
+    ensures { λ r. ⌜ r ≡ allUpTo 2 (now (bytes .entry)) and allUpTo 0 (drop (gets + sets) (now (bytes .entry))) and withinLimits gets sets (now (bytes .entry)) ⌝ }
 {
     if !are_up_to(2, 0, bytes) {
         return false;
@@ -286,7 +287,7 @@ pub fn has_room(m: Member, gets: u8, sets: u8) -> bool
 {
     let objects = m.objects;
     let bytes = object_bytes(objects);
-    is_within_limits(bytes, gets, sets)
+    is_within_limits(&bytes, gets, sets)
 }
 
 // ---- the record ----
@@ -351,7 +352,7 @@ pub fn is_sound_record(rec: &[u8], gets: u8, sets: u8, features: &[u8]) -> bool
     if 1 < rec[0] {
         return false;
     }
-    if !are_objects_sound(object_bytes_in(rec), gets, sets) {
+    if !are_objects_sound(&rec[OBJECTS_AT..VALUES_AT], gets, sets) {
         return false;
     }
     wire::equal(&rec[VALUES_AT..FEATURES_END], features)

@@ -1,46 +1,51 @@
 -- `capture::write_run` meets its contract. The invariant: the parts left, put where the next goes, give the run. Assumes
 -- nothing.
-use Prim.Native.Nat.{_+_, _-_}
+use Prim.Native.Nat.{_-_}
 use native.Mathlib.Omega.{arith}
 use borrow.Author.Needs.{needs}
-use Rattle.theory.proofs.Items.{Written}
 use Rattle.inventory.specs.Inventory.{rows}
-use Rattle.capture.specs.Capture.{partAt}
-use Rattle.capture.proofs.Runs.{run-start, run-row, run-small, run-inside, run-room, run-on, run-end}
+use Rattle.capture.proofs.Runs.{Running, run-start, run-small, run-inside, run-room, run-on, run-end}
 use Rattle.capture.proofs.write_run.Statement.{statement}
 use Rattle.capture.proofs.write_run.Tie as tie
 
 abbrev Inv-loop : tie.InvT-loop
-Inv-loop out₀ at values first count size types selectors offsets end₀ i₀ out end i =
-    Written (λ j. partAt values (first + j)) count at out₀ out end i
+Inv-loop out₀ at values first count size offset types selectors end₀ from₀ i₀ out end from i =
+    Running values first count at out₀ out end from i
 
 abbrev μ-loop : tie.MeasureT-loop
-μ-loop out₀ at values first count size types selectors offsets end₀ i₀ out end i = count - i
+μ-loop out₀ at values first count size offset types selectors end₀ from₀ i₀ out end from i = count - i
 
 loop-holds : tie.Need-loop-holds Inv-loop μ-loop
-loop-holds c = let p = c .before .before .pre in run-start _ _ _ _ (p .0) (p .1) _ _ (p .2)
+loop-holds c = let p = c .before .before .pre in run-start _ _ _ _ _ (p .0) (p .1) _ _ (p .2)
 
 write-part-requires : tie.Need-write-part-requires Inv-loop μ-loop
-unfolding rows
 write-part-requires c κs =
     let p = c .before .before .before .before .before .pre in
     let w = c .before .before .loop .inv in
-    let h = c .before .loop-test .taken in (
-      run-small _ _ _ _ (p .0) (p .1) _ _ _ _ _ w h,
-      run-inside _ _ _ _ (p .0) (p .1) _ _ _ _ _ w h,
-      run-room _ _ _ _ (p .0) (p .1) _ _ _ _ _ w h,
+    let h = c .before .loop-test .taken in
+    let l = run-inside _ _ _ _ _ (p .0) (p .1) _ _ _ _ _ _ w h in (
+      run-small _ _ _ _ _ (p .0) (p .1) _ _ _ _ _ _ w h,
+      omega (arith, l, p .1),
+      run-room _ _ _ _ _ (p .0) (p .1) _ _ _ _ _ _ w h,
     )
+
+add-from : tie.Need-add-from Inv-loop μ-loop
+add-from c =
+    let at-test = c .before .before .before .before in
+    let p = at-test .before .before .before .before .pre in
+    let l = run-inside _ _ _ _ _ (p .0) (p .1) _ _ _ _ _ _ (at-test .before .loop .inv) (at-test .loop-test .taken) in
+    omega arith
 
 loop-again : tie.Need-loop-again Inv-loop μ-loop
 unfolding rows
 loop-again c =
     let at-test = c .before .before .before .before in
     let p = at-test .before .before .before .before .pre in
-    run-on _ _ _ _ (p .0) (p .1) _ _ _ _ _ (at-test .before .loop .inv) (at-test .loop-test .taken) _ _ (c .before .before .write-part .ensures)
+    run-on _ _ _ _ _ (p .0) (p .1) _ _ _ _ _ _ (at-test .before .loop .inv) (at-test .loop-test .taken) _ _ (c .before .before .write-part .ensures)
 
 pub write-run-spec : {M : Type 1} → statement M
 write-run-spec =
     tie.close
     (tie.spec Inv-loop μ-loop loop-holds (λ c. omega arith) (λ c. omega arith) (λ c. omega arith) (λ c. omega arith)
-    (λ c. omega arith) write-part-requires (λ c. omega arith) (λ c. omega arith) loop-again (λ c. search needs)
+    write-part-requires add-from (λ c. omega arith) (λ c. omega arith) loop-again (λ c. search needs)
     (λ c. search (needs, run-end)))

@@ -8,4 +8,4 @@ pub are-objects-sound-spec : {M : Type 1} → statement M
 are-objects-sound-spec =
     tie.close
     (tie.spec (λ c κs. search needs) (λ c. search ladder) (λ c. search needs) (λ c κs. search needs)
-    (λ c. search ladder) (λ c κs. search (needs, all-found)) (λ c. search ladder))
+    (λ c. search ladder) (λ c κs. (search needs, search (needs, all-found))) (λ c. search ladder))

@@ -1,7 +1,7 @@
 use mathlib.Core.Path.{_≡_, sym}
 use Prim.Native.Nat.{_-_}
 use borrow.Author.Needs.{needs}
-use lib.ListN.{drop}
+use lib.ListN.{length, drop}
 use Rattle.theory.specs.Logic.{_and_}
 use Rattle.theory.proofs.Tests.{true-and}
 use Rattle.member.specs.Objects.{allUpTo}
@@ -13,7 +13,7 @@ abbrev Inv-loop : tie.InvT-loop
 Inv-loop n from bytes all₀ i₀ all i = allUpTo n (drop from bytes) ≡ all and allUpTo n (drop i bytes)
 
 abbrev μ-loop : tie.MeasureT-loop
-μ-loop n from bytes all₀ i₀ all i = 16 - i
+μ-loop n from bytes all₀ i₀ all i = length bytes - i
 
 pub are-up-to-spec : {M : Type 1} → statement M
 are-up-to-spec =

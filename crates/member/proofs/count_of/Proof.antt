@@ -3,16 +3,17 @@ use native.Mathlib.Omega.{arith}
 use mathlib.Core.Path.{_≡_}
 use Prim.Native.Nat.{_+_, _-_, _≤_}
 use lib.ListN.{drop}
+use Rattle.member.specs.Record.{objectsSize}
 use Rattle.member.specs.Objects.{count}
 use Rattle.member.proofs.Counts.{count-on, counted, hit-le, all-at}
 use Rattle.member.proofs.count_of.Statement.{statement}
 use Rattle.member.proofs.count_of.Tie as tie
 
 abbrev Inv-loop : tie.InvT-loop
-Inv-loop v bytes n₀ i₀ n i = (i ≤ 16) × (n ≤ i) × (count v bytes ≡ n + count v (drop i bytes))
+Inv-loop v bytes n₀ i₀ n i = (i ≤ objectsSize) × (n ≤ i) × (count v bytes ≡ n + count v (drop i bytes))
 
 abbrev μ-loop : tie.MeasureT-loop
-μ-loop v bytes n₀ i₀ n i = 16 - i
+μ-loop v bytes n₀ i₀ n i = objectsSize - i
 
 add-n : tie.Need-add-n Inv-loop μ-loop
 add-n c = let h : c .hit .result ≤ 1 = search (needs, hit-le) in omega arith

@@ -7,4 +7,4 @@ returns : tie.Need-returns
 returns c = cc
 
 pub has-room-spec : {M : Type 1} → statement M
-has-room-spec = tie.close (tie.spec (λ c κs. search needs) (λ c κs. search (needs, bytes-low)) returns)
+has-room-spec = tie.close (tie.spec (λ c κs. search needs) (λ c. search needs) (λ c κs. (search needs, search (needs, bytes-low))) returns)

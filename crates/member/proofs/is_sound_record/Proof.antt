@@ -6,6 +6,6 @@ use Rattle.member.proofs.is_sound_record.Tie as tie
 pub is-sound-record-spec : {M : Type 1} → statement M
 is-sound-record-spec =
     tie.close
-    (tie.spec (λ c. search needs) (λ c. search (needs, bad-mode)) (λ c κs. search needs) (λ c κs. search needs)
+    (tie.spec (λ c. search needs) (λ c. search (needs, bad-mode)) (λ c. search needs) (λ c. search needs) (λ c. search needs) (λ c κs. search needs)
     (λ c. search (needs, bad-objects)) (λ c. search needs) (λ c. search needs) (λ c. search needs) (λ c κs. search needs)
     (λ c. search (needs, sound-rest)))

@@ -14,4 +14,4 @@ unfolding withinLimits
 returns-2 c = search ladder
 
 pub is-within-limits-spec : {M : Type 1} → statement M
-is-within-limits-spec = tie.close (tie.spec (λ c κs. (search needs, omega arith, omega arith)) returns (λ c κs. (search needs, omega arith, omega arith)) returns-2)
+is-within-limits-spec = tie.close (tie.spec (λ c κs. (search needs, search needs, omega arith, omega arith)) returns (λ c κs. (search needs, search needs, omega arith, omega arith)) returns-2)
