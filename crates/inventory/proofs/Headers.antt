@@ -1,48 +1,61 @@
 -- The header of a row's part, as the code makes it and as it is read back. Assumes nothing.
-use mathlib.Core.Path.{_≡_, refl, ap}
+use mathlib.Core.Path.{_≡_, refl, ap, sym, _∙_}
 use mathlib.Core.Bool.{Bool, true, false}
-use mathlib.Core.List.{List, [], _∷_, _++_}
-use Prim.Native.Nat.{ℕ, zero, suc, _/_, _%_, _<_, _^_}
+use mathlib.Core.List.{List, [], _∷_, _++_, append-assoc}
+use Prim.Native.Nat.{ℕ, _+_, _*_, _≤_, _<_, _^_}
 use native.Mathlib.Omega.{arith}
 use mir.Val.{boolByte}
 use lib.Dec.{eqb}
-use lib.ListN.{getD, replicate}
+use lib.ListN.{getD}
 use Rattle.theory.specs.Logic.{one}
+use Rattle.theory.specs.Bytes.{put}
+use Rattle.theory.proofs.Tests.{one-le}
+use Rattle.theory.proofs.Bytes.{put-append}
 use Rattle.wire.specs.Le.{bytes, number}
-use Rattle.wire.proofs.Le.{le-bytes}
+use Rattle.wire.proofs.Le.{le-bytes, bytes-append}
 use Rattle.inventory.specs.Inventory.{row, rowAt, rowCount, deviceFeatures}
 use Rattle.inventory.specs.Header.{headerOf, flagsOf}
 use Rattle.inventory.proofs.Rules.{type-below, selector-below, size-below}
 
--- ---- made ----
+-- ---- made of two words ----
 
-bytes-zero : (n : ℕ) → bytes n 0 ≡ replicate n 0
-unfolding bytes
-bytes-zero zero = refl
-bytes-zero (suc n) = ap (0 ∷_) (bytes-zero n)
-
--- a number of one byte
-bytes-small : (n x : ℕ) → x < 256 → bytes (suc n) x ≡ x ∷ replicate n 0
-unfolding bytes
-bytes-small n x h =
-    let low : x % 256 ≡ x = omega arith in
-    let high : x / 256 ≡ 0 = omega arith in
-    rw (low, high) (ap (x ∷_) (bytes-zero n))
-
-bytes-two : (x : ℕ) → x < 2 ^ 16 → bytes 2 x ≡ x % 256 ∷ x / 256 ∷ []
-unfolding bytes
-bytes-two x h = let high : x / 256 % 256 ≡ x / 256 = omega arith in rw high
-
-flags-byte : (b : Bool) → boolByte b ≡ one b
+pub flags-byte : (b : Bool) → boolByte b ≡ one b
 unfolding one
 flags-byte true = refl
 flags-byte false = refl
 
-pub header-made : (t s n : ℕ) → t < 2 ^ 16 → s < 256 → n < 256
-    → t % 256 ∷ t / 256 ∷ boolByte (eqb t deviceFeatures) ∷ 0 ∷ s ∷ 0 ∷ 0 ∷ 0 ∷ 0 ∷ 0 ∷ 0 ∷ 0 ∷ n ∷ 0 ∷ 0 ∷ 0 ∷ []
-    ≡ headerOf (row t s n)
-unfolding headerOf
-header-made t s n h k l = rw (bytes-two t h, bytes-small 7 s k, bytes-small 3 n l, ← flags-byte (eqb t deviceFeatures))
+pub flags-low : (b : Bool) → boolByte b ≤ 1
+flags-low b = rw (flags-byte b) (one-le b)
+
+flags-two : (b : Bool) → bytes 2 (one b) ≡ one b ∷ 0 ∷ []
+unfolding bytes one
+flags-two true = refl
+flags-two false = refl
+
+module _ (t s n : ℕ) (h : t < 2 ^ 16) (k : s < 256) where
+  abbrev flags : ℕ
+  flags = one (eqb t deviceFeatures)
+
+  first-word : bytes 8 (t + 2 ^ 16 * (flags + 2 ^ 16 * s)) ≡ bytes 2 t ++ (flags ∷ 0 ∷ bytes 4 s)
+  first-word =
+      bytes-append 2 6 t (flags + 2 ^ 16 * s) h
+      ∙ ap (bytes 2 t ++_) (bytes-append 2 4 flags s (omega (arith, one-le (eqb t deviceFeatures))) ∙ rw (flags-two (eqb t deviceFeatures)))
+
+  second-word : bytes 8 (2 ^ 32 * n) ≡ bytes 4 0 ++ bytes 4 n
+  second-word = ap (bytes 8) (omega arith) ∙ bytes-append 4 4 0 n (omega arith)
+
+  selector-wide : bytes 8 s ≡ bytes 4 s ++ bytes 4 0
+  selector-wide = ap (bytes 8) (omega arith) ∙ bytes-append 4 4 s 0 (omega arith)
+
+  header-is : bytes 8 (t + 2 ^ 16 * (flags + 2 ^ 16 * s)) ++ bytes 8 (2 ^ 32 * n) ≡ headerOf (row t s n)
+  unfolding headerOf
+  header-is = rw (first-word, second-word, selector-wide) (simp append-assoc)
+
+  pub header-put : (at : ℕ) (out out₁ out₂ : List ℕ) (w : ℕ) → w ≡ t + 2 ^ 16 * (flags + 2 ^ 16 * s)
+      → out₁ ≡ put at (bytes 8 w) out → out₂ ≡ put (at + 8) (bytes 8 (2 ^ 32 * n)) out₁ → out₂ ≡ put at (headerOf (row t s n)) out
+  unfolding bytes
+  header-put at out out₁ out₂ w e p q =
+      q ∙ rw (p, e, ← header-is) (sym (put-append at (bytes 8 (t + 2 ^ 16 * (flags + 2 ^ 16 * s))) (bytes 8 (2 ^ 32 * n)) out))
 
 -- ---- read back from the front of a list ----
 

@@ -1,10 +1,12 @@
 // The inventory of a member's parts: constant tables, and the place of a part in them. A loop over the rows binds the
 // tables first, since each read of a constant table builds it anew.
 ghost use mathlib.Core.Path.{_≡_};
-ghost use Prim.Native.Nat.{_+_, _≤_, _<_};
+ghost use Prim.Native.Nat.{_+_, _*_, _^_, _≤_, _<_};
+ghost use lib.Dec.{eqb};
 ghost use lib.ListN.{length};
+ghost use Rattle.theory.specs.Logic.{one};
 ghost use Rattle.theory.specs.Bytes.{put};
-ghost use Rattle.inventory.specs.Inventory.{row, rowAt, rowCount, offsetOf, present, selectorOf, isRow, placeOf, partCount, partsSize};
+ghost use Rattle.inventory.specs.Inventory.{row, rowAt, rowCount, deviceFeatures, offsetOf, present, selectorOf, isRow, placeOf, partCount, partsSize};
 ghost use Rattle.inventory.specs.Header.{headerOf, headerSize};
 
 pub const TYPES: [u16; 15] = [
@@ -129,26 +131,21 @@ pub fn place_of(queues: u8, t: u16, selector: u64) -> Place
     Place::Absent
 }
 
-// The header of a row's part. No row's selector or size takes more than a byte.
-fn header(row_type: u16, row_selector: u8, size: u8) -> [u8; 16]
-    ensures { λ r. ⌜ r ≡ headerOf (row «row_type» «row_selector» size) ⌝ }
+// The first eight bytes of a header, as a number: type, flags and selector, which takes no more than a byte.
+fn first_word(row_type: u16, row_selector: u8) -> u64
+    ensures { λ r. ⌜ r ≡ «row_type» + 2 ^ 16 * (one (eqb «row_type» deviceFeatures) + 2 ^ 16 * «row_selector») ⌝ }
 {
-    let mut h = [0u8; 16];
-    h[0] = (row_type % 256) as u8;
-    h[1] = (row_type / 256) as u8;
-    h[2] = (row_type == 0x100) as u8;
-    h[4] = row_selector;
-    h[12] = size;
-    h
+    let flags = (row_type == 0x100) as u64;
+    row_type as u64 + 0x1_0000 * (flags + 0x1_0000 * (row_selector as u64))
 }
 
-// That header, written at a place.
+// The header of a row's part, written at a place: two words, which are two stores.
 pub fn write_header(out: &mut [u8], at: usize, row_type: u16, row_selector: u8, size: u8)
     requires { ⌜ at + headerSize ≤ length (now out) ⌝ }
     ensures { λ _. ⌜ now (out .exit) ≡ put at (headerOf (row «row_type» «row_selector» size)) (now (out .entry)) ⌝ }
 {
-    let h = header(row_type, row_selector, size);
-    wire::copy(out, at, &h);
+    wire::write(out, at, 8, first_word(row_type, row_selector));
+    wire::write(out, at + 8, 8, 0x1_0000_0000 * (size as u64));
 }
 
 // The number of parts that a member with so many queues has.

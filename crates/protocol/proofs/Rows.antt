@@ -4,13 +4,13 @@ use mathlib.Core.Bool.{Bool, true, false, not}
 use mathlib.Core.List.{List, [], _∷_, map}
 use Prim.Native.Nat.{ℕ, zero, suc, _-_, max, _%_, _^_, _<_, _≤_}
 use native.Mathlib.Omega.{arith}
-use borrow.Author.Tests.{ltb-true, le-leb, lt-leb}
+use borrow.Author.Tests.{ltb-true, le-ltb, le-leb, lt-leb, eqb-true, eq-eqb}
 use mir.Syntax.{Width}
 use mir.Val.{Fits, bits}
 use lib.Dec.{T, leb, ltb, eqb, leb→le, ltb→lt}
 use lib.ListN.{getD, List·getD-map, List·getD-eq-default}
 use Rattle.theory.specs.Logic.{_and_, _or_, within}
-use Rattle.theory.proofs.Tests.{by-cases, both, within-low, above, or-i, tests}
+use Rattle.theory.proofs.Tests.{by-cases, both, within-low, above, or-i, false-or, tests}
 use Rattle.theory.proofs.Table.{every, at}
 use Rattle.protocol.specs.Opcodes.{OpcodeRow, unsupported, opcodeRows, opcodeRow, supported, lengthFits, namesMember}
 
@@ -53,8 +53,13 @@ module _ (op : ℕ) where
         (λ e. let z : _≡_ {A = ℕ} 0 1 = cc (supported-out (ltb-true 17 op e)) in omega arith)
         (λ e. omega tests)
 
-    pub unit-positive : 0 < getD units op 0
-    unit-positive = ltb-true 0 _ (supported-in ∙ s)
+    -- a unit that is not a byte is a header
+    unit-header : (getD units op 0 ≡ 1 → ⊥) → getD units op 0 ≡ 16
+    unfolding every _and_ _or_ opcodeRows
+    unit-header e =
+        let p : 0 < getD units op 0 = ltb-true 0 _ (supported-in ∙ s) in
+        let b : ltb (getD units op 0) 2 ≡ false = le-ltb (getD units op 0) 2 (omega arith) in
+        eqb-true _ _ (simp (b, false-or) at (at (λ (k unit : ℕ). ltb unit 2 or eqb unit 16) 0 units refl op supported-below))
 
   -- the data's length
   module _ (n : ℕ) where
@@ -66,10 +71,18 @@ module _ (op : ℕ) where
     unfolding lengthFits within _and_
     too-long l h = rw (← least-is, ← most-is, le-leb _ _ l, lt-leb _ _ h)
 
-    pub in-steps : getD leasts op 0 ≤ n → n ≤ getD mosts op 0
-        → eqb ((n - getD leasts op 0) % getD units op 0) 0 ≡ lengthFits op n
-    unfolding lengthFits within _and_
-    in-steps l h = rw (← least-is, ← most-is, ← unit-is, le-leb _ _ l, le-leb _ _ h)
+    module _ (l : getD leasts op 0 ≤ n) (h : n ≤ getD mosts op 0) where
+      in-steps : eqb ((n - getD leasts op 0) % getD units op 0) 0 ≡ lengthFits op n
+      unfolding lengthFits within _and_
+      in-steps = rw (← least-is, ← most-is, ← unit-is, le-leb _ _ l, le-leb _ _ h)
+
+      pub any-length : getD units op 0 ≡ 1 → true ≡ lengthFits op n
+      any-length e =
+          let z : (n - getD leasts op 0) % getD units op 0 ≡ 0 = rw e (omega arith) in
+          sym (eq-eqb _ 0 z) ∙ in-steps
+
+      pub whole-headers : supported op ≡ true → (getD units op 0 ≡ 1 → ⊥) → eqb ((n - getD leasts op 0) % 16) 0 ≡ lengthFits op n
+      whole-headers s e = rw (← unit-header s e) in-steps
 
 -- data of the right length for opcode o is at least k bytes long, where k is at most the row's least
 pub data-long : (op o n k : ℕ) → lengthFits op n ≡ true → op ≡ o

@@ -135,7 +135,8 @@ pub fn kind_number(kind: ObjectKind) -> u8
     }
 }
 
-// The rows of the opcodes 0x00 to 0x11: data is from LEAST to MOST bytes long, in steps of UNIT; no unit: not supported.
+// The rows of the opcodes 0x00 to 0x11: data is from LEAST to MOST bytes long, in steps of UNIT, which is 1 or 16 bytes;
+// no unit: not supported.
 const LEAST: [u16; 18] = [0, 8, 0, 0, 0, 0, 0, 0, 0, 0, 24, 24, 16, 8, 16, 16, 8, 1];
 
 const MOST: [u16; 18] = [
@@ -181,7 +182,10 @@ pub fn length_fits(op: usize, n: usize) -> bool
     if (MOST[op] as usize) < n {
         return false;
     }
-    (n - least) % (UNIT[op] as usize) == 0
+    if UNIT[op] == 1 {
+        return true;
+    }
+    (n - least) % 16 == 0
 }
 
 // The commands that name a member: 0x0a to 0x11.

@@ -1,8 +1,8 @@
 -- The laws of `le`, `bytes` and `number`, each once, over the width. Assumes nothing.
 use mathlib.Core.Path.{_≡_, refl, ap, _∙_}
-use mathlib.Core.List.{List, [], _∷_}
+use mathlib.Core.List.{List, [], _∷_, _++_}
 use Prim.Native.Nat.{ℕ, zero, suc, _+_, _*_, _/_, _%_, _^_, _≤_, _<_}
-use native.Mathlib.Nat.{pow-succ'}
+use native.Mathlib.Nat.{zero-add, suc-add, pow-succ'}
 use native.Mathlib.Numerals.{add-one}
 use native.Mathlib.Omega.{arith}
 use lib.ListN.{length, getD, take, drop}
@@ -22,6 +22,19 @@ pub le-bytes : (n x : ℕ) → x < 256 ^ n → le (bytes n x) ≡ x
 unfolding bytes le
 le-bytes zero x h = omega arith
 le-bytes (suc n) x h = rw (le-bytes n (x / 256) (let k = rw pow-succ' at h in omega arith)) (omega arith)
+
+-- a number over another: the low bytes, then the high ones
+pub bytes-append : (n m x y : ℕ) → x < 256 ^ n → bytes (n + m) (x + 256 ^ n * y) ≡ bytes n x ++ bytes m y
+unfolding bytes
+bytes-append zero m x y h =
+    let e : x + 256 ^ 0 * y ≡ y = omega arith in
+    rw (e, zero-add)
+bytes-append (suc n) m x y h =
+    let p : 256 ^ suc n * y ≡ 256 * (256 ^ n * y) = rw pow-succ' (omega arith) in
+    let low : (x + 256 ^ suc n * y) % 256 ≡ x % 256 = omega arith in
+    let high : (x + 256 ^ suc n * y) / 256 ≡ x / 256 + 256 ^ n * y = omega arith in
+    let k : x / 256 < 256 ^ n = (let l = rw pow-succ' at h in omega arith) in
+    rw (suc-add, low, high) (ap (x % 256 ∷_) (bytes-append n m (x / 256) y k))
 
 pub take-bytes : (k n x : ℕ) → k ≤ n → take k (bytes n x) ≡ bytes k x
 unfolding bytes

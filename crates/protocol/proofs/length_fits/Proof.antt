@@ -1,7 +1,7 @@
 -- `protocol::length_fits` meets its contract. Assumes nothing.
 use borrow.Author.Needs.{needs}
 use Rattle.protocol.specs.Opcodes.{opcodeRows}
-use Rattle.protocol.proofs.Rows.{supported-below, unit-positive, too-short, too-long, in-steps, entry-fits}
+use Rattle.protocol.proofs.Rows.{supported-below, too-short, too-long, any-length, whole-headers, entry-fits}
 use Rattle.protocol.proofs.length_fits.Statement.{statement}
 use Rattle.protocol.proofs.length_fits.Tie as tie
 
@@ -13,5 +13,4 @@ length-fits-spec =
     tie.close
     (tie.spec (λ c. search reads) (λ c. search reads) (λ c. search reads) (λ c. search (needs, too-short))
     (λ c. search reads) (λ c. search reads) (λ c. search reads) (λ c. search (needs, too-long))
-    (λ c. search reads) (λ c. search reads) (λ c. search reads) (λ c. search (needs, unit-positive))
-    (λ c. search (needs, in-steps)))
+    (λ c. search reads) (λ c. search reads) (λ c. search (needs, any-length)) (λ c. search (needs, whole-headers)))

@@ -9,8 +9,6 @@ use plain_card::exported;
 use plain_card::frame::{array_at, u16_at, u32_at, u64_at};
 use plain_card::opcode::{Opcode, SUPPORTED};
 
-/// A one in each byte.
-const ONES: u64 = 0x0101_0101_0101_0101;
 /// The request of a get-all has this length.
 const REQUEST: usize = 40;
 /// The longest reply of a get-all: four queues.
@@ -67,33 +65,22 @@ fn sound(header: &[u8; HEADER], records: &[u8]) -> bool {
     if !setup || records.len() != RECORD * usize::from(members) {
         return false;
     }
-    let features = [u64_at(header, 4), u64_at(header, 12)];
-    let ids = u32::from(gets + sets);
-    let refused = [!object_bits(ids), !object_bits(ids.saturating_sub(8))];
-    let mut bad = 0;
-    let mut over = 0;
-    for record in records.chunks_exact(RECORD) {
-        let [low, high] = [u64_at(record, 1), u64_at(record, 9)];
-        bad |= u64::from(record[0] & !1);
-        bad |= low & refused[0] | high & refused[1];
-        bad |= (low & low >> 1 | high & high >> 1) & ONES;
-        bad |= (u64_at(record, 17) ^ features[0]) | (u64_at(record, 25) ^ features[1]);
-        // Bit 7 is set if there are more than may be.
-        over |= count(low, high) + 127 - u64::from(gets);
-        over |= count(low >> 1, high >> 1) + 127 - u64::from(sets);
-    }
-    bad == 0 && over & 128 == 0
+    let features: [u8; 16] = array_at(header, 4);
+    let ids = usize::from(gets + sets);
+    records.chunks_exact(RECORD).all(|record| {
+        let objects: [u8; 16] = array_at(record, 1);
+        record[0] < 2
+            && objects.iter().fold(true, |low, byte| low & (*byte <= 2))
+            && objects[ids..].iter().all(|byte| *byte == 0)
+            && sum(&objects, |byte| byte % 2) <= gets
+            && sum(&objects, |byte| byte / 2) <= sets
+            && record[17..33] == features
+    })
 }
 
-/// The bits that the first eight object bytes may have if `ids` are valid.
-fn object_bits(ids: u32) -> u64 {
-    let below = u64::MAX.checked_shr(64 - 8 * ids.min(8)).unwrap_or(0);
-    (3 * ONES) & below
-}
-
-/// The number of bytes whose lowest bit is set.
-fn count(low: u64, high: u64) -> u64 {
-    ((low & ONES) + (high & ONES)).wrapping_mul(ONES) >> 56
+/// A sum over the object bytes, which the compiler makes vector additions.
+fn sum(objects: &[u8; 16], term: impl Fn(u8) -> u8) -> u8 {
+    objects.iter().fold(0, |sum, byte| sum.wrapping_add(term(*byte)))
 }
 
 /// Writes the reply of a get-all for Q queues, if there is room.
