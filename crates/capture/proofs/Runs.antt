@@ -8,16 +8,16 @@ use native.Mathlib.Omega.{arith}
 use borrow.Author.Tests.{eqb-true, le-leb, lt-leb}
 use lib.Dec.{leb, eqb}
 use lib.ListN.{length, getD, length-append}
-use Rattle.theory.specs.Logic.{_or_}
+use Rattle.theory.specs.Logic.{_and_, _or_}
 use Rattle.theory.specs.Bytes.{part, put}
 use Rattle.theory.specs.Items.{itemsFrom}
-use Rattle.theory.proofs.Tests.{false-or}
+use Rattle.theory.proofs.Tests.{false-or, both}
 use Rattle.theory.proofs.Table.{every}
 use Rattle.theory.proofs.Bytes.{length-part}
 use Rattle.theory.proofs.Items.{Written, written-start, written-room, written-end, written-at}
 use Rattle.inventory.specs.Inventory.{Row, row, rows, rowAt, rowCount, offsetOf, valuesSize, partsSize}
 use Rattle.inventory.specs.Header.{headerOf, headerSize}
-use Rattle.inventory.proofs.Columns.{types, selectors, sizes, offsets, type-at, selector-at, size-at, offset-at, row-at}
+use Rattle.inventory.proofs.Columns.{selectors, sizes, selector-at, size-at}
 use Rattle.inventory.proofs.Rules.{table, every-row, every-count, row-within, offset-next, length-header}
 use Rattle.capture.specs.declared.Selection.{Selection}
 use Rattle.capture.specs.declared.Selection.the-variants.{All, Asked}
@@ -44,7 +44,7 @@ pub run-end : (v : List ℕ) (first count b : ℕ) (out₀ out : List ℕ) (at f
 run-end v first count b out₀ out at from i w h =
     record { buffer = written-end _ _ _ _ _ _ _ (w .written) h; place = written-at _ _ _ _ _ _ _ (w .written) h }
 
-module _ (v : List ℕ) (first count size offset : ℕ) (a : RowsAlike first count size offset) (e : length v ≡ valuesSize) where
+module _ (v : List ℕ) (first count type size offset : ℕ) (a : RowsAlike first count type size offset) (e : length v ≡ valuesSize) where
   abbrev item : ℕ → List ℕ
   item j = partAt v (first + j)
 
@@ -52,7 +52,7 @@ module _ (v : List ℕ) (first count size offset : ℕ) (a : RowsAlike first cou
   inside j h = let l = a .there in omega arith
 
   run-item : (j : ℕ) → j < count → length (item j) ≡ headerSize + size
-  run-item j h = part-length v (first + j) (inside j h) e ∙ rw (a .same j h)
+  run-item j h = part-length v (first + j) (inside j h) e ∙ rw (a .sized j h)
 
   pub run-length : length (runOf v first count) ≡ count * (headerSize + size)
   run-length = items-length item (headerSize + size) count run-item 0 count (omega arith)
@@ -66,72 +66,83 @@ module _ (v : List ℕ) (first count size offset : ℕ) (a : RowsAlike first cou
     row-there = inside i h
 
     pub run-small : size ≤ 32
-    run-small = rw (size-at (first + i), a .same i h) at (row-small (first + i) row-there)
+    run-small = rw (size-at (first + i), a .sized i h) at (row-small (first + i) row-there)
 
     pub run-inside : from + size ≤ valuesSize
-    run-inside = rw (w .starts, ← a .same i h) (row-within (first + i) row-there)
+    run-inside = rw (w .starts, ← a .sized i h) (row-within (first + i) row-there)
 
     pub run-room : at + (headerSize + size) ≤ length out
     run-room = written-room item count b out₀ out at i (w .written) (headerSize + size) h (run-item i h)
 
-    next-item : item i ≡ headerOf (row (getD types (first + i) 0) (getD selectors (first + i) 0) size) ++ part from size v
+    next-item : item i ≡ headerOf (row type (getD selectors (first + i) 0) size) ++ part from size v
     unfolding partAt
-    next-item = rw (w .starts, type-at (first + i), selector-at (first + i), ← a .same i h)
+    next-item = rw (w .starts, ← a .typed i h, selector-at (first + i), ← a .sized i h)
 
     next-starts : from + size ≡ offsetOf (first + (i + 1))
-    next-starts = rw (w .starts, ← a .same i h, ← add-assoc) (sym (offset-next (first + i) row-there))
+    next-starts = rw (w .starts, ← a .sized i h, ← add-assoc) (sym (offset-next (first + i) row-there))
 
     pub run-on : (out′ : List ℕ) (next : ℕ)
-        → Wrote (headerOf (row (getD types (first + i) 0) (getD selectors (first + i) 0) size) ++ part from size v) at out out′ next
+        → Wrote (headerOf (row type (getD selectors (first + i) 0) size) ++ part from size v) at out out′ next
         → Running v first count b out₀ out′ next (from + size) (i + 1)
     run-on out′ next d =
         record { written = wrote-next item count b out₀ out out′ _ at next i (w .written) h next-item d; starts = next-starts }
 
 -- ---- all parts, as runs ----
 
-pub alike : (first count size : ℕ) → every (λ i r. not (leb first i) or leb (first + count) i or eqb (r .size) size) 0 rows ≡ true
-    → first + count ≤ rowCount → RowsAlike first count size (offsetOf first)
-alike first count size t l = record {
-  there = l;
-  starts = refl;
-  same = λ j h.
-      let k : first + j < rowCount = omega arith in
-      let x = every-row (λ i r. not (leb first i) or leb (first + count) i or eqb (r .size) size) t (first + j) k in
+-- row i is one of the run's, or is not in it
+abbrev alikeAt : ℕ → ℕ → ℕ → ℕ → ℕ → Row → Bool
+alikeAt first count type size i r = (not (leb first i) or leb (first + count) i) or (eqb (r .partType) type and eqb (r .size) size)
+
+module _ (first count type size : ℕ) (t : every (alikeAt first count type size) 0 rows ≡ true) (l : first + count ≤ rowCount) where
+  at-row : (j : ℕ) → j < count → (eqb (rowAt (first + j) .partType) type ≡ true) × (eqb (rowAt (first + j) .size) size ≡ true)
+  at-row j h =
+      let x = every-row (alikeAt first count type size) t (first + j) (omega arith) in
       let y : leb first (first + j) ≡ true = le-leb first (first + j) (omega arith) in
       let z : leb (first + count) (first + j) ≡ false = lt-leb (first + count) (first + j) (omega arith) in
-      eqb-true (rowAt (first + j) .size) size (simp (y, z, false-or) at x);
-}
+      both _ _ (simp (y, z, false-or) at x)
 
-fewer : (first count n size offset : ℕ) → n ≤ count → RowsAlike first count size offset → RowsAlike first n size offset
-fewer first count n size offset h a =
+  alike : RowsAlike first count type size (offsetOf first)
+  alike = record {
+    there = l;
+    typed = λ j h. eqb-true _ type (at-row j h .0);
+    sized = λ j h. eqb-true _ size (at-row j h .1);
+    starts = refl;
+  }
+
+fewer : (first count n type size offset : ℕ) → n ≤ count → RowsAlike first count type size offset → RowsAlike first n type size offset
+fewer first count n type size offset h a =
     let l = a .there in
-    record { there = omega arith; same = λ j k. a .same j (omega arith); starts = a .starts }
+    record { there = omega arith; typed = λ j k. a .typed j (omega arith); sized = λ j k. a .sized j (omega arith); starts = a .starts }
 
--- the runs: features, PCI common fields by their size, device status, queues, queue notify
+-- the runs: device features, driver features, PCI common fields by their size, device status, queues, queue notify
 abbrev pub runCount : ℕ
-runCount = 6
+runCount = 7
 
 abbrev pub firstOf : ℕ → ℕ
-firstOf k = getD (0 ∷ 2 ∷ 4 ∷ 6 ∷ 7 ∷ 11 ∷ []) k 0
+firstOf k = getD (0 ∷ 1 ∷ 2 ∷ 4 ∷ 6 ∷ 7 ∷ 11 ∷ []) k 0
 
 abbrev pub countOf : ℕ → ℕ → ℕ
-countOf q k = getD (2 ∷ 2 ∷ 2 ∷ 1 ∷ q ∷ q ∷ []) k 0
+countOf q k = getD (1 ∷ 1 ∷ 2 ∷ 2 ∷ 1 ∷ q ∷ q ∷ []) k 0
+
+abbrev pub typeOf : ℕ → ℕ
+typeOf k = getD (0x100 ∷ 0x101 ∷ 0x102 ∷ 0x102 ∷ 0x103 ∷ 0x104 ∷ 0x105 ∷ []) k 0
 
 abbrev pub sizeOf : ℕ → ℕ
-sizeOf k = getD (16 ∷ 4 ∷ 2 ∷ 1 ∷ 32 ∷ 8 ∷ []) k 0
+sizeOf k = getD (16 ∷ 16 ∷ 4 ∷ 2 ∷ 1 ∷ 32 ∷ 8 ∷ []) k 0
 
 abbrev pub startOf : ℕ → ℕ
-startOf k = getD (0 ∷ 32 ∷ 40 ∷ 44 ∷ 45 ∷ 173 ∷ []) k 0
+startOf k = getD (0 ∷ 16 ∷ 32 ∷ 40 ∷ 44 ∷ 45 ∷ 173 ∷ []) k 0
 
-pub run-alike : (q k : ℕ) → q < 5 → k < runCount → RowsAlike (firstOf k) (countOf q k) (sizeOf k) (startOf k)
+pub run-alike : (q k : ℕ) → q < 5 → k < runCount → RowsAlike (firstOf k) (countOf q k) (typeOf k) (sizeOf k) (startOf k)
 unfolding table
-run-alike q zero f h = alike 0 2 16 refl (omega arith)
-run-alike q (suc zero) f h = alike 2 2 4 refl (omega arith)
-run-alike q (suc (suc zero)) f h = alike 4 2 2 refl (omega arith)
-run-alike q (suc (suc (suc zero))) f h = alike 6 1 1 refl (omega arith)
-run-alike q (suc (suc (suc (suc zero)))) f h = fewer 7 4 q 32 45 (omega arith) (alike 7 4 32 refl (omega arith))
-run-alike q (suc (suc (suc (suc (suc zero))))) f h = fewer 11 4 q 8 173 (omega arith) (alike 11 4 8 refl (omega arith))
-run-alike q (suc (suc (suc (suc (suc (suc k)))))) f h = absurd (omega arith)
+run-alike q zero f h = alike 0 1 0x100 16 refl (omega arith)
+run-alike q (suc zero) f h = alike 1 1 0x101 16 refl (omega arith)
+run-alike q (suc (suc zero)) f h = alike 2 2 0x102 4 refl (omega arith)
+run-alike q (suc (suc (suc zero))) f h = alike 4 2 0x102 2 refl (omega arith)
+run-alike q (suc (suc (suc (suc zero)))) f h = alike 6 1 0x103 1 refl (omega arith)
+run-alike q (suc (suc (suc (suc (suc zero))))) f h = fewer 7 4 q 0x104 32 45 (omega arith) (alike 7 4 0x104 32 refl (omega arith))
+run-alike q (suc (suc (suc (suc (suc (suc zero)))))) f h = fewer 11 4 q 0x105 8 173 (omega arith) (alike 11 4 0x105 8 refl (omega arith))
+run-alike q (suc (suc (suc (suc (suc (suc (suc k))))))) f h = absurd (omega arith)
 
 abbrev pub run : ℕ → List ℕ → ℕ → List ℕ
 run q v k = runOf v (firstOf k) (countOf q k)
@@ -165,7 +176,7 @@ module _ {q : ℕ} {v out₀ : List ℕ} (p : Ready q v out₀) where
     pub next-fits : at + countOf q k * (headerSize + sizeOf k) ≤ length out
     next-fits =
         written-room _ _ _ _ _ _ _ (w .written) _ h
-        (run-length v (firstOf k) (countOf q k) (sizeOf k) (startOf k) (run-alike q k (p .few) h) (p .long))
+        (run-length v (firstOf k) (countOf q k) (typeOf k) (sizeOf k) (startOf k) (run-alike q k (p .few) h) (p .long))
 
     pub upto-next : {out′ : List ℕ} {next : ℕ} → Wrote (run q v k) at out out′ next → Upto q v out₀ (k + 1) out′ next
     upto-next d = record { written = wrote-next _ _ _ _ _ _ _ _ _ _ (w .written) h refl d }

@@ -25,10 +25,11 @@ headersOf queues = itemsFrom (headerItem queues) rowCount 0
 unfoldable pub partAt : List ℕ → ℕ → List ℕ
 partAt values i = headerOf (rowAt i) ++ part (offsetOf i) (rowAt i .size) values
 
--- rows whose values are of one size, from an offset on, and their parts
-pub record RowsAlike (first count size offset : ℕ) : Type 0 where
+-- rows of one type whose values are of one size, from an offset on, and their parts
+pub record RowsAlike (first count type size offset : ℕ) : Type 0 where
   pub there : first + count ≤ rowCount
-  pub same : (j : ℕ) → j < count → rowAt (first + j) .size ≡ size
+  pub typed : (j : ℕ) → j < count → rowAt (first + j) .partType ≡ type
+  pub sized : (j : ℕ) → j < count → rowAt (first + j) .size ≡ size
   pub starts : offset ≡ offsetOf first
 
 abbrev pub runOf : List ℕ → ℕ → ℕ → List ℕ

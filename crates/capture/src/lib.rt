@@ -74,7 +74,7 @@ fn write_part(
 
 // ---- all parts ----
 
-// The parts of `count` rows from `first` on, whose values are all of one size and start at `offset`. Each value is where
+// The parts of `count` rows from `first` on, all of one type and size, with values from `offset` on. Each value is where
 // the one before it ends.
 fn write_run(
     out: &mut [u8],
@@ -82,38 +82,38 @@ fn write_run(
     values: &[u8],
     first: usize,
     count: usize,
+    row_type: u16,
     size: u8,
     offset: u8,
 ) -> usize
-    requires { ⌜ RowsAlike first count size offset × (length (now values) ≡ valuesSize) × (at + count * (headerSize + size) ≤ length (now out)) ⌝ }
+    requires { ⌜ RowsAlike first count «row_type» size offset × (length (now values) ≡ valuesSize) × (at + count * (headerSize + size) ≤ length (now out)) ⌝ }
     ensures { λ r. ⌜ Wrote (runOf (now (values .entry)) first count) at (now (out .entry)) (now (out .exit)) r ⌝ }
 {
-    let types = inventory::TYPES;
     let selectors = inventory::SELECTORS;
     let mut end = at;
     let mut from = offset;
     let mut i = 0;
     while i < count {
-        let r = first + i;
-        end = write_part(out, end, values, types[r], selectors[r], size, from);
+        end = write_part(out, end, values, row_type, selectors[first + i], size, from);
         from += size;
         i += 1;
     }
     end
 }
 
-// All parts of a member, at the front of what is lent: a run of rows for each size, so that the sizes are constants.
+// All parts of a member, at the front of what is lent: a run of rows for each type and size, which are then constants.
 fn write_all(out: &mut [u8], values: &[u8], queues: u8)
     requires { ⌜ (queues < 5) × (length (now values) ≡ valuesSize) × (partsSize queues ≤ length (now out)) ⌝ }
     ensures { λ _. ⌜ now (out .exit) ≡ put 0 (captureOf queues (now (values .entry))) (now (out .entry)) ⌝ }
 {
     let n = queues as usize;
-    let mut at = write_run(out, 0, values, 0, 2, 16, 0);
-    at = write_run(out, at, values, 2, 2, 4, 32);
-    at = write_run(out, at, values, 4, 2, 2, 40);
-    at = write_run(out, at, values, 6, 1, 1, 44);
-    at = write_run(out, at, values, 7, n, 32, 45);
-    write_run(out, at, values, 11, n, 8, 173);
+    let mut at = write_run(out, 0, values, 0, 1, 0x100, 16, 0);
+    at = write_run(out, at, values, 1, 1, 0x101, 16, 16);
+    at = write_run(out, at, values, 2, 2, 0x102, 4, 32);
+    at = write_run(out, at, values, 4, 2, 0x102, 2, 40);
+    at = write_run(out, at, values, 6, 1, 0x103, 1, 44);
+    at = write_run(out, at, values, 7, n, 0x104, 32, 45);
+    write_run(out, at, values, 11, n, 0x105, 8, 173);
 }
 
 // ---- the parts that a list asks for ----

@@ -4,7 +4,7 @@ use mathlib.Core.Bool.{Bool, true, false, not}
 use mathlib.Core.List.{List, [], _∷_, map}
 use Prim.Native.Nat.{ℕ, zero, suc, _-_, max, _%_, _^_, _<_, _≤_}
 use native.Mathlib.Omega.{arith}
-use borrow.Author.Tests.{ltb-true, le-ltb, le-leb, lt-leb, eqb-true, eq-eqb}
+use borrow.Author.Tests.{ltb-true, le-ltb, le-leb, lt-leb, eqb-true, eqb-false, eq-eqb, ne-eqb}
 use mir.Syntax.{Width}
 use mir.Val.{Fits, bits}
 use lib.Dec.{T, leb, ltb, eqb, leb→le, ltb→lt}
@@ -76,13 +76,22 @@ module _ (op : ℕ) where
       unfolding lengthFits within _and_
       in-steps = rw (← least-is, ← most-is, ← unit-is, le-leb _ _ l, le-leb _ _ h)
 
-      pub any-length : getD units op 0 ≡ 1 → true ≡ lengthFits op n
-      any-length e =
-          let z : (n - getD leasts op 0) % getD units op 0 ≡ 0 = rw e (omega arith) in
-          sym (eq-eqb _ 0 z) ∙ in-steps
+      stepped : (n - getD leasts op 0) % getD units op 0 ≡ 0 → true ≡ lengthFits op n
+      stepped e = sym (eq-eqb _ 0 e) ∙ in-steps
 
-      pub whole-headers : supported op ≡ true → (getD units op 0 ≡ 1 → ⊥) → eqb ((n - getD leasts op 0) % 16) 0 ≡ lengthFits op n
-      whole-headers s e = rw (← unit-header s e) in-steps
+      pub whole-headers : supported op ≡ true → (n - getD leasts op 0) % 16 ≡ 0 → true ≡ lengthFits op n
+      whole-headers s e =
+          by-cases (eqb (getD units op 0) 1)
+          (λ u. stepped (rw (eqb-true (getD units op 0) 1 u) (omega arith)))
+          (λ u. stepped (rw (unit-header s (eqb-false (getD units op 0) 1 u)) e))
+
+      pub part-header : supported op ≡ true → ((n - getD leasts op 0) % 16 ≡ 0 → ⊥) → eqb (getD units op 0) 1 ≡ lengthFits op n
+      part-header s e =
+          by-cases (eqb (getD units op 0) 1)
+          (λ u. u ∙ stepped (rw (eqb-true (getD units op 0) 1 u) (omega arith)))
+          (λ u.
+          let z : (n - getD leasts op 0) % getD units op 0 ≡ 0 → ⊥ = rw (unit-header s (eqb-false (getD units op 0) 1 u)) e in
+          u ∙ sym (ne-eqb _ 0 z) ∙ in-steps)
 
 -- data of the right length for opcode o is at least k bytes long, where k is at most the row's least
 pub data-long : (op o n k : ℕ) → lengthFits op n ≡ true → op ≡ o

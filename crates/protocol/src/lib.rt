@@ -165,10 +165,10 @@ const UNIT: [u16; 18] = [1, 1, 0, 0, 0, 0, 0, 0, 0, 0, 1, 1, 1, 1, 1, 16, 1, 1];
 pub fn supported(op: usize) -> bool
     ensures { λ r. ⌜ r ≡ supported op ⌝ }
 {
-    if 17 < op {
-        return false;
+    if op < 2 {
+        return true;
     }
-    0 < UNIT[op]
+    names_member(op)
 }
 
 pub fn length_fits(op: usize, n: usize) -> bool
@@ -182,10 +182,10 @@ pub fn length_fits(op: usize, n: usize) -> bool
     if (MOST[op] as usize) < n {
         return false;
     }
-    if UNIT[op] == 1 {
+    if (n - least) % 16 == 0 {
         return true;
     }
-    (n - least) % 16 == 0
+    UNIT[op] == 1
 }
 
 // The commands that name a member: 0x0a to 0x11.

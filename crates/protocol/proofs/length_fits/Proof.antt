@@ -1,7 +1,7 @@
 -- `protocol::length_fits` meets its contract. Assumes nothing.
 use borrow.Author.Needs.{needs}
 use Rattle.protocol.specs.Opcodes.{opcodeRows}
-use Rattle.protocol.proofs.Rows.{supported-below, too-short, too-long, any-length, whole-headers, entry-fits}
+use Rattle.protocol.proofs.Rows.{supported-below, too-short, too-long, whole-headers, part-header, entry-fits}
 use Rattle.protocol.proofs.length_fits.Statement.{statement}
 use Rattle.protocol.proofs.length_fits.Tie as tie
 
@@ -13,4 +13,4 @@ length-fits-spec =
     tie.close
     (tie.spec (λ c. search reads) (λ c. search reads) (λ c. search reads) (λ c. search (needs, too-short))
     (λ c. search reads) (λ c. search reads) (λ c. search reads) (λ c. search (needs, too-long))
-    (λ c. search reads) (λ c. search reads) (λ c. search (needs, any-length)) (λ c. search (needs, whole-headers)))
+    (λ c. search (needs, whole-headers)) (λ c. search reads) (λ c. search reads) (λ c. search (needs, part-header)))
