@@ -80,11 +80,11 @@ reply-done a x d = rw d
 -- the answer in the end is `last`, of which the code was told b; x is the result
 module _ (a last : Answer) (x l : List ℕ) (size : ℕ) (b : Bool)
     (settled : last ≡ finalOf a size (length l)) (sized : size ≡ length x) (said : b ≡ isDone last) where
-  pub refused-written : (l′ : List ℕ) → not b ≡ true → l′ ≡ put 0 (headOf last) l
-      → _≡_ {A = Written × List ℕ} (record { answer = last; bytes = 8 }, l′) (concludeOf a x l)
+  pub refused-written : (y : Written × List ℕ) → not b ≡ true → y ≡ concludeOf last [] l → y ≡ concludeOf a x l
   unfolding concludeOf
-  refused-written l′ n e =
-      rw (← sized, ← settled, e, reply-refused last x (sym said ∙ not-true b n), head-long last)
+  refused-written y n e =
+      let d = sym said ∙ not-true b n in
+      e ∙ rw (← final-refused last 0 (length l) b said n, ← sized, ← settled, reply-refused last x d, reply-refused last [] d)
 
   pub result-written : (l₁ l₂ : List ℕ) (k : ℕ) → not b ≡ false → l₁ ≡ put 0 (headOf last) l → l₂ ≡ put 8 x l₁
       → k ≡ 8 + size → _≡_ {A = Written × List ℕ} (record { answer = last; bytes = k }, l₂) (concludeOf a x l)
@@ -96,9 +96,11 @@ module _ (a last : Answer) (x l : List ℕ) (size : ℕ) (b : Bool)
 -- there is room for the result, in the buffer as the head left it and in the tail that is lent to the result's writer
 module _ (a last : Answer) (l l′ : List ℕ) (size : ℕ) (b : Bool) (settled : last ≡ finalOf a size (length l))
     (said : b ≡ isDone last) (n : not b ≡ false) (e : l′ ≡ put 0 (headOf last) l) where
+  pub reply-fits : 8 + size ≤ length l
+  reply-fits = final-room a size (length l) (rw (← settled) (sym said ∙ not-false b n))
+
   pub result-fits : 8 + size ≤ length l′
-  result-fits =
-      rw (e, length-put) (final-room a size (length l) (rw (← settled) (sym said ∙ not-false b n)))
+  result-fits = rw (e, length-put) reply-fits
 
   pub tail-fits : (q : ℕ) (list v : List ℕ) (body : Body) → size ≡ length (resultOf q list v body)
       → length (resultOf q list v body) ≤ length (take (length l′ - 8) (drop 8 l′))

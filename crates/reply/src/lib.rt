@@ -61,13 +61,10 @@ pub fn write_mask(mask: u64, reply: &mut [u8]) -> Written
 {
     let size: usize = 8;
     let last = settle(Answer::Done, size, reply.len());
-    write_head(last, reply);
     if !protocol::is_done(last) {
-        return Written {
-            answer: last,
-            bytes: 8,
-        };
+        return write_answer(last, reply);
     }
+    write_head(last, reply);
     wire::write(reply, 8, 8, mask);
     let bytes = 8 + size;
     Written {
@@ -138,13 +135,10 @@ pub fn write_reading(
 {
     let size = result_bytes(body, queues, list);
     let last = settle(a, size, reply.len());
-    write_head(last, reply);
     if !protocol::is_done(last) {
-        return Written {
-            answer: last,
-            bytes: 8,
-        };
+        return write_answer(last, reply);
     }
+    write_head(last, reply);
     write_result(body, queues, list, values, &mut reply[8..]);
     let bytes = 8 + size;
     Written {

@@ -1,45 +1,56 @@
 use borrow.Author.Needs.{needs}
 use mathlib.Core.Path.{refl}
+use mir.Syntax.{w64}
+use mir.Val.{Fits}
+use lib.ListN.{length}
 use native.Mathlib.Omega.{arith}
 use Rattle.theory.proofs.Lent.{lent-tail}
-use Rattle.reply.proofs.Reply.{refused-written, result-written, result-fits, tail-fits, fits-word}
+use Rattle.reply.proofs.Reply.{refused-written, result-written, reply-fits, tail-fits, fits-word}
 use Rattle.reply.proofs.write_reading.Statement.{statement}
 use Rattle.reply.proofs.write_reading.Tie as tie
 
 returns : tie.Need-returns
 returns c =
-    let at-settle = c .before .before .before .before .before .before in
-    let at-size = at-settle .before in
-    refused-written _ _ _ _ _ _ (at-settle .settle .ensures) (at-size .result-bytes .ensures _ (at-size .before .before .before .before .pre .1))
-    (c .before .is-done .ensures) _ (c .if1 .taken) (c .before .before .before .before .write-head .ensures)
+    let at-answer = c .before .before in
+    let at-test = at-answer .before .before in
+    let at-size = at-test .before .before .before in
+    refused-written _ _ _ _ _ _ (at-test .before .before .settle .ensures) (at-size .result-bytes .ensures _ (at-size .before .before .before .before .pre .1))
+    (at-test .before .is-done .ensures) _ (at-test .if1 .taken) (at-answer .write-answer .ensures)
 
 write-result-requires : tie.Need-write-result-requires
 write-result-requires c κs =
-    let at-head = c .before .before .before .before .before in
-    let at-size = at-head .before .before .before in
+    let at-head = c .before .before .before in
+    let at-test = at-head .before .before in
+    let at-size = at-test .before .before .before in
     let pre = at-size .before .before .before .before .pre in (
       pre .0,
       pre .1,
-      tail-fits _ _ _ _ _ _ (at-head .before .before .settle .ensures) (c .before .before .is-done .ensures)
-          (c .before .if1 .left) (at-head .write-head .ensures) _ _ _ _ (at-size .result-bytes .ensures _ (pre .1)),
+      tail-fits _ _ _ _ _ _ (at-test .before .before .settle .ensures) (at-test .before .is-done .ensures)
+          (at-test .if1 .left) (at-head .write-head .ensures) _ _ _ _ (at-size .result-bytes .ensures _ (pre .1)),
     )
+
+reply-word : (s : tie.Start) → Fits w64 (length (s .args .reply .now))
+reply-word s = search needs
 
 add-bytes : tie.Need-add-bytes
 add-bytes c =
-    let at-head = c .before .before .before .before .before .before .before .before in
-    fits-word _ _ (result-fits _ _ _ _ _ _ (at-head .before .before .settle .ensures) (c .before .before .before .before .before .is-done .ensures)
-    (c .before .before .before .before .if1 .left) (at-head .write-head .ensures)) (search needs)
+    let at-head = c .before .before .before .before .before .before in
+    let at-test = at-head .before .before in
+    fits-word _ _ (reply-fits _ _ _ _ _ _ (at-test .before .before .settle .ensures) (at-test .before .is-done .ensures)
+    (at-test .if1 .left) (at-head .write-head .ensures)) (reply-word (at-test .before .before .before .before .before .before .before))
 
 returns-2 : tie.Need-returns-2
 returns-2 c =
-    let at-head = c .before .before .before .before .before .before .before .before in
-    let at-size = at-head .before .before .before in
-    result-written _ _ _ _ _ _ (at-head .before .before .settle .ensures) (at-size .result-bytes .ensures _ (at-size .before .before .before .before .pre .1))
-    (c .before .before .before .before .before .is-done .ensures) _ _ _ (c .before .before .before .before .if1 .left) (at-head .write-head .ensures)
+    let at-head = c .before .before .before .before .before .before in
+    let at-test = at-head .before .before in
+    let at-size = at-test .before .before .before in
+    result-written _ _ _ _ _ _ (at-test .before .before .settle .ensures) (at-size .result-bytes .ensures _ (at-size .before .before .before .before .pre .1))
+    (at-test .before .is-done .ensures) _ _ _ (at-test .if1 .left) (at-head .write-head .ensures)
     (lent-tail _ _ _ _ _ refl (c .before .before .write-result .ensures)) refl
 
 pub write-reading-spec : {M : Type 1} → statement M
 write-reading-spec =
     tie.close
     (tie.spec (λ c κs. search needs) (λ c κs. search needs) (λ c κs. search needs) (λ c κs. search needs) (λ c. search needs)
-    returns (λ c. search needs) (λ c. search needs) (λ c. search needs) write-result-requires add-bytes (λ c. search needs) returns-2)
+    returns (λ c κs. search needs) (λ c. search needs) (λ c. search needs) (λ c. search needs) write-result-requires add-bytes
+    (λ c. search needs) returns-2)
