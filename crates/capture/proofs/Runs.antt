@@ -19,10 +19,8 @@ use Rattle.inventory.specs.Inventory.{Row, row, rows, rowAt, rowCount, offsetOf
 use Rattle.inventory.specs.Header.{headerOf, headerSize}
 use Rattle.inventory.proofs.Columns.{selectors, sizes, selector-at, size-at}
 use Rattle.inventory.proofs.Rules.{table, every-row, every-count, row-within, offset-next, length-header}
-use Rattle.capture.specs.declared.Selection.{Selection}
-use Rattle.capture.specs.declared.Selection.the-variants.{All, Asked}
 use Rattle.capture.specs.Capture.{partAt, asks, partItem, partsWritten, captureOf, RowsAlike, runOf, Wrote}
-use Rattle.capture.proofs.Sizes.{part-length, capture-length, all-parts}
+use Rattle.capture.proofs.Sizes.{part-length, capture-length}
 use Rattle.capture.proofs.Writes.{row-small, row-inside, wrote-next}
 
 -- ---- one run ----
@@ -183,18 +181,3 @@ module _ {q : ℕ} {v out₀ : List ℕ} (p : Ready q v out₀) where
 
   pub upto-all : {out : List ℕ} {at : ℕ} → Upto q v out₀ runCount out at → out ≡ put 0 (captureOf q v) out₀
   upto-all w = rw (← runs-are q v (p .few)) (written-end _ _ _ _ _ _ _ (w .written) (omega arith))
-
--- ---- by the selection ----
-
-module _ (selection : Selection) (q : ℕ) (list v out : List ℕ) (l : length (partsWritten selection q list v) ≤ length out) where
-  pub all-fits : selection ≡ All → q < 5 → length v ≡ valuesSize → partsSize q ≤ length out
-  all-fits s f e = rw (← capture-length q v f e, ← all-parts q list v, ← s) l
-
-  pub asked-fits : selection ≡ Asked → length (partsWritten Asked q list v) ≤ length out
-  asked-fits s = rw (← s) l
-
-  pub wrote-all : (out′ : List ℕ) → selection ≡ All → out′ ≡ put 0 (captureOf q v) out → out′ ≡ put 0 (partsWritten selection q list v) out
-  wrote-all out′ s e = rw (s, all-parts) e
-
-  pub wrote-asked : (out′ : List ℕ) → selection ≡ Asked → out′ ≡ put 0 (partsWritten Asked q list v) out → out′ ≡ put 0 (partsWritten selection q list v) out
-  wrote-asked out′ s e = rw s e

@@ -15,9 +15,7 @@ use Rattle.theory.proofs.Bytes.{length-part}
 use Rattle.inventory.specs.Inventory.{rowAt, rowCount, present, offsetOf, valuesSize, partCount, partsSize}
 use Rattle.inventory.specs.Header.{headerOf, headerSize}
 use Rattle.inventory.proofs.Rules.{table, every-count, row-within, size-below, length-header}
-use Rattle.capture.specs.declared.Selection.{Selection}
-use Rattle.capture.specs.declared.Selection.the-variants.{All, Asked}
-use Rattle.capture.specs.Capture.{headerItem, headersOf, partAt, asks, partItem, partsWritten, captureOf}
+use Rattle.capture.specs.Capture.{Selection, All, Asked, headerItem, headersOf, partAt, asks, partItem, partsWritten, captureOf}
 
 -- ---- a sum of k numbers from the i-th on ----
 
@@ -77,11 +75,6 @@ unfolding partsWritten partItem
 parts-length selection q list v e =
     length-items _ (itemSize selection q list) rowCount rowCount 0 refl (λ j h. length-if _ _ _ (part-length v j h e))
 
--- whatever the list is
-pub all-parts : (q : ℕ) (list v : List ℕ) → partsWritten All q list v ≡ captureOf q v
-unfolding partsWritten partItem asks
-all-parts q list v = refl
-
 -- "the size is 157 + 72Q", "8 + 16 for each part", and there are 7 + 2Q
 pub capture-length : (q : ℕ) (v : List ℕ) → q < 5 → length v ≡ valuesSize → length (captureOf q v) ≡ partsSize q
 unfolding table sumFrom asks
@@ -105,12 +98,3 @@ module _ (f : ℕ → ℕ) (total n i : ℕ) (e : n + sumFrom f (total - i) i �
 
   pub summed : total ≤ i → n ≡ sumFrom f total 0
   summed h = omega (arith, sum-end f total i h)
-
--- by the selection
-module _ (selection : Selection) (q r : ℕ) (list v : List ℕ) (e : length v ≡ valuesSize) where
-  pub bytes-all : q < 5 → selection ≡ All → r ≡ partsSize q → r ≡ length (partsWritten selection q list v)
-  bytes-all h s p = rw (s, all-parts) (p ∙ sym (capture-length q v h e))
-
-  pub bytes-asked : selection ≡ Asked → ((v : List ℕ) → length v ≡ valuesSize → r ≡ length (partsWritten Asked q list v))
-      → r ≡ length (partsWritten selection q list v)
-  bytes-asked s p = rw s (p v e)

@@ -21,9 +21,7 @@ use Rattle.inventory.proofs.Columns.{types, selectors, sizes, offsets, type-at,
 use Rattle.inventory.proofs.Rules.{table, every-row, row-within, length-header}
 use Rattle.parts.specs.declared.ListForm.the-variants.{Headers}
 use Rattle.parts.specs.List.{partsOf, among}
-use Rattle.capture.specs.declared.Selection.{Selection}
-use Rattle.capture.specs.declared.Selection.the-variants.{All, Asked}
-use Rattle.capture.specs.Capture.{headerItem, partAt, asks, partItem, Wrote}
+use Rattle.capture.specs.Capture.{Selection, All, Asked, headerItem, partAt, asks, partItem, Wrote}
 use Rattle.capture.proofs.Sizes.{itemSize, size-most}
 
 -- ---- one part ----

@@ -11,8 +11,6 @@ use Rattle.inventory.specs.Inventory.{Row, rowAt, rowCount, offsetOf, present}
 use Rattle.inventory.specs.Header.{headerOf}
 use Rattle.parts.specs.declared.ListForm.the-variants.{Headers}
 use Rattle.parts.specs.List.{partsOf, among}
-use Rattle.capture.specs.declared.Selection.{Selection}
-use Rattle.capture.specs.declared.Selection.the-variants.{All, Asked}
 
 -- the headers of the parts that a member has, in the order of the table
 unfoldable pub headerItem : ℕ → ℕ → List ℕ
@@ -41,6 +39,10 @@ pub record Wrote (item : List ℕ) (at : ℕ) (before after : List ℕ) (next : 
   pub place : next ≡ at + length item
 
 -- all parts that the member has, or those of them that the asked list names
+pub data Selection : Type 0 where
+  All : Selection
+  Asked : Selection
+
 unfoldable pub asks : Selection → ℕ → List ℕ → Row → Bool
 asks All queues list r = present queues r
 asks Asked queues list r = present queues r and among (r .partType) (r .selector) (partsOf Headers list)

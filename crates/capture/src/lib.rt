@@ -7,15 +7,8 @@ ghost use Rattle.theory.specs.Logic.{if_then_else_};
 ghost use Rattle.theory.specs.Bytes.{part, put};
 ghost use Rattle.inventory.specs.Inventory.{row, valuesSize, partsSize};
 ghost use Rattle.inventory.specs.Header.{headerSize, headerOf};
-ghost use Rattle.capture.specs.Capture.{headersOf, asks, partsWritten, captureOf, RowsAlike, runOf, Wrote};
-ghost use Rattle.capture.specs.declared.Selection.the-variants.{Asked};
+ghost use Rattle.capture.specs.Capture.{Asked, headersOf, asks, partsWritten, captureOf, RowsAlike, runOf, Wrote};
 use parts::ListForm;
-
-// Which parts are written: all that the member has, or those of them that a list asks for.
-pub enum Selection {
-    All,
-    Asked,
-}
 
 // ---- headers ----
 
@@ -102,7 +95,7 @@ fn write_run(
 }
 
 // All parts of a member, at the front of what is lent: a run of rows for each type and size, which are then constants.
-fn write_all(out: &mut [u8], values: &[u8], queues: u8)
+pub fn write_all(out: &mut [u8], values: &[u8], queues: u8)
     requires { ⌜ (queues < 5) × (length (now values) ≡ valuesSize) × (partsSize queues ≤ length (now out)) ⌝ }
     ensures { λ _. ⌜ now (out .exit) ≡ put 0 (captureOf queues (now (values .entry))) (now (out .entry)) ⌝ }
 {
@@ -129,7 +122,7 @@ fn is_asked(queues: u8, asked: &[u8], row_type: u16, row_selector: u8) -> bool
 }
 
 // Those parts in the order of the table, at the front of what is lent.
-fn write_asked(out: &mut [u8], values: &[u8], queues: u8, asked: &[u8])
+pub fn write_asked(out: &mut [u8], values: &[u8], queues: u8, asked: &[u8])
     requires { ⌜ (length (now values) ≡ valuesSize) × (length (partsWritten Asked queues (now asked) (now values)) ≤ length (now out)) ⌝ }
     ensures { λ _. ⌜ now (out .exit) ≡ put 0 (partsWritten Asked queues (now (asked .entry)) (now (values .entry))) (now (out .entry)) ⌝ }
 {
@@ -168,7 +161,7 @@ fn asked_size(queues: u8, asked: &[u8], row_type: u16, row_selector: u8, size: u
 }
 
 // The bytes of the parts that a list asks for, whatever the values are.
-fn asked_bytes(queues: u8, asked: &[u8]) -> usize
+pub fn asked_bytes(queues: u8, asked: &[u8]) -> usize
     ensures { λ r. ⌜ ((values : List ℕ) → length values ≡ valuesSize → r ≡ length (partsWritten Asked queues (now (asked .entry)) values)) ⌝ }
 {
     let types = inventory::TYPES;
@@ -181,28 +174,4 @@ fn asked_bytes(queues: u8, asked: &[u8]) -> usize
         i += 1;
     }
     n
-}
-
-// ---- the chosen parts ----
-
-// At the front of what is lent. For all parts the list is not read.
-pub fn write_parts(out: &mut [u8], values: &[u8], queues: u8, selection: Selection, asked: &[u8])
-    requires { ⌜ (queues < 5) × (length (now values) ≡ valuesSize) × (length (partsWritten selection queues (now asked) (now values)) ≤ length (now out)) ⌝ }
-    ensures { λ _. ⌜ now (out .exit) ≡ put 0 (partsWritten selection queues (now (asked .entry)) (now (values .entry))) (now (out .entry)) ⌝ }
-{
-    match selection {
-        Selection::All => write_all(out, values, queues),
-        Selection::Asked => write_asked(out, values, queues, asked),
-    }
-}
-
-// Their bytes, whatever the values are. For all parts they are known without a walk.
-pub fn parts_bytes(queues: u8, selection: Selection, asked: &[u8]) -> usize
-    requires { ⌜ queues < 5 ⌝ }
-    ensures { λ r. ⌜ ((values : List ℕ) → length values ≡ valuesSize → r ≡ length (partsWritten selection queues (now (asked .entry)) values)) ⌝ }
-{
-    match selection {
-        Selection::All => inventory::parts_size(queues) as usize,
-        Selection::Asked => asked_bytes(queues, asked),
-    }
 }

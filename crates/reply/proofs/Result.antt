@@ -9,10 +9,9 @@ use mir.Val.{Fits}
 use Rattle.theory.specs.Bytes.{put}
 use Rattle.theory.proofs.Bytes.{put-nil, put-append}
 use Rattle.wire.specs.Le.{bytes}
-use Rattle.inventory.specs.Inventory.{partCount, valuesSize}
-use Rattle.capture.specs.declared.Selection.the-variants.{All, Asked}
-use Rattle.capture.specs.Capture.{headersOf, partsWritten}
-use Rattle.capture.proofs.Sizes.{all-parts, headers-length}
+use Rattle.inventory.specs.Inventory.{partCount, partsSize, valuesSize}
+use Rattle.capture.specs.Capture.{Asked, headersOf, partsWritten, captureOf}
+use Rattle.capture.proofs.Sizes.{capture-length, headers-length}
 use Rattle.protocol.specs.declared.ObjectKind.{ObjectKind}
 use Rattle.protocol.specs.declared.ObjectKind.the-variants.{Get, Set}
 use Rattle.protocol.specs.Answers.{kindNumber}
@@ -50,10 +49,9 @@ module _ (q : ℕ) (list : List ℕ) (b : Body) where
   unfolding resultOf
   size-selected n e f v h = rw e (f v h)
 
-  pub size-all : (n : ℕ) → b ≡ body.All → ((v : List ℕ) → length v ≡ valuesSize → n ≡ length (partsWritten All q list v))
-      → (v : List ℕ) → length v ≡ valuesSize → n ≡ length (resultOf q list v b)
+  pub size-all : (n : ℕ) → b ≡ body.All → q < 5 → n ≡ partsSize q → (v : List ℕ) → length v ≡ valuesSize → n ≡ length (resultOf q list v b)
   unfolding resultOf
-  size-all n e f v h = rw (e, ← all-parts q list v) (f v h)
+  size-all n e k f v h = rw e (f ∙ sym (capture-length q v k h))
 
 pub headers-fit : (q n : ℕ) → q < 5 → n ≡ length (headersOf q) → Fits w64 (8 + n)
 headers-fit q n h e = rw (e, headers-length q h) (omega arith)
@@ -100,9 +98,9 @@ module _ (q : ℕ) (list v : List ℕ) (b : Body) (l l′ : List ℕ) where
   unfolding resultOf
   result-selected e h = h ∙ rw e
 
-  pub result-all : b ≡ body.All → l′ ≡ put 0 (partsWritten All q list v) l → l′ ≡ put 0 (resultOf q list v b) l
+  pub result-all : b ≡ body.All → l′ ≡ put 0 (captureOf q v) l → l′ ≡ put 0 (resultOf q list v b) l
   unfolding resultOf
-  result-all e h = h ∙ rw (e, all-parts q list v)
+  result-all e h = h ∙ rw e
 
 -- ---- what fits, by the body ----
 
@@ -123,6 +121,6 @@ module _ (q : ℕ) (list v : List ℕ) (b : Body) (l : List ℕ) (fits : length 
   unfolding resultOf
   fits-selected e = rw e at fits
 
-  pub fits-all : b ≡ body.All → length (partsWritten All q list v) ≤ length l
+  pub fits-all : b ≡ body.All → q < 5 → length v ≡ valuesSize → partsSize q ≤ length l
   unfolding resultOf
-  fits-all e = rw (all-parts q list v) (rw e at fits)
+  fits-all e k h = rw (e, capture-length q v k h) at fits

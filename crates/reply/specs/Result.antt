@@ -5,8 +5,7 @@ use lib.ListN.{replicate}
 use Rattle.wire.specs.Le.{bytes}
 use Rattle.protocol.specs.Answers.{kindNumber}
 use Rattle.inventory.specs.Inventory.{partCount}
-use Rattle.capture.specs.declared.Selection.the-variants.{Asked}
-use Rattle.capture.specs.Capture.{headersOf, partsWritten, captureOf}
+use Rattle.capture.specs.Capture.{Asked, headersOf, partsWritten, captureOf}
 use Rattle.reads.specs.declared.Body.{Body}
 use Rattle.reads.specs.declared.Body.the-variants.{Nothing, Kind, Number, Headers, Selected, All}
 

@@ -9,7 +9,6 @@ ghost use Rattle.inventory.specs.Inventory.{partCount, valuesSize};
 ghost use Rattle.capture.specs.Capture.{headersOf};
 ghost use Rattle.reply.specs.Result.{numberBytes, resultOf};
 ghost use Rattle.reply.specs.Reply.{headOf, finalOf, concludeOf};
-use capture::Selection;
 use protocol::Answer;
 use reads::Body;
 
@@ -83,8 +82,8 @@ fn result_bytes(body: Body, queues: u8, list: &[u8]) -> usize
         Body::Kind(_) => 8,
         Body::Number(_) => 8,
         Body::Headers => 8 + capture::headers_bytes(queues),
-        Body::Selected => capture::parts_bytes(queues, Selection::Asked, list),
-        Body::All => capture::parts_bytes(queues, Selection::All, list),
+        Body::Selected => capture::asked_bytes(queues, list),
+        Body::All => inventory::parts_size(queues) as usize,
     }
 }
 
@@ -116,8 +115,8 @@ fn write_result(body: Body, queues: u8, list: &[u8], values: &[u8], out: &mut [u
         Body::Kind(kind) => write_number(out, protocol::kind_number(kind) as u32),
         Body::Number(n) => write_number(out, n),
         Body::Headers => write_metadata_list(out, queues),
-        Body::Selected => capture::write_parts(out, values, queues, Selection::Asked, list),
-        Body::All => capture::write_parts(out, values, queues, Selection::All, list),
+        Body::Selected => capture::write_asked(out, values, queues, list),
+        Body::All => capture::write_all(out, values, queues),
     }
 }
 

@@ -5,7 +5,7 @@ use Prim.Native.Nat.{_+_, _*_, _-_, _≤_}
 use native.Mathlib.Omega.{arith}
 use borrow.Author.Needs.{needs}
 use Rattle.inventory.specs.Inventory.{rows, rowCount}
-use Rattle.capture.specs.declared.Selection.the-variants.{Asked}
+use Rattle.capture.specs.Capture.{Asked}
 use Rattle.capture.proofs.Sizes.{sumFrom, sum-start, sum-on, summed, itemSize, parts-length}
 use Rattle.capture.proofs.Writes.{row-bytes, row-most}
 use Rattle.capture.proofs.asked_bytes.Statement.{statement}

@@ -5,8 +5,7 @@ use native.Mathlib.Omega.{arith}
 use borrow.Author.Needs.{needs}
 use Rattle.theory.proofs.Items.{Written, written-start, written-end}
 use Rattle.inventory.specs.Inventory.{rows, rowCount}
-use Rattle.capture.specs.declared.Selection.the-variants.{Asked}
-use Rattle.capture.specs.Capture.{partItem, partsWritten}
+use Rattle.capture.specs.Capture.{Asked, partItem, partsWritten}
 use Rattle.capture.proofs.Writes.{row-small, row-inside, parts-room, parts-on, parts-skip}
 use Rattle.capture.proofs.write_asked.Statement.{statement}
 use Rattle.capture.proofs.write_asked.Tie as tie
