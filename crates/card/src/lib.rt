@@ -29,7 +29,7 @@ const RECORD_SIZE: usize = 222;
 // ---- the layout ----
 
 // A byte as a number of the width that members are counted in.
-pub fn wide(b: u8) -> u64
+fn wide(b: u8) -> u64
     ensures { λ r. ⌜ (r ≡ b) × (r < 256) ⌝ }
 {
     b as u64

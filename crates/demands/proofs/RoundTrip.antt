@@ -23,7 +23,7 @@ use Rattle.rules.specs.Rules.{causeOf}
 use Rattle.values.specs.Apply.{applied}
 use Rattle.capture.specs.Capture.{captureOf}
 use Rattle.capture.proofs.Sizes.{capture-length}
-use Rattle.capture.proofs.RoundTrip.{accepted as capture-accepted, captured as capture-restored}
+use Rattle.restore.proofs.RoundTrip.{accepted as capture-accepted, captured as capture-restored}
 use Rattle.member.specs.declared.Member.{Member}
 use Rattle.member.specs.declared.Found.the-variants.{Live}
 use Rattle.member.specs.Objects.{lookupOf}

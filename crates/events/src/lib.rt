@@ -64,7 +64,7 @@ fn write_fresh(card: &mut [u8], s: Setup)
 {
     write_head(card, s);
     let features = s.features;
-    write_members(card, card::wide(s.members), features);
+    write_members(card, s.members as u64, features);
 }
 
 // Whether a setup is in document 01's numbers, its features are 16 bytes, and the buffer is one card long.

@@ -22,8 +22,8 @@ use Rattle.rules.specs.declared.Cause.the-variants.{Accepted}
 use Rattle.rules.specs.Rules.{known, knownOrSkipped, lengthRight, featuresSame, every, repeated, causeIn, causeOf}
 use Rattle.values.specs.Apply.{stored, applied}
 use Rattle.values.proofs.Kept.{stored-at, stored-length, applied-features}
 use Rattle.capture.specs.Capture.{All, partItem, partsWritten, captureOf}
-use Rattle.capture.proofs.Rows.{rowPart, rowParts, capture-parts, by-rows, items-same, item-same}
+use Rattle.restore.proofs.Rows.{rowPart, rowParts, capture-parts, by-rows, items-same, item-same}
 
 -- the bytes of row i's value
 abbrev valueOf : List ℕ → ℕ → List ℕ
