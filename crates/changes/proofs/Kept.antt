@@ -14,12 +14,13 @@ use Rattle.protocol.specs.Answers.{isDone}
 use Rattle.parts.specs.List.{PartList}
 use Rattle.values.specs.Apply.{applied}
 use Rattle.values.proofs.Kept.{applied-length}
-use Rattle.member.specs.declared.Slot.{Slot}
-use Rattle.member.specs.declared.Slot.the-variants.{Free}
+use Rattle.objects.specs.declared.Slot.{Slot}
+use Rattle.objects.specs.declared.Slot.the-variants.{Free}
+use Rattle.objects.specs.declared.Found.{Found}
+use Rattle.objects.specs.declared.Found.the-variants.{Live, Nothing}
+use Rattle.objects.specs.Objects.{slotFor, onFound}
 use Rattle.member.specs.declared.Member.{Member}
-use Rattle.member.specs.declared.Found.{Found}
-use Rattle.member.specs.declared.Found.the-variants.{Live, Nothing}
-use Rattle.member.specs.Objects.{slotFor, lookupOf, onFound, withObject, roomIn}
+use Rattle.member.specs.Objects.{lookupOf, withObject, roomIn}
 use Rattle.member.specs.Member.{withMode, withValues}
 use Rattle.member.proofs.Record.{Shaped, shaped-mode, shaped-values, shaped-object}
 use Rattle.member.proofs.Sound.{SoundMember, sound-mode, sound-object, sound-free, sound-applied}

@@ -1,5 +1,5 @@
 use borrow.Author.Needs.{needs}
-use Rattle.member.proofs.Record.{bytes-low}
+use Rattle.objects.proofs.Objects.{bytes-low}
 use Rattle.member.proofs.has_room.Statement.{statement}
 use Rattle.member.proofs.has_room.Tie as tie
 

@@ -1,4 +1,4 @@
--- `member::clear` meets its contract: a walk of its MIR by hand, since the borrow checker covers no slice of structs. The
+-- `objects::clear` meets its contract: a walk of its MIR by hand, since the borrow checker covers no slice of structs. The
 -- free record is made in a local; the lent slice is opened, record i is taken out of its row, stored over and put back,
 -- and the slice is closed at the list with the free record at i. Assumes nothing.
 use mathlib.Core.Path.{_≡_, refl, sym, ap, subst}
@@ -45,18 +45,18 @@ use denote.Triple.Table.{entered}
 use denote.Triple.Walked.{says, needs, Stays, stay-none, stay-slice, goes-none, goes-slice}
 use denote.Triple.Walked.{walkOf, ends-at, walked, walk-meets}
 use denote.Exit.{yes}
-use Rattle.member.specs.declared.Slot.the-variants.{Free}
-use Rattle.member.specs.declared.ObjectRecord.{ObjectRecord}
-use Rattle.member.specs.Objects.{free}
-use Rattle.member.proofs.MirSteps.{value, sets, free-full}
-use Rattle.member.proofs.Slot as S
-use Rattle.member.proofs.Slot.Laws as S′
-use Rattle.member.proofs.ObjectRecord as R
-use Rattle.member.proofs.ObjectRecord.Laws as R′
-use Rattle.member.proofs.clear.Key.{name as #member·clear}
-use Rattle.member.proofs.clear as clear
-use Rattle.member.proofs.clear.Statement as stated
-use Rattle.member.proofs.clear.Code as code
+use Rattle.objects.specs.declared.Slot.the-variants.{Free}
+use Rattle.objects.specs.declared.ObjectRecord.{ObjectRecord}
+use Rattle.objects.specs.Objects.{free}
+use Rattle.objects.proofs.MirSteps.{value, sets, free-full}
+use Rattle.objects.proofs.Slot as S
+use Rattle.objects.proofs.Slot.Laws as S′
+use Rattle.objects.proofs.ObjectRecord as R
+use Rattle.objects.proofs.ObjectRecord.Laws as R′
+use Rattle.objects.proofs.clear.Key.{name as #objects·clear}
+use Rattle.objects.proofs.clear as clear
+use Rattle.objects.proofs.clear.Statement as stated
+use Rattle.objects.proofs.clear.Code as code
 
 -- at exit the slice is still owned, at its last list, and the index is as it was passed
 abbrev stayed : Stays (clear.ended .signature .params) (clear.ended .kept)
@@ -177,5 +177,5 @@ pub clear-spec : {M : Type 1} → stated.statement M
 unfolding code.routine tablesOf
 clear-spec 𝓤 H 𝓜 𝓖 𝓡 =
     entered 𝓤 H (tripleOf 𝓤 H (𝓖 .A) clear.signature (clear.spec 𝓤 H (𝓖 .A) (𝓜 .mem) (𝓡 .run)))
-    (tables 𝓤 H 𝓜 𝓡 code.env .C) (tables 𝓤 H 𝓜 𝓡 code.env .Λ) #member·clear code.function (code.unfolded 𝓤 H 𝓜 𝓡)
+    (tables 𝓤 H 𝓜 𝓡 code.env .C) (tables 𝓤 H 𝓜 𝓡 code.env .Λ) #objects·clear code.function (code.unfolded 𝓤 H 𝓜 𝓡)
     (meets 𝓤 H (𝓖 .A) (givenOf 𝓤 H 𝓜 𝓖) (𝓜 .mem) (𝓡 .run) (tablesOf 𝓤 H 𝓜 (tables 𝓤 H 𝓜 𝓡 code.env)))

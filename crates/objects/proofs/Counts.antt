@@ -12,8 +12,8 @@ use lib.Seq.{drop-cons, drop-set-lt, drop-set-add}
 use borrow.Author.Tests.{leb-true, le-leb, ne-eqb, not-false}
 use Rattle.theory.specs.Logic.{_and_, one}
 use Rattle.theory.proofs.Tests.{by-cases, both, and-i, and-true, and-assoc, one-false, one-le, tests}
-use Rattle.member.specs.Record.{objectsSize}
-use Rattle.member.specs.Objects.{count, allUpTo, withinLimits}
+use Rattle.objects.specs.Objects.{objectsSize}
+use Rattle.objects.specs.Objects.{count, allUpTo, withinLimits}
 
 pub map-set : {A B : Type 0} (f : A → B) (l : List A) (i : ℕ) (x : A) → map f (set l i x) ≡ set (map f l) i (f x)
 map-set f [] i x = refl

@@ -1,8 +1,8 @@
 use native.Mathlib.Omega.{arith}
 use mathlib.Core.Path.{_≡_}
-use Rattle.member.proofs.Counts.{odd-hit, half-hit}
-use Rattle.member.proofs.hit.Statement.{statement}
-use Rattle.member.proofs.hit.Tie as tie
+use Rattle.objects.proofs.Counts.{odd-hit, half-hit}
+use Rattle.objects.proofs.hit.Statement.{statement}
+use Rattle.objects.proofs.hit.Tie as tie
 
 returns : tie.Need-returns
 returns c = rw (c .if1 .taken) (odd-hit _ (c .before .pre .0))

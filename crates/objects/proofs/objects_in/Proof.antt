@@ -3,10 +3,10 @@ use mathlib.Core.Path.{_≡_}
 use mathlib.Core.List.{map}
 use Prim.Native.Nat.{_-_, _≤_}
 use lib.ListN.{length, take}
-use Rattle.member.specs.Record.{objectOf}
-use Rattle.member.proofs.Arrays.{filled-on, filled}
-use Rattle.member.proofs.objects_in.Statement.{statement}
-use Rattle.member.proofs.objects_in.Tie as tie
+use Rattle.objects.specs.Objects.{objectOf}
+use Rattle.objects.proofs.Arrays.{filled-on, filled}
+use Rattle.objects.proofs.objects_in.Statement.{statement}
+use Rattle.objects.proofs.objects_in.Tie as tie
 
 abbrev Inv-loop : tie.InvT-loop
 Inv-loop bytes objects₀ i₀ objects i = (i ≤ 16) × (length objects ≡ 16) × (take i objects ≡ take i (map objectOf bytes))

@@ -3,10 +3,10 @@ use mathlib.Core.Path.{_≡_}
 use mathlib.Core.List.{map}
 use Prim.Native.Nat.{_-_, _≤_}
 use lib.ListN.{length, take}
-use Rattle.member.specs.Record.{objectByte}
-use Rattle.member.proofs.Arrays.{filled-on, filled}
-use Rattle.member.proofs.object_bytes.Statement.{statement}
-use Rattle.member.proofs.object_bytes.Tie as tie
+use Rattle.objects.specs.Objects.{objectByte}
+use Rattle.objects.proofs.Arrays.{filled-on, filled}
+use Rattle.objects.proofs.object_bytes.Statement.{statement}
+use Rattle.objects.proofs.object_bytes.Tie as tie
 
 abbrev Inv-loop : tie.InvT-loop
 Inv-loop objects bytes₀ i₀ bytes i = (i ≤ 16) × (length bytes ≡ 16) × (take i bytes ≡ take i (map objectByte objects))

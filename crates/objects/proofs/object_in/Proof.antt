@@ -1,7 +1,7 @@
 use borrow.Author.Needs.{needs}
-use Rattle.member.proofs.Objects.{object-other}
-use Rattle.member.proofs.object_in.Statement.{statement}
-use Rattle.member.proofs.object_in.Tie as tie
+use Rattle.objects.proofs.Objects.{object-other}
+use Rattle.objects.proofs.object_in.Statement.{statement}
+use Rattle.objects.proofs.object_in.Tie as tie
 
 pub object-in-spec : {M : Type 1} → statement M
 object-in-spec =

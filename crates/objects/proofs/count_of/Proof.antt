@@ -3,11 +3,11 @@ use native.Mathlib.Omega.{arith}
 use mathlib.Core.Path.{_≡_}
 use Prim.Native.Nat.{_+_, _-_, _≤_}
 use lib.ListN.{drop}
-use Rattle.member.specs.Record.{objectsSize}
-use Rattle.member.specs.Objects.{count}
-use Rattle.member.proofs.Counts.{count-on, counted, hit-le, all-at}
-use Rattle.member.proofs.count_of.Statement.{statement}
-use Rattle.member.proofs.count_of.Tie as tie
+use Rattle.objects.specs.Objects.{objectsSize}
+use Rattle.objects.specs.Objects.{count}
+use Rattle.objects.proofs.Counts.{count-on, counted, hit-le, all-at}
+use Rattle.objects.proofs.count_of.Statement.{statement}
+use Rattle.objects.proofs.count_of.Tie as tie
 
 abbrev Inv-loop : tie.InvT-loop
 Inv-loop v bytes n₀ i₀ n i = (i ≤ objectsSize) × (n ≤ i) × (count v bytes ≡ n + count v (drop i bytes))

@@ -1,8 +1,8 @@
 use borrow.Author.Needs.{needs}
 use Rattle.theory.proofs.Ladder.{ladder}
-use Rattle.member.proofs.Counts.{all-found}
-use Rattle.member.proofs.are_objects_sound.Statement.{statement}
-use Rattle.member.proofs.are_objects_sound.Tie as tie
+use Rattle.objects.proofs.Counts.{all-found}
+use Rattle.objects.proofs.are_objects_sound.Statement.{statement}
+use Rattle.objects.proofs.are_objects_sound.Tie as tie
 
 pub are-objects-sound-spec : {M : Type 1} → statement M
 are-objects-sound-spec =

@@ -1,4 +1,4 @@
--- `member::cleared` meets its contract: a walk of its MIR by hand. The parameter is copied into a local, which is lent
+-- `objects::cleared` meets its contract: a walk of its MIR by hand. The parameter is copied into a local, which is lent
 -- whole to `clear` for one call and comes back at the list that `clear` says. Of `clear` the walk knows its contract
 -- alone. Assumes nothing.
 use mathlib.Core.Path.{_≡_, refl, sym, subst}
@@ -42,21 +42,21 @@ use denote.Triple.Clauses.{Clauses, ensured, lasts}
 use denote.Triple.Table.{entered, cited}
 use denote.Triple.Walked.{says, needs, Stays, stay-none, goes-none, walkOf, ends-at, walked, walk-meets}
 use denote.Exit.{yes}
-use Rattle.member.specs.declared.ObjectRecord.{ObjectRecord}
-use Rattle.member.specs.Objects.{free}
-use Rattle.member.proofs.MirSteps.{value, sets, free-full}
-use Rattle.member.proofs.LentArray as lent
-use Rattle.member.proofs.LentArray.{token}
-use Rattle.member.proofs.ObjectRecord as R
-use Rattle.member.proofs.ObjectRecord.Laws as R′
-use Rattle.member.proofs.clear as clear
-use Rattle.member.proofs.clear.Symbol as clear-def
-use Rattle.member.proofs.clear.Symbol.{name as #member·clear}
-use Rattle.member.proofs.clear.Met as clear-thm
-use Rattle.member.proofs.cleared.Key.{name as #member·cleared}
-use Rattle.member.proofs.cleared as cleared
-use Rattle.member.proofs.cleared.Statement as stated
-use Rattle.member.proofs.cleared.Code as code
+use Rattle.objects.specs.declared.ObjectRecord.{ObjectRecord}
+use Rattle.objects.specs.Objects.{free}
+use Rattle.objects.proofs.MirSteps.{value, sets, free-full}
+use Rattle.objects.proofs.LentArray as lent
+use Rattle.objects.proofs.LentArray.{token}
+use Rattle.objects.proofs.ObjectRecord as R
+use Rattle.objects.proofs.ObjectRecord.Laws as R′
+use Rattle.objects.proofs.clear as clear
+use Rattle.objects.proofs.clear.Symbol as clear-def
+use Rattle.objects.proofs.clear.Symbol.{name as #objects·clear}
+use Rattle.objects.proofs.clear.Met as clear-thm
+use Rattle.objects.proofs.cleared.Key.{name as #objects·cleared}
+use Rattle.objects.proofs.cleared as cleared
+use Rattle.objects.proofs.cleared.Statement as stated
+use Rattle.objects.proofs.cleared.Code as code
 
 -- the machine values of a record; sixteen records, and their machine value
 abbrev vals : ObjectRecord → List Val
@@ -152,7 +152,7 @@ module _ {M : Type 1} (𝓤 : URA M) (H : Heap 𝓤) (A : Atoms 𝓤) (W : Given
           split ! $ move ! (2 ∷ []) $ fsplit ! $ fsplit ! $ at-once ! $
           show ! (λ zs. mean 𝓤 H A (Returned w zs)) (ws .0) $ check ! unit $ check ! e $ keep ! (3 ∷ 0 ∷ []) $ done !))))
 
-    walk : (C : Calls 𝓤 H) (Λ : Loops 𝓤 H) → FmC 𝓤 H (W .laws) C → Triple 𝓤 (C #member·clear) Clear → i < length xs
+    walk : (C : Calls 𝓤 H) (Λ : Loops 𝓤 H) → FmC 𝓤 H (W .laws) C → Triple 𝓤 (C #objects·clear) Clear → i < length xs
         → ent 𝓤 (onEntry 𝓤 H A cleared.signature tt tt args at)
         (WpFn 𝓤 H C Λ code.function (val xs ∷ vint w64 i ∷ []) Post)
     walk C Λ fm known within =
@@ -186,7 +186,7 @@ module _ {M : Type 1} (𝓤 : URA M) (H : Heap 𝓤) (A : Atoms 𝓤) (W : Given
         free-full ! 4 refl refl $ free-full ! 2 refl refl $ free-full ! 0 refl refl $ free0 ! $
         keep ! [] $ by ! (exits zs zs-is e))))))))))))))
 
-  meets : (𝓣 : Tables 𝓤 H) → Triple 𝓤 (𝓣 .C #member·clear) Clear
+  meets : (𝓣 : Tables 𝓤 H) → Triple 𝓤 (𝓣 .C #objects·clear) Clear
       → Meets 𝓤 H A cleared.signature (WpFn 𝓤 H (𝓣 .C) (𝓣 .Λ) code.function) (cleared.spec 𝓤 H A mem run)
   meets 𝓣 known =
       walk-meets 𝓤 H A cleared.ended stayed W (
@@ -205,7 +205,7 @@ pub cleared-spec : {M : Type 1} → stated.statement M
 unfolding code.routine tablesOf
 cleared-spec 𝓤 H 𝓜 𝓖 𝓡 =
     entered 𝓤 H (tripleOf 𝓤 H (𝓖 .A) cleared.signature (cleared.spec 𝓤 H (𝓖 .A) (𝓜 .mem) (𝓡 .run)))
-    (tables 𝓤 H 𝓜 𝓡 code.env .C) (tables 𝓤 H 𝓜 𝓡 code.env .Λ) #member·cleared code.function (code.unfolded 𝓤 H 𝓜 𝓡)
+    (tables 𝓤 H 𝓜 𝓡 code.env .C) (tables 𝓤 H 𝓜 𝓡 code.env .Λ) #objects·cleared code.function (code.unfolded 𝓤 H 𝓜 𝓡)
     (meets 𝓤 H (𝓖 .A) (givenOf 𝓤 H 𝓜 𝓖) (𝓜 .mem) (𝓡 .run) (tablesOf 𝓤 H 𝓜 (tables 𝓤 H 𝓜 𝓡 code.env))
     (cited 𝓤 H (Clear 𝓤 H (𝓖 .A) (givenOf 𝓤 H 𝓜 𝓖) (𝓜 .mem) (𝓡 .run)) 𝓜 𝓡 code.env
-    #member·clear clear-def.routine code.calls-member·clear (clear-thm.met 𝓤 H 𝓜 𝓖 𝓡)))
+    #objects·clear clear-def.routine code.calls-objects·clear (clear-thm.met 𝓤 H 𝓜 𝓖 𝓡)))

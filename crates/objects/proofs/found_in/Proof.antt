@@ -1,7 +1,7 @@
 use borrow.Author.Needs.{needs}
-use Rattle.member.proofs.Objects.{found-get, found-set}
-use Rattle.member.proofs.found_in.Statement.{statement}
-use Rattle.member.proofs.found_in.Tie as tie
+use Rattle.objects.proofs.Objects.{found-get, found-set}
+use Rattle.objects.proofs.found_in.Statement.{statement}
+use Rattle.objects.proofs.found_in.Tie as tie
 
 pub found-in-spec : {M : Type 1} → statement M
 found-in-spec =

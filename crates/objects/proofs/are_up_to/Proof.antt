@@ -4,10 +4,10 @@ use borrow.Author.Needs.{needs}
 use lib.ListN.{length, drop}
 use Rattle.theory.specs.Logic.{_and_}
 use Rattle.theory.proofs.Tests.{true-and}
-use Rattle.member.specs.Objects.{allUpTo}
-use Rattle.member.proofs.Counts.{up-to-on, up-to-end}
-use Rattle.member.proofs.are_up_to.Statement.{statement}
-use Rattle.member.proofs.are_up_to.Tie as tie
+use Rattle.objects.specs.Objects.{allUpTo}
+use Rattle.objects.proofs.Counts.{up-to-on, up-to-end}
+use Rattle.objects.proofs.are_up_to.Statement.{statement}
+use Rattle.objects.proofs.are_up_to.Tie as tie
 
 abbrev Inv-loop : tie.InvT-loop
 Inv-loop n from bytes all₀ i₀ all i = allUpTo n (drop from bytes) ≡ all and allUpTo n (drop i bytes)

@@ -1,7 +1,7 @@
 use borrow.Author.Tests.{le-leb, lt-leb}
 use Rattle.theory.proofs.Tests.{and-true, and-false}
-use Rattle.member.proofs.still_up_to.Statement.{statement}
-use Rattle.member.proofs.still_up_to.Tie as tie
+use Rattle.objects.proofs.still_up_to.Statement.{statement}
+use Rattle.objects.proofs.still_up_to.Tie as tie
 
 pub still-up-to-spec : {M : Type 1} → statement M
 still-up-to-spec =

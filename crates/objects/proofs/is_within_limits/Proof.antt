@@ -1,9 +1,9 @@
 use native.Mathlib.Omega.{arith}
 use Rattle.theory.proofs.Ladder.{ladder}
 use borrow.Author.Needs.{needs}
-use Rattle.member.specs.Objects.{withinLimits}
-use Rattle.member.proofs.is_within_limits.Statement.{statement}
-use Rattle.member.proofs.is_within_limits.Tie as tie
+use Rattle.objects.specs.Objects.{withinLimits}
+use Rattle.objects.proofs.is_within_limits.Statement.{statement}
+use Rattle.objects.proofs.is_within_limits.Tie as tie
 
 returns : tie.Need-returns
 unfolding withinLimits
