@@ -11,15 +11,17 @@ use Rattle.protocol.specs.declared.ObjectKind.{ObjectKind}
 use Rattle.protocol.specs.declared.ChangeOp.{ChangeOp}
 use Rattle.protocol.specs.declared.ChangeOp.the-variants.{Create, Modify, Destroy, SetParts, SetMode}
 use Rattle.protocol.specs.Answers.{isDone}
+use Rattle.protocol.proofs.Operations.{IdBelow}
 use Rattle.parts.specs.List.{PartList}
 use Rattle.values.specs.Apply.{applied}
 use Rattle.values.proofs.Kept.{applied-length}
-use Rattle.member.specs.declared.Slot.{Slot}
-use Rattle.member.specs.declared.Slot.the-variants.{Free}
+use Rattle.objects.specs.declared.Slot.{Slot}
+use Rattle.objects.specs.declared.Slot.the-variants.{Free}
+use Rattle.objects.specs.declared.Found.{Found}
+use Rattle.objects.specs.declared.Found.the-variants.{Live, Nothing}
+use Rattle.objects.specs.Objects.{slotFor, onFound}
 use Rattle.member.specs.declared.Member.{Member}
-use Rattle.member.specs.declared.Found.{Found}
-use Rattle.member.specs.declared.Found.the-variants.{Live, Nothing}
-use Rattle.member.specs.Objects.{slotFor, lookupOf, onFound, withObject, roomIn}
+use Rattle.member.specs.Objects.{lookupOf, withObject, roomIn}
 use Rattle.member.specs.Member.{withMode, withValues}
 use Rattle.member.proofs.Record.{Shaped, shaped-mode, shaped-values, shaped-object}
 use Rattle.member.proofs.Sound.{SoundMember, sound-mode, sound-object, sound-free, sound-applied}
@@ -30,14 +32,6 @@ use Rattle.changes.specs.Changes.{refuse, done, limited, createOf, modif
 pub data Puts : ChangeOp → ℕ → Type 0 where
   creates : {id : ℕ} {kind : ObjectKind} → Puts (Create id kind) id
   modifies : {id : ℕ} {kind : ObjectKind} → Puts (Modify id kind) id
-
--- the ids of a command are valid: step 7
-abbrev pub IdBelow : ℕ → ChangeOp → Type 0
-IdBelow ids (Create id kind) = id < ids
-IdBelow ids (Modify id kind) = id < ids
-IdBelow ids (Destroy id) = id < ids
-IdBelow ids (SetParts id) = id < ids
-IdBelow ids (SetMode mode) = Unit {0}
 
 put-below : (ids : ℕ) {op : ChangeOp} {id : ℕ} → IdBelow ids op → Puts op id → id < ids
 put-below ids h creates = h

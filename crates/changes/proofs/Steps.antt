@@ -3,10 +3,10 @@
 use mathlib.Core.Path.{_≡_, _∙_}
 use Prim.Native.Nat.{ℕ}
 use Rattle.theory.proofs.Ladder.{ladder}
-use Rattle.member.specs.declared.Slot.{Slot}
+use Rattle.objects.specs.declared.Slot.{Slot}
 use Rattle.member.specs.declared.Member.{Member}
 use Rattle.member.specs.Objects.{withObject}
-use Rattle.reads.proofs.Steps.{on-live, on-nothing}
+use Rattle.member.proofs.Objects.{on-live, on-nothing}
 use Rattle.changes.specs.declared.Changed.{Changed}
 use Rattle.changes.specs.Changes.{done, limited}
 

@@ -15,10 +15,11 @@ use Rattle.parts.specs.declared.ListForm.the-variants.{Parts}
 use Rattle.parts.specs.List.{partsOf}
 use Rattle.rules.specs.Rules.{causeOf, isAccepted}
 use Rattle.values.specs.Apply.{applied}
-use Rattle.member.specs.declared.Slot.the-variants.{Free}
+use Rattle.objects.specs.declared.Slot.the-variants.{Free}
+use Rattle.objects.specs.Objects.{slotFor, onFound}
 use Rattle.member.specs.declared.Member.{Member}
 use Rattle.member.specs.Record.{modeByte}
-use Rattle.member.specs.Objects.{slotFor, lookupOf, onFound, withObject, roomIn}
+use Rattle.member.specs.Objects.{lookupOf, withObject, roomIn}
 use Rattle.member.specs.Member.{featuresIn, withMode, withValues}
 use Rattle.changes.specs.declared.Changed.{Changed}
 

@@ -4,8 +4,8 @@ ghost use Rattle.member.specs.Member.{featuresIn, withMode};
 ghost use Rattle.rules.specs.Rules.{causeOf, isAccepted};
 ghost use Rattle.changes.specs.Changes.{limited, createOf, modifyOf, destroyOf, setPartsOf, changeOf};
 ghost use Rattle.changes.specs.Changes.{refuse as refused, done as accepted};
-use member::Found;
 use member::Member;
+use objects::Found;
 use protocol::Answer;
 use protocol::ChangeOp;
 use protocol::Mode;
@@ -48,7 +48,7 @@ fn create(m: Member, id: usize, kind: ObjectKind, gets: u8, sets: u8) -> Changed
     let Found::Nothing = member::lookup(m, id) else {
         return refuse(m, Answer::Exists);
     };
-    let n = member::put_object(m, id, member::slot_for(kind));
+    let n = member::put_object(m, id, objects::slot_for(kind));
     if_room(m, n, gets, sets)
 }
 
@@ -58,7 +58,7 @@ fn modify(m: Member, id: usize, kind: ObjectKind, gets: u8, sets: u8) -> Changed
     let Found::Live(_) = member::lookup(m, id) else {
         return refuse(m, Answer::NotLive);
     };
-    let n = member::put_object(m, id, member::slot_for(kind));
+    let n = member::put_object(m, id, objects::slot_for(kind));
     if_room(m, n, gets, sets)
 }
 

@@ -10,12 +10,12 @@ use lib.Seq.{getD-drop}
 use borrow.Author.Tests.{leb-true, leb-false}
 use Rattle.theory.proofs.Tests.{by-cases, both}
 use Rattle.protocol.specs.declared.ObjectKind.{ObjectKind}
-use Rattle.member.specs.declared.Slot.{Slot}
-use Rattle.member.specs.declared.Slot.the-variants.{Free, Get, Set}
+use Rattle.objects.specs.declared.Slot.{Slot}
+use Rattle.objects.specs.declared.Slot.the-variants.{Free, Get, Set}
+use Rattle.objects.specs.declared.Found.the-variants.{Live}
+use Rattle.objects.specs.Objects.{slotByte, objectByte, free, foundIn, allUpTo}
 use Rattle.member.specs.declared.Member.{Member}
-use Rattle.member.specs.declared.Found.the-variants.{Live}
-use Rattle.member.specs.Record.{slotByte, objectByte}
-use Rattle.member.specs.Objects.{free, foundIn, lookupOf, allUpTo}
+use Rattle.member.specs.Objects.{lookupOf}
 use Rattle.member.proofs.Sound.{SoundMember}
 
 -- none of these bytes is above 0, nor is what is read past them

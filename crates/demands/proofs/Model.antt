@@ -11,8 +11,9 @@ use Rattle.parts.specs.List.{headerAt, stepAt, atMost, partsFrom, whole, among}
 use Rattle.rules.specs.Rules.{known, knownOrSkipped, lengthRight, featuresSame, asksKnown, every, repeated, causeIn, askedIn}
 use Rattle.values.specs.Apply.{storable, stored, applied}
 use Rattle.capture.specs.Capture.{headerItem, headersOf, partAt, asks, partItem, partsWritten}
+use Rattle.objects.specs.Objects.{count, allUpTo, withinLimits}
 use Rattle.member.specs.Record.{memberOf, recordOf}
-use Rattle.member.specs.Objects.{lookupOf, withObject, count, allUpTo, withinLimits}
+use Rattle.member.specs.Objects.{lookupOf, withObject}
 use Rattle.member.specs.Member.{freshOf}
 use Rattle.member.specs.Sound.{soundRecord}
 use Rattle.changes.specs.Changes.{limited, createOf, modifyOf, destroyOf, setPartsOf}

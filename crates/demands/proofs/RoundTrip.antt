@@ -24,8 +24,8 @@ use Rattle.values.specs.Apply.{applied}
 use Rattle.capture.specs.Capture.{captureOf}
 use Rattle.capture.proofs.Sizes.{capture-length}
 use Rattle.restore.proofs.RoundTrip.{accepted as capture-accepted, captured as capture-restored}
+use Rattle.objects.specs.declared.Found.the-variants.{Live}
 use Rattle.member.specs.declared.Member.{Member}
-use Rattle.member.specs.declared.Found.the-variants.{Live}
 use Rattle.member.specs.Objects.{lookupOf}
 use Rattle.member.specs.Member.{featuresIn, withValues}
 use Rattle.member.proofs.Sound.{sound-applied}

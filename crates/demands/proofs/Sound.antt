@@ -11,25 +11,17 @@ use Rattle.protocol.specs.declared.ChangeOp.{ChangeOp}
 use Rattle.protocol.specs.declared.ChangeOp.the-variants.{Create, Modify, Destroy, SetParts, SetMode}
 use Rattle.member.specs.Member.{freshOf}
 use Rattle.member.proofs.Sound.{sound-fresh, sound-part}
-use Rattle.changes.proofs.Kept.{IdBelow, change-sound}
+use Rattle.changes.proofs.Kept.{change-sound}
 use Rattle.card.specs.Layout.{setupOf, inUseOf, isMember, memberIn}
 use Rattle.events.specs.Events.{resetMember, resetCard, ifDone, storeIn, store}
 use Rattle.card.proofs.LayoutLaws.{features-long}
 use Rattle.card.proofs.SoundLaws.{Sound, SoundIn, sound-of, is-sound, numbers-sound, sound-long, sound-member-in, sound-with-member, sound-with-use, sound-fresh-card}
 use Rattle.frame.specs.declared.Ask.{Ask}
 use Rattle.frame.specs.declared.Ask.the-variants.{Refused, QueryList, UseList, Read, Change}
-use Rattle.frame.proofs.Asked.{ChangeBelow, Facts, asked}
+use Rattle.frame.proofs.Asked.{Facts, asked}
 use Rattle.admin.specs.Command.{askIn, Effect, perform, conclude, respond}
 use Rattle.demands.specs.Calls.{Call, command, memberReset, cardReset, cardStore, step}
 use Rattle.demands.specs.Claims.{StaysSound}
-
--- what the frame knows of an id is what the operations ask
-valid-id : (ids : ℕ) (op : ChangeOp) → ChangeBelow ids op → IdBelow ids op
-valid-id ids (Create id kind) h = h
-valid-id ids (Modify id kind) h = h
-valid-id ids (Destroy id) h = h
-valid-id ids (SetParts id) h = h
-valid-id ids (SetMode mode) h = h
 
 module _ (c : List ℕ) (s : Sound c) where
   -- the device features are 16 bytes
@@ -47,7 +39,7 @@ module _ (c : List ℕ) (s : Sound c) where
   perform-sound r (Read m op) f = s
   perform-sound r (Change m op) f =
       let x = sound-member-in c s m (inside 1 _ m (f .0 .low) (f .0 .high)) in
-      sound-with-member c m _ s (f .0 .low) (change-sound (setupOf c .queues) _ _ _ op (memberIn c m) _ (valid-id _ op (f .1)) x)
+      sound-with-member c m _ s (f .0 .low) (change-sound (setupOf c .queues) _ _ _ op (memberIn c m) _ (f .1) x)
 
   conclude-sound : (room : ℕ) (e : Effect) → Sound (e .card) → Sound (conclude c room e .0)
   unfolding conclude

@@ -13,7 +13,7 @@ use Rattle.protocol.specs.declared.Mode.the-variants.{Stopped}
 use Rattle.protocol.specs.declared.ObjectKind.the-variants.{Get, Set}
 use Rattle.protocol.specs.Opcodes.{bit}
 use Rattle.inventory.specs.Inventory.{partsSize}
-use Rattle.member.specs.declared.Found.the-variants.{Live}
+use Rattle.objects.specs.declared.Found.the-variants.{Live}
 use Rattle.member.specs.Record.{recordSize}
 use Rattle.member.specs.Objects.{lookupOf}
 use Rattle.card.specs.Layout.{setupOf, inUseOf, isMember, recordAt, memberIn}

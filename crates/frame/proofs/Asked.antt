@@ -15,6 +15,7 @@ use Rattle.protocol.specs.declared.ReadOp.the-variants.{QueryObject, GetMetadat
 use Rattle.protocol.specs.declared.ChangeOp.{ChangeOp}
 use Rattle.protocol.specs.declared.ChangeOp.the-variants.{Create, Modify, Destroy, SetParts, SetMode}
 use Rattle.protocol.specs.Opcodes.{supported, supportedOnly, namesMember}
+use Rattle.protocol.proofs.Operations.{IdBelow}
 use Rattle.frame.proofs.Steps.{names-one}
 use Rattle.frame.specs.declared.Ask.{Ask}
 use Rattle.frame.specs.declared.Ask.the-variants.{Refused, QueryList, UseList, Read, Change}
@@ -28,13 +29,6 @@ ReadBelow ids (QueryObject id) = id < ids
 ReadBelow ids (GetMetadata id what) = id < ids
 ReadBelow ids (GetSelected id) = id < ids
 ReadBelow ids (GetAll id) = id < ids
-
-abbrev pub ChangeBelow : ℕ → ChangeOp → Type 0
-ChangeBelow ids (Create id kind) = id < ids
-ChangeBelow ids (Modify id kind) = id < ids
-ChangeBelow ids (Destroy id) = id < ids
-ChangeBelow ids (SetParts id) = id < ids
-ChangeBelow ids (SetMode mode) = Unit {0}
 
 -- the request names m, document 01's term, and m is a member of the card
 pub record Named (members : ℕ) (r : List ℕ) (m : ℕ) : Type 0 where
@@ -52,7 +46,7 @@ Facts members ids r (Refused a) = Unit {0}
 Facts members ids r QueryList = namesMember (opcodeOf r) ≡ false
 Facts members ids r (UseList mask) = (namesMember (opcodeOf r) ≡ false) × (supportedOnly mask ≡ true)
 Facts members ids r (Read m op) = Named members r m × ReadBelow ids op
-Facts members ids r (Change m op) = Named members r m × ChangeBelow ids op
+Facts members ids r (Change m op) = Named members r m × IdBelow ids op
 
 -- the id in an object header that passes
 id-below : (ids : ℕ) (d : List ℕ) → objectValid ids d ≡ true → idOf d < ids

@@ -14,7 +14,6 @@ use Rattle.theory.proofs.Tests.{both, either, inside, within-low, within-high, 
 use Rattle.theory.proofs.Ladder.{pass}
 use Rattle.wire.specs.Le.{number}
 use Rattle.protocol.specs.declared.Answer.the-variants.{BadField}
-use Rattle.protocol.specs.declared.Mode.the-variants.{Stopped}
 use Rattle.protocol.specs.declared.ObjectKind.the-variants.{Set}
 use Rattle.protocol.specs.declared.Metadata.the-variants.{List as Headers}
 use Rattle.protocol.specs.Opcodes.{opcodeRows, supported, supportedOnly, lengthFits, namesMember}
@@ -22,17 +21,13 @@ use Rattle.protocol.proofs.Rows.{supported-is, data-long}
 use Rattle.frame.specs.declared.Ask.{Ask}
 use Rattle.frame.specs.declared.Ask.the-variants.{Refused, UseList}
 use Rattle.frame.specs.Frame.{opcodeOf, groupOf, targetOf}
-use Rattle.frame.specs.Fields.{kindIn, modeIs, metadataIs, modeIn, useIn, fieldsOf}
+use Rattle.frame.specs.Fields.{kindIn, metadataIs, modeIn, useIn, fieldsOf}
 use Rattle.frame.specs.Ask.{usable, framedOf, askOf}
 
 -- a byte other than those before
 pub kind-set : (b : ℕ) → (b ≡ 0 → ⊥) → Set ≡ kindIn b
 kind-set zero n = absurd (n refl)
 kind-set (suc b) n = refl
-
-pub mode-stopped : (b : ℕ) → (b ≡ 0 → ⊥) → Stopped ≡ modeIs b
-mode-stopped zero n = absurd (n refl)
-mode-stopped (suc b) n = refl
 
 pub metadata-list : (b : ℕ) → (b ≡ 0 → ⊥) → (b ≡ 1 → ⊥) → Headers ≡ metadataIs b
 metadata-list zero n o = absurd (n refl)

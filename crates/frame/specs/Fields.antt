@@ -8,14 +8,13 @@ use lib.ListN.{length, getD}
 use Rattle.theory.specs.Logic.{if_then_else_, unless_answer_then_, _and_, _or_}
 use Rattle.wire.specs.Le.{number}
 use Rattle.protocol.specs.declared.Answer.the-variants.{BadField}
-use Rattle.protocol.specs.declared.Mode.{Mode}
-use Rattle.protocol.specs.declared.Mode.the-variants.{Running, Stopped}
 use Rattle.protocol.specs.declared.ObjectKind.{ObjectKind}
 use Rattle.protocol.specs.declared.ObjectKind.the-variants.{Get, Set}
 use Rattle.protocol.specs.declared.Metadata.{Metadata}
 use Rattle.protocol.specs.declared.Metadata.the-variants.{Size, Count, List as Headers}
 use Rattle.protocol.specs.declared.ReadOp.the-variants.{QueryObject, GetMetadata, GetSelected, GetAll}
 use Rattle.protocol.specs.declared.ChangeOp.the-variants.{Create, Modify, Destroy, SetParts, SetMode}
+use Rattle.protocol.specs.Answers.{modeOf}
 use Rattle.protocol.specs.Opcodes.{supportedOnly}
 use Rattle.frame.specs.declared.Ask.{Ask}
 use Rattle.frame.specs.declared.Ask.the-variants.{Refused, QueryList, UseList, Read, Change}
@@ -84,14 +83,10 @@ setIn ids m d =
     Change m (SetParts (idOf d))
 
 -- mode set: bit 0 set stops, clear resumes; bits 1 to 7 are 0
-abbrev pub modeIs : ℕ → Mode
-modeIs zero = Running
-modeIs (suc n) = Stopped
-
 unfoldable pub modeIn : ℕ → List ℕ → Ask
 modeIn m d =
     unless leb (getD d 0 0) 1 answer Refused BadField then
-    Change m (SetMode (modeIs (getD d 0 0)))
+    Change m (SetMode (modeOf (getD d 0 0)))
 
 -- list use: the mask has supported bits only
 unfoldable pub useIn : List ℕ → Ask

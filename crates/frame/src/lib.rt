@@ -4,12 +4,11 @@ ghost use mathlib.Core.Bool.{true};
 ghost use Prim.Native.Nat.{_≤_};
 ghost use lib.ListN.{length};
 ghost use Rattle.protocol.specs.Opcodes.{supported, lengthFits};
-ghost use Rattle.frame.specs.Fields.{idOf, objectValid, flagsValid, kindValid, kindIn, metadataIs, modeIs, createIn, modifyIn, queryIn, destroyIn, metadataIn, getIn, setIn, modeIn, useIn, fieldsOf};
+ghost use Rattle.frame.specs.Fields.{idOf, objectValid, flagsValid, kindValid, kindIn, metadataIs, createIn, modifyIn, queryIn, destroyIn, metadataIn, getIn, setIn, modeIn, useIn, fieldsOf};
 ghost use Rattle.frame.specs.Ask.{usable, reaches, framedOf, askOf};
 use protocol::Answer;
 use protocol::ChangeOp;
 use protocol::Metadata;
-use protocol::Mode;
 use protocol::ObjectKind;
 use protocol::ReadOp;
 
@@ -165,12 +164,6 @@ fn set_in(ids: u8, m: u64, d: &[u8]) -> Ask
     Ask::Change(m, ChangeOp::SetParts(id_of(d)))
 }
 
-fn mode_is(b: u8) -> Mode
-    ensures { λ r. ⌜ r ≡ modeIs b ⌝ }
-{
-    if b == 0 { Mode::Running } else { Mode::Stopped }
-}
-
 fn mode_in(m: u64, d: &[u8]) -> Ask
     requires { ⌜ 1 ≤ length (now d) ⌝ }
     ensures { λ r. ⌜ r ≡ modeIn m (now (d .entry)) ⌝ }
@@ -178,7 +171,7 @@ fn mode_in(m: u64, d: &[u8]) -> Ask
     if 1 < d[0] {
         return Ask::Refused(Answer::BadField);
     }
-    Ask::Change(m, ChangeOp::SetMode(mode_is(d[0])))
+    Ask::Change(m, ChangeOp::SetMode(protocol::mode_of(d[0])))
 }
 
 fn use_in(d: &[u8]) -> Ask

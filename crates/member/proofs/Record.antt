@@ -9,19 +9,20 @@ use lib.Dec.{leb}
 use lib.ListN.{length, getD, take, drop, set, replicate, length-append, length-map, length-set, length-drop, take-append-drop, List·getD-map}
 use lib.Seq.{take-at, drop-at, take-all}
 use Rattle.theory.specs.Bytes.{part, put}
-use Rattle.theory.proofs.Tests.{both, and-i}
 use Rattle.theory.proofs.Bytes.{length-put, length-part, put-all, put-cons, put-append, put-front, getD-part}
 use Rattle.inventory.specs.Inventory.{valuesSize}
+use Rattle.protocol.specs.Answers.{modeOf}
 use Rattle.protocol.specs.declared.Mode.{Mode}
 use Rattle.protocol.specs.declared.Mode.the-variants.{Running, Stopped}
-use Rattle.member.specs.declared.Slot.{Slot}
-use Rattle.member.specs.declared.Slot.the-variants.{Free, Get, Set}
-use Rattle.member.specs.declared.ObjectRecord.{ObjectRecord}
+use Rattle.objects.specs.declared.Slot.{Slot}
+use Rattle.objects.specs.declared.ObjectRecord.{ObjectRecord}
+use Rattle.objects.specs.declared.Found.{Found}
+use Rattle.objects.specs.declared.Found.the-variants.{Nothing}
+use Rattle.objects.specs.Objects.{objectsSize, objectOf, objectByte, foundIn, allUpTo}
+use Rattle.objects.proofs.Objects.{objects-back, bytes-of-objects}
 use Rattle.member.specs.declared.Member.{Member}
-use Rattle.member.specs.declared.Found.{Found}
-use Rattle.member.specs.declared.Found.the-variants.{Nothing}
-use Rattle.member.specs.Record.{objectsAt, objectsSize, valuesAt, recordSize, modeOf, modeByte, slotOf, slotByte, objectOf, objectByte, objectBytes, memberOf, recordOf}
-use Rattle.member.specs.Objects.{foundIn, lookupOf, allUpTo, withObject}
+use Rattle.member.specs.Record.{objectsAt, valuesAt, recordSize, modeByte, objectBytes, memberOf, recordOf}
+use Rattle.member.specs.Objects.{lookupOf, withObject}
 use Rattle.member.specs.Member.{withMode, withValues}
 use Rattle.member.proofs.Objects.{lookup-out}
 
@@ -40,53 +41,19 @@ pub shaped-object : (m : Member) → Shaped m → (id : ℕ) (slot : Slot) → S
 unfolding withObject
 shaped-object m s id slot = record { ids = length-set (m .objects) id (record { slot = slot }) ∙ s .ids; long = s .long }
 
--- ---- a byte and what it stands for ----
+-- ---- a mode and its byte ----
 
 mode-back : (m : Mode) → modeOf (modeByte m) ≡ m
 mode-back Running = refl
 mode-back Stopped = refl
 
-slot-back : (s : Slot) → slotOf (slotByte s) ≡ s
-slot-back Free = refl
-slot-back Get = refl
-slot-back Set = refl
-
-objects-back : (os : List ObjectRecord) → map objectOf (map objectByte os) ≡ os
-objects-back [] = refl
-objects-back (o ∷ os) = rw (slot-back (o .slot), objects-back os)
-
 byte-of-mode : (b : ℕ) → b ≤ 1 → modeByte (modeOf b) ≡ b
 byte-of-mode zero h = refl
 byte-of-mode (suc b) h = omega arith
 
-byte-of-slot : (b : ℕ) → b ≤ 2 → slotByte (slotOf b) ≡ b
-byte-of-slot zero h = refl
-byte-of-slot (suc zero) h = refl
-byte-of-slot (suc (suc b)) h = omega arith
-
-bytes-of-objects : (bs : List ℕ) → allUpTo 2 bs ≡ true → map objectByte (map objectOf bs) ≡ bs
-unfolding allUpTo
-bytes-of-objects [] e = refl
-bytes-of-objects (b ∷ bs) e =
-    let p = both _ _ e in
-    rw (byte-of-slot b (leb-true b 2 (p .0)), bytes-of-objects bs (p .1))
-
 pub mode-low : (m : Mode) → leb (modeByte m) 1 ≡ true
 mode-low Running = refl
 mode-low Stopped = refl
-
-slot-low : (s : Slot) → leb (slotByte s) 2 ≡ true
-slot-low Free = refl
-slot-low Get = refl
-slot-low Set = refl
-
-pub objects-low : (os : List ObjectRecord) → allUpTo 2 (map objectByte os) ≡ true
-unfolding allUpTo
-objects-low [] = refl
-objects-low (o ∷ os) = and-i _ _ (slot-low (o .slot)) (objects-low os)
-
-pub bytes-low : (os : List ObjectRecord) (bs : List ℕ) → bs ≡ map objectByte os → allUpTo 2 bs ≡ true
-bytes-low os bs e = rw e (objects-low os)
 
 -- ---- the record of a member ----
 

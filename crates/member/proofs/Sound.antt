@@ -18,15 +18,17 @@ use Rattle.parts.specs.List.{PartList}
 use Rattle.values.specs.Apply.{applied}
 use Rattle.values.proofs.Kept.{stored-length, stored-features, applied-length, applied-features}
 use Rattle.protocol.specs.declared.Mode.{Mode}
-use Rattle.member.specs.declared.Slot.{Slot}
-use Rattle.member.specs.declared.Slot.the-variants.{Free}
+use Rattle.objects.specs.declared.Slot.{Slot}
+use Rattle.objects.specs.declared.Slot.the-variants.{Free}
+use Rattle.objects.specs.Objects.{objectsSize, objectByte, allUpTo, withinLimits}
+use Rattle.objects.proofs.Objects.{objects-low}
+use Rattle.objects.proofs.Counts.{map-set, all-drop-set, all-drop, limits-set, none-live, none-counted}
 use Rattle.member.specs.declared.Member.{Member}
-use Rattle.member.specs.Record.{objectsSize, valuesAt, recordSize, objectByte, objectBytes, memberOf, recordOf}
-use Rattle.member.specs.Objects.{allUpTo, withinLimits, roomIn, withObject}
+use Rattle.member.specs.Record.{valuesAt, recordSize, objectBytes, memberOf, recordOf}
+use Rattle.member.specs.Objects.{roomIn, withObject}
 use Rattle.member.specs.Member.{freshOf, featuresIn, withMode, withValues, withPart}
 use Rattle.member.specs.Sound.{soundRecord}
-use Rattle.member.proofs.Record.{Shaped, mode-low, objects-low, record-mode, record-objects, record-values, record-back, member-shaped, shaped-mode, shaped-values, shaped-object}
-use Rattle.member.proofs.Counts.{map-set, all-drop-set, all-drop, limits-set, none-live, none-counted}
+use Rattle.member.proofs.Record.{Shaped, mode-low, record-mode, record-objects, record-values, record-back, member-shaped, shaped-mode, shaped-values, shaped-object}
 
 module _ (gets sets : ℕ) (features : List ℕ) where
   pub record SoundMember (m : Member) : Type 0 where

@@ -7,8 +7,8 @@ use Rattle.theory.specs.Bytes.{part}
 use Rattle.protocol.specs.declared.Mode.{Mode}
 use Rattle.protocol.specs.declared.Mode.the-variants.{Running}
 use Rattle.values.specs.Apply.{stored}
+use Rattle.objects.specs.Objects.{free}
 use Rattle.member.specs.declared.Member.{Member}
-use Rattle.member.specs.Objects.{free}
 
 -- "A fresh member runs, has no objects, has device features as in the setup and every other part all zero"
 unfoldable pub freshOf : List ℕ → Member

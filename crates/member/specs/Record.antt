@@ -1,22 +1,17 @@
 -- A member's record as bytes: mode 1, object records 16, values 205. Assumes nothing.
 use mathlib.Core.List.{List, _∷_, _++_, map}
-use Prim.Native.Nat.{ℕ, zero, suc}
+use Prim.Native.Nat.{ℕ}
 use lib.ListN.{getD}
 use Rattle.theory.specs.Bytes.{part}
 use Rattle.inventory.specs.Inventory.{valuesSize}
 use Rattle.protocol.specs.declared.Mode.{Mode}
 use Rattle.protocol.specs.declared.Mode.the-variants.{Running, Stopped}
-use Rattle.member.specs.declared.Slot.{Slot}
-use Rattle.member.specs.declared.Slot.the-variants.{Free, Get, Set}
-use Rattle.member.specs.declared.ObjectRecord.{ObjectRecord}
+use Rattle.protocol.specs.Answers.{modeOf}
+use Rattle.objects.specs.Objects.{objectsSize, objectOf, objectByte}
 use Rattle.member.specs.declared.Member.{Member}
 
 abbrev pub objectsAt : ℕ
 objectsAt = 1
-
--- one object record for each id that any setup allows: G + S is at most 16
-abbrev pub objectsSize : ℕ
-objectsSize = 16
 
 abbrev pub valuesAt : ℕ
 valuesAt = 17
@@ -25,30 +20,9 @@ abbrev pub recordSize : ℕ
 recordSize = 222
 
 -- 0 running, 1 stopped
-abbrev pub modeOf : ℕ → Mode
-modeOf zero = Running
-modeOf (suc n) = Stopped
-
 abbrev pub modeByte : Mode → ℕ
 modeByte Running = 0
 modeByte Stopped = 1
-
--- 0 free, 1 get, 2 set
-abbrev pub slotOf : ℕ → Slot
-slotOf zero = Free
-slotOf (suc zero) = Get
-slotOf (suc (suc n)) = Set
-
-abbrev pub slotByte : Slot → ℕ
-slotByte Free = 0
-slotByte Get = 1
-slotByte Set = 2
-
-abbrev pub objectOf : ℕ → ObjectRecord
-objectOf b = record { slot = slotOf b }
-
-abbrev pub objectByte : ObjectRecord → ℕ
-objectByte o = slotByte (o .slot)
 
 abbrev pub objectBytes : List ℕ → List ℕ
 objectBytes r = part objectsAt objectsSize r

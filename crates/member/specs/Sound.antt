@@ -6,8 +6,8 @@ use lib.Dec.{leb}
 use lib.ListN.{getD, drop}
 use Rattle.theory.specs.Logic.{_and_}
 use Rattle.theory.specs.Bytes.{part, same}
+use Rattle.objects.specs.Objects.{allUpTo, withinLimits}
 use Rattle.member.specs.Record.{objectBytes, valuesAt}
-use Rattle.member.specs.Objects.{allUpTo, withinLimits}
 
 -- its bytes say something: a mode and object records; "live ids below G + S, at most G get and S set objects, and the
 -- setup's device features"

@@ -1,11 +1,14 @@
--- The numbers of the answers, document 01, "Statuses, and which comes first", and of the kinds of objects. Assumes nothing.
+-- The numbers of the answers, document 01, "Statuses, and which comes first", of modes and of the kinds of
+-- objects. Assumes nothing.
 use mathlib.Core.Bool.{Bool}
-use Prim.Native.Nat.{ℕ}
+use Prim.Native.Nat.{ℕ, zero, suc}
 use lib.Dec.{eqb}
 use Rattle.protocol.specs.declared.Answer.{Answer}
 use Rattle.protocol.specs.declared.Answer.the-variants.{Done, BadLength, BadGroup, BadOpcode, NoMember, BadField, Exists, NotLive, NoRoom, WrongKind, Running, BadList, ShortReply}
 use Rattle.protocol.specs.declared.EventAnswer.{EventAnswer}
 use Rattle.protocol.specs.declared.EventAnswer.the-variants as event
+use Rattle.protocol.specs.declared.Mode.{Mode}
+use Rattle.protocol.specs.declared.Mode.the-variants as mode
 use Rattle.protocol.specs.declared.ObjectKind.{ObjectKind}
 use Rattle.protocol.specs.declared.ObjectKind.the-variants.{Get, Set}
 
@@ -51,6 +54,11 @@ eventNumber event.NoMember = 1
 eventNumber event.NoPart = 2
 eventNumber event.WrongLength = 3
 eventNumber event.BadSetup = 4
+
+-- 0 running, 1 stopped
+abbrev pub modeOf : ℕ → Mode
+modeOf zero = mode.Running
+modeOf (suc n) = mode.Stopped
 
 -- 0 get, 1 set
 abbrev pub kindNumber : ObjectKind → ℕ

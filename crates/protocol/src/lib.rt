@@ -2,7 +2,7 @@
 // ask of a member.
 ghost use mathlib.Core.Path.{_≡_};
 ghost use mathlib.Core.Bool.{true};
-ghost use Rattle.protocol.specs.Answers.{statusOf, qualifierOf, isDone, eventNumber, kindNumber};
+ghost use Rattle.protocol.specs.Answers.{statusOf, qualifierOf, isDone, eventNumber, modeOf, kindNumber};
 ghost use Rattle.protocol.specs.Opcodes.{supported, lengthFits, namesMember, bit, supportedOnly};
 
 // The answer to a command: document 01, "Statuses, and which comes first".
@@ -124,6 +124,13 @@ pub fn event_number(a: EventAnswer) -> u8
         EventAnswer::WrongLength => 3,
         EventAnswer::BadSetup => 4,
     }
+}
+
+// The mode that a byte stands for, in a record and in a command.
+pub fn mode_of(b: u8) -> Mode
+    ensures { λ r. ⌜ r ≡ modeOf b ⌝ }
+{
+    if b == 0 { Mode::Running } else { Mode::Stopped }
 }
 
 pub fn kind_number(kind: ObjectKind) -> u8

@@ -13,8 +13,9 @@ use Rattle.protocol.specs.declared.ReadOp.the-variants.{QueryObject, GetMetadat
 use Rattle.protocol.specs.Answers.{kindNumber}
 use Rattle.inventory.specs.Inventory.{partCount, partsSize}
 use Rattle.rules.specs.Rules.{askedOf}
+use Rattle.objects.specs.Objects.{onFound}
 use Rattle.member.specs.declared.Member.{Member}
-use Rattle.member.specs.Objects.{lookupOf, onFound}
+use Rattle.member.specs.Objects.{lookupOf}
 use Rattle.reads.specs.declared.Body.{Body}
 use Rattle.reads.specs.declared.Body.the-variants.{Nothing, Kind, Number, Headers, Selected, All}
 use Rattle.reads.specs.declared.Reading.{Reading}

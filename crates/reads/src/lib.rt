@@ -4,7 +4,7 @@ ghost use mathlib.Core.Path.{_≡_};
 ghost use lib.ListN.{length};
 ghost use Rattle.member.specs.Record.{recordSize, memberOf};
 ghost use Rattle.reads.specs.Reads.{refuseRead, found, queryOf, metadataOf, throughGet, selectedOf, readOf};
-use member::Found;
+use objects::Found;
 use protocol::Answer;
 use protocol::Metadata;
 use protocol::ObjectKind;

@@ -1,3 +1,4 @@
+-- `admin::asked` meets its contract. Assumes nothing.
 use borrow.Author.Needs.{needs}
 use Rattle.admin.proofs.OfSound.{head-there, ids-few}
 use Rattle.admin.proofs.OfRequest.{asked-of}

@@ -1,3 +1,4 @@
+-- `admin::change_member` meets its contract. Assumes nothing.
 use borrow.Author.Needs.{needs}
 use Rattle.admin.proofs.OfSound.{head-there, record-there}
 use Rattle.admin.proofs.Arms.{change-refused, change-told}

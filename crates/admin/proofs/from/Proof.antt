@@ -1,3 +1,4 @@
+-- `admin::from` meets its contract. Assumes nothing.
 use borrow.Author.Needs.{needs}
 use Rattle.admin.proofs.OfRequest.{to-the-end, past-the-end}
 use Rattle.admin.proofs.from.Statement.{statement}

@@ -1,3 +1,4 @@
+-- `admin::read_member` meets its contract. Assumes nothing.
 use borrow.Author.Needs.{needs}
 use Rattle.admin.proofs.OfSound.{head-there, record-there, record-sized, queues-few, values-long}
 use Rattle.admin.proofs.Arms.{read-told}

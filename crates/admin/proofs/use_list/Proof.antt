@@ -1,3 +1,4 @@
+-- `admin::use_list` meets its contract. Assumes nothing.
 use borrow.Author.Needs.{needs}
 use Rattle.admin.proofs.OfSound.{head-there}
 use Rattle.admin.proofs.Concluded.{used}

@@ -1,3 +1,4 @@
+-- `changes::change` meets its contract. Assumes nothing.
 use borrow.Author.Needs.{needs}
 use Rattle.changes.proofs.change.Statement.{statement}
 use Rattle.changes.proofs.change.Tie as tie

@@ -1,3 +1,4 @@
+-- `changes::set_mode` meets its contract. Assumes nothing.
 use borrow.Author.Needs.{needs}
 use Rattle.changes.proofs.set_mode.Statement.{statement}
 use Rattle.changes.proofs.set_mode.Tie as tie

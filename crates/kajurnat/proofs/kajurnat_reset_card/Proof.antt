@@ -1,3 +1,4 @@
+-- `kajurnat::kajurnat_reset_card` meets its contract. Assumes nothing.
 use borrow.Author.Needs.{needs}
 use Rattle.kajurnat.proofs.Numbered.{as-number}
 use Rattle.kajurnat.proofs.kajurnat_reset_card.Statement.{statement}

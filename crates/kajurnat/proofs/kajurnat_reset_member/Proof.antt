@@ -1,3 +1,4 @@
+-- `kajurnat::kajurnat_reset_member` meets its contract. Assumes nothing.
 use borrow.Author.Needs.{needs}
 use Rattle.kajurnat.proofs.Numbered.{as-number}
 use Rattle.kajurnat.proofs.kajurnat_reset_member.Statement.{statement}

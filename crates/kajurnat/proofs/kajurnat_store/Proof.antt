@@ -1,3 +1,4 @@
+-- `kajurnat::kajurnat_store` meets its contract. Assumes nothing.
 use borrow.Author.Needs.{needs}
 use Rattle.kajurnat.proofs.Numbered.{as-number}
 use Rattle.kajurnat.proofs.kajurnat_store.Statement.{statement}

@@ -1,3 +1,4 @@
+-- `member::is_sound_record` meets its contract. Assumes nothing.
 use borrow.Author.Needs.{needs}
 use Rattle.member.proofs.Sound.{bad-mode, bad-objects, sound-rest}
 use Rattle.member.proofs.is_sound_record.Statement.{statement}

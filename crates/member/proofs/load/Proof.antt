@@ -1,3 +1,4 @@
+-- `member::load` meets its contract. Assumes nothing.
 use borrow.Author.Needs.{needs}
 use Rattle.member.specs.Record.{memberOf}
 use Rattle.member.proofs.load.Statement.{statement}

@@ -1,6 +1,6 @@
 -- `member::lookup` meets its contract. Assumes nothing.
 use borrow.Author.Needs.{needs}
-use Rattle.member.proofs.Arrays.{unmapped}
+use Rattle.objects.proofs.Arrays.{unmapped}
 use Rattle.member.proofs.Objects.{lookup-in, lookup-out}
 use Rattle.member.proofs.lookup.Statement.{statement}
 use Rattle.member.proofs.lookup.Tie as tie

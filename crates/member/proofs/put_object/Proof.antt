@@ -1,6 +1,6 @@
 -- `member::put_object` meets its contract. Assumes nothing.
 use borrow.Author.Needs.{needs}
-use Rattle.member.proofs.Arrays.{unmapped}
+use Rattle.objects.proofs.Arrays.{unmapped}
 use Rattle.member.proofs.Objects.{object-in, object-out}
 use Rattle.member.proofs.put_object.Statement.{statement}
 use Rattle.member.proofs.put_object.Tie as tie

@@ -1,3 +1,4 @@
+-- `member::save` meets its contract. Assumes nothing.
 use mathlib.Core.Path.{sym, _∙_}
 use borrow.Author.Needs.{needs}
 use lib.ListN.{length-map, length-set}

@@ -1,6 +1,6 @@
 -- `member::without` meets its contract. Assumes nothing.
 use borrow.Author.Needs.{needs}
-use Rattle.member.proofs.Arrays.{unmapped}
+use Rattle.objects.proofs.Arrays.{unmapped}
 use Rattle.member.proofs.Objects.{object-in, object-out}
 use Rattle.member.proofs.without.Statement.{statement}
 use Rattle.member.proofs.without.Tie as tie

@@ -1,3 +1,4 @@
+-- `reads::get_all` meets its contract. Assumes nothing.
 use borrow.Author.Needs.{needs}
 use Rattle.reads.proofs.Steps.{steps}
 use Rattle.reads.specs.Reads.{throughGet}

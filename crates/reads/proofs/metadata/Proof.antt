@@ -1,3 +1,4 @@
+-- `reads::metadata` meets its contract. Assumes nothing.
 use borrow.Author.Needs.{needs}
 use Rattle.reads.proofs.metadata.Statement.{statement}
 use Rattle.reads.proofs.metadata.Tie as tie

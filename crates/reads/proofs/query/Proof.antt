@@ -1,3 +1,4 @@
+-- `reads::query` meets its contract. Assumes nothing.
 use borrow.Author.Needs.{needs}
 use Rattle.reads.proofs.Steps.{steps}
 use Rattle.reads.specs.Reads.{queryOf}

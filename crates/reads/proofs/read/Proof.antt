@@ -1,3 +1,4 @@
+-- `reads::read` meets its contract. Assumes nothing.
 use borrow.Author.Needs.{needs}
 use Rattle.reads.proofs.read.Statement.{statement}
 use Rattle.reads.proofs.read.Tie as tie

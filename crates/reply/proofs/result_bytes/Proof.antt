@@ -1,3 +1,4 @@
+-- `reply::result_bytes` meets its contract. Assumes nothing.
 use borrow.Author.Needs.{needs}
 use Rattle.reply.proofs.Result.{headers-fit, size-nothing, size-kind, size-number, size-headers, size-selected, size-all}
 use Rattle.reply.proofs.result_bytes.Statement.{statement}

@@ -1,3 +1,4 @@
+-- `reply::settle` meets its contract. Assumes nothing.
 use borrow.Author.Needs.{needs}
 use Rattle.reply.proofs.Reply.{final-refused, final-short, final-fits}
 use Rattle.reply.proofs.settle.Statement.{statement}

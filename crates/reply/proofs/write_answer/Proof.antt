@@ -1,3 +1,4 @@
+-- `reply::write_answer` meets its contract. Assumes nothing.
 use borrow.Author.Needs.{needs}
 use Rattle.reply.proofs.Reply.{answer-only}
 use Rattle.reply.proofs.write_answer.Statement.{statement}

@@ -1,3 +1,4 @@
+-- `reply::write_head` meets its contract. Assumes nothing.
 use borrow.Author.Needs.{needs}
 use Rattle.reply.proofs.Reply.{head-written}
 use Rattle.reply.proofs.write_head.Statement.{statement}

@@ -1,3 +1,4 @@
+-- `reply::write_metadata_list` meets its contract. Assumes nothing.
 use borrow.Author.Needs.{needs}
 use Rattle.theory.proofs.Lent.{lent-tail}
 use Rattle.reply.proofs.Result.{list-written}

@@ -1,3 +1,4 @@
+-- `reply::write_number` meets its contract. Assumes nothing.
 use borrow.Author.Needs.{needs}
 use Rattle.reply.proofs.Result.{number-written}
 use Rattle.reply.proofs.write_number.Statement.{statement}

@@ -1,3 +1,4 @@
+-- `reply::write_reading` meets its contract. Assumes nothing.
 use borrow.Author.Needs.{needs}
 use mathlib.Core.Path.{refl}
 use mir.Syntax.{w64}

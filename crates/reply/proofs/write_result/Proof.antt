@@ -1,3 +1,4 @@
+-- `reply::write_result` meets its contract. Assumes nothing.
 use borrow.Author.Needs.{needs}
 use Rattle.reply.proofs.Result.{result-nothing, result-kind, result-number, result-headers, result-selected, result-all, fits-kind, fits-number, fits-headers, fits-selected, fits-all}
 use Rattle.reply.proofs.write_result.Statement.{statement}

@@ -1,3 +1,4 @@
+-- `member::Member::set_parts` meets its contract. Assumes nothing.
 use borrow.Author.Needs.{needs}
 use Rattle.member.proofs.Member.set_parts.Statement.{statement}
 use Rattle.member.proofs.Member.set_parts.Tie as tie

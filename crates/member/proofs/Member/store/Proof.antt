@@ -1,3 +1,4 @@
+-- `member::Member::store` meets its contract. Assumes nothing.
 use borrow.Author.Needs.{needs}
 use Rattle.member.proofs.Member.store.Statement.{statement}
 use Rattle.member.proofs.Member.store.Tie as tie

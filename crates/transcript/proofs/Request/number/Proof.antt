@@ -1,3 +1,4 @@
+-- `transcript::Request::number` meets its contract. Assumes nothing.
 use borrow.Author.Needs.{needs}
 use Prim.Native.Nat.{_≤_, _-_}
 use Rattle.transcript.proofs.Request.number.Statement.{statement}

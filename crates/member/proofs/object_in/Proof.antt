@@ -1,8 +1,0 @@
-use borrow.Author.Needs.{needs}
-use Rattle.member.proofs.Objects.{object-other}
-use Rattle.member.proofs.object_in.Statement.{statement}
-use Rattle.member.proofs.object_in.Tie as tie
-
-pub object-in-spec : {M : Type 1} → statement M
-object-in-spec =
-    tie.close (tie.spec (λ c. rw (c .match .keys1)) (λ c. rw (c .match .keys2)) (λ c. search (needs, object-other)))

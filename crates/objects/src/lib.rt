@@ -1,0 +1,183 @@
+// Resource objects, one record and one byte for each id: what they stand for, how many there are, and one cleared.
+ghost use mathlib.Core.Path.{_≡_};
+ghost use mathlib.Core.Bool.{true};
+ghost use mathlib.Core.List.{map};
+ghost use Prim.Native.Nat.{_+_, _≤_, _<_};
+ghost use lib.Dec.{leb, eqb};
+ghost use lib.ListN.{length, drop, set};
+ghost use Rattle.theory.specs.Logic.{_and_, one};
+ghost use Rattle.objects.specs.Objects.{objectsSize, objectOf, objectByte, free, slotFor, foundIn, count, allUpTo, withinLimits};
+use protocol::ObjectKind;
+
+const IDS: usize = 16;
+
+// What one object id holds.
+pub enum Slot {
+    Free,
+    Get,
+    Set,
+}
+
+pub struct ObjectRecord {
+    pub slot: Slot,
+}
+
+// What the lookup of an object id finds.
+pub enum Found {
+    Live(ObjectKind),
+    Nothing,
+}
+
+// ---- a byte and what it stands for ----
+
+pub fn object_in(b: u8) -> ObjectRecord
+    ensures { λ r. ⌜ r ≡ objectOf b ⌝ }
+{
+    match b {
+        0 => ObjectRecord { slot: Slot::Free },
+        1 => ObjectRecord { slot: Slot::Get },
+        _ => ObjectRecord { slot: Slot::Set },
+    }
+}
+
+fn object_byte(o: ObjectRecord) -> u8
+    ensures { λ r. ⌜ r ≡ objectByte o ⌝ }
+{
+    let slot = o.slot;
+    match slot {
+        Slot::Free => 0,
+        Slot::Get => 1,
+        Slot::Set => 2,
+    }
+}
+
+pub fn objects_in(bytes: [u8; IDS]) -> [ObjectRecord; IDS]
+    ensures { λ r. ⌜ r ≡ map objectOf bytes ⌝ }
+{
+    let mut objects = [ObjectRecord { slot: Slot::Free }; IDS];
+    let mut i = 0;
+    while i < IDS {
+        let o = object_in(bytes[i]);
+        objects[i] = o;
+        i += 1;
+    }
+    objects
+}
+
+pub fn object_bytes(objects: [ObjectRecord; IDS]) -> [u8; IDS]
+    ensures { λ r. ⌜ r ≡ map objectByte objects ⌝ }
+{
+    let mut bytes = [0u8; IDS];
+    let mut i = 0;
+    while i < IDS {
+        let o = objects[i];
+        bytes[i] = object_byte(o);
+        i += 1;
+    }
+    bytes
+}
+
+// ---- counting object bytes, without branches, where they stand in the record ----
+
+// 1 if the byte is v, else 0: of the bytes up to 2, 1 is the odd one and 2 the one that has a half. A sum of these is a
+// few vector additions; of the answers to a test it would be many more steps.
+fn hit(b: u8, v: u8) -> u8
+    requires { ⌜ (b ≤ 2) × (1 ≤ v) × (v ≤ 2) ⌝ }
+    ensures { λ r. ⌜ r ≡ one (eqb b v) ⌝ }
+{
+    if v == 1 { b % 2 } else { b / 2 }
+}
+
+fn count_of(v: u8, bytes: &[u8]) -> u8
+    requires { ⌜ (length (now bytes) ≡ objectsSize) × (allUpTo 2 (now bytes) ≡ true) × (1 ≤ v) × (v ≤ 2) ⌝ }
+    ensures { λ r. ⌜ r ≡ count v (now (bytes .entry)) ⌝ }
+{
+    let mut n: u8 = 0;
+    let mut i = 0;
+    while i < bytes.len() {
+        n += hit(bytes[i], v);
+        i += 1;
+    }
+    n
+}
+
+pub fn is_within_limits(bytes: &[u8], gets: u8, sets: u8) -> bool
+    requires { ⌜ (length (now bytes) ≡ objectsSize) × (allUpTo 2 (now bytes) ≡ true) ⌝ }
+    ensures { λ r. ⌜ r ≡ withinLimits gets sets (now (bytes .entry)) ⌝ }
+{
+    if gets < count_of(1, bytes) {
+        return false;
+    }
+    count_of(2, bytes) <= sets
+}
+
+fn still_up_to(all: bool, b: u8, n: u8) -> bool
+    ensures { λ r. ⌜ r ≡ all and leb b n ⌝ }
+{
+    if b <= n { all } else { false }
+}
+
+// Whether each byte from an id on is at most n: every one is looked at, the loop has no early exit.
+fn are_up_to(n: u8, from: usize, bytes: &[u8]) -> bool
+    ensures { λ r. ⌜ r ≡ allUpTo n (drop from (now (bytes .entry))) ⌝ }
+{
+    let mut all = true;
+    let mut i = from;
+    while i < bytes.len() {
+        all = still_up_to(all, bytes[i], n);
+        i += 1;
+    }
+    all
+}
+
+pub fn are_objects_sound(bytes: &[u8], gets: u8, sets: u8) -> bool
+    requires { ⌜ length (now bytes) ≡ objectsSize ⌝ }
+    ensures { λ r. ⌜ r ≡ allUpTo 2 (now (bytes .entry)) and allUpTo 0 (drop (gets + sets) (now (bytes .entry))) and withinLimits gets sets (now (bytes .entry)) ⌝ }
+{
+    if !are_up_to(2, 0, bytes) {
+        return false;
+    }
+    if !are_up_to(0, gets as usize + sets as usize, bytes) {
+        return false;
+    }
+    is_within_limits(bytes, gets, sets)
+}
+
+// ---- slots ----
+
+pub fn slot_for(kind: ObjectKind) -> Slot
+    ensures { λ r. ⌜ r ≡ slotFor kind ⌝ }
+{
+    match kind {
+        ObjectKind::Get => Slot::Get,
+        ObjectKind::Set => Slot::Set,
+    }
+}
+
+pub fn found_in(slot: Slot) -> Found
+    ensures { λ r. ⌜ r ≡ foundIn slot ⌝ }
+{
+    match slot {
+        Slot::Free => Found::Nothing,
+        Slot::Get => Found::Live(ObjectKind::Get),
+        Slot::Set => Found::Live(ObjectKind::Set),
+    }
+}
+
+// Clears one record of a lent slice and keeps all others. The borrow checker covers no slice of structs, so the proofs of
+// this function and the next are walks by hand.
+fn clear(objects: &mut [ObjectRecord], i: usize)
+    requires { ⌜ i < length (now objects) ⌝ }
+    ensures { λ _. ⌜ now (objects .exit) ≡ set (now (objects .entry)) i free ⌝ }
+{
+    objects[i] = ObjectRecord { slot: Slot::Free };
+}
+
+// The records with one cleared: it lends its own array to `clear`, so that no caller has to lend one.
+pub fn cleared(mut objects: [ObjectRecord; 16], i: usize) -> [ObjectRecord; 16]
+    requires { ⌜ i < 16 ⌝ }
+    ensures { λ r. ⌜ r ≡ set objects i free ⌝ }
+{
+    clear(&mut objects, i);
+    objects
+}
