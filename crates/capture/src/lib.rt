@@ -95,6 +95,7 @@ fn write_run(
 }
 
 // All parts of a member, at the front of what is lent: a run of rows for each type and size, which are then constants.
+// The numbers of a run: its first row, its rows, their type and size, and where the first value stands.
 pub fn write_all(out: &mut [u8], values: &[u8], queues: u8)
     requires { ⌜ (queues < 5) × (length (now values) ≡ valuesSize) × (partsSize queues ≤ length (now out)) ⌝ }
     ensures { λ _. ⌜ now (out .exit) ≡ put 0 (captureOf queues (now (values .entry))) (now (out .entry)) ⌝ }

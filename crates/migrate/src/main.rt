@@ -2,22 +2,6 @@
 // reset, and the next guest is shown to find nothing of it. A transcript goes to standard output.
 use transcript::Request;
 
-const LIST_USE: u64 = 0x01;
-
-const CREATE: u64 = 0x0a;
-
-const PARTS_GET: u64 = 0x0f;
-
-const PARTS_SET: u64 = 0x10;
-
-const MODE_SET: u64 = 0x11;
-
-const ALL: u64 = 0x3fc03;
-
-const GET: u64 = 0;
-
-const SET: u64 = 1;
-
 // A card of four members with two queues each.
 const MEMBERS: u64 = 4;
 
@@ -58,19 +42,21 @@ fn tell(name: &[u8], request: Request, card: &mut [u8], reply: &mut [u8]) -> usi
 }
 
 fn create(member: u64, id: u64, kind: u64) -> Request {
-    Request::new(CREATE, 1, member)
+    Request::new(transcript::CREATE, 1, member)
         .object(id)
         .number(8, 0)
         .number(8, kind)
 }
 
 fn capture(member: u64) -> Request {
-    Request::new(PARTS_GET, 1, member).object(0).number(8, 1)
+    Request::new(transcript::PARTS_GET, 1, member)
+        .object(0)
+        .number(8, 1)
 }
 
 // The capture without the reply's head, as a list to set.
 fn restore(member: u64, reply: &[u8]) -> Request {
-    let empty = Request::new(PARTS_SET, 1, member).object(1);
+    let empty = Request::new(transcript::PARTS_SET, 1, member).object(1);
     if reply.len() < CAPTURE {
         return empty;
     }
@@ -80,24 +66,24 @@ fn restore(member: u64, reply: &[u8]) -> Request {
 fn objects(card: &mut [u8], member: u64, reply: &mut [u8]) {
     tell(
         b"object create, get 0      ",
-        create(member, 0, GET),
+        create(member, 0, transcript::GET),
         card,
         reply,
     );
     tell(
         b"object create, set 1      ",
-        create(member, 1, SET),
+        create(member, 1, transcript::SET),
         card,
         reply,
     );
 }
 
 fn list_use() -> Request {
-    Request::new(LIST_USE, 1, 0).number(8, ALL)
+    Request::new(transcript::LIST_USE, 1, 0).number(8, transcript::ALL)
 }
 
 fn mode_set(member: u64, flags: u8) -> Request {
-    Request::new(MODE_SET, 1, member).byte(flags)
+    Request::new(transcript::MODE_SET, 1, member).byte(flags)
 }
 
 fn prepare(card: &mut [u8], member: u64, reply: &mut [u8]) {

@@ -2,6 +2,29 @@
 ghost use Prim.Native.Nat.{_<_};
 use libc::STDOUT_FILENO;
 
+// Opcodes, the mask of all ten, and the kinds of objects, as numbers of a request.
+pub const LIST_QUERY: u64 = 0x00;
+
+pub const LIST_USE: u64 = 0x01;
+
+pub const CREATE: u64 = 0x0a;
+
+pub const DESTROY: u64 = 0x0d;
+
+pub const METADATA: u64 = 0x0e;
+
+pub const PARTS_GET: u64 = 0x0f;
+
+pub const PARTS_SET: u64 = 0x10;
+
+pub const MODE_SET: u64 = 0x11;
+
+pub const ALL: u64 = 0x3fc03;
+
+pub const GET: u64 = 0;
+
+pub const SET: u64 = 1;
+
 // The room of a request: a full capture of four queues and its headers fit.
 pub struct Request {
     pub bytes: [u8; 512],

@@ -2,28 +2,6 @@
 // hexadecimal under its name. Setup: two members, one queue, one get and one set object each, features all zero.
 use transcript::Request;
 
-const LIST_QUERY: u64 = 0x00;
-
-const LIST_USE: u64 = 0x01;
-
-const CREATE: u64 = 0x0a;
-
-const DESTROY: u64 = 0x0d;
-
-const METADATA: u64 = 0x0e;
-
-const PARTS_GET: u64 = 0x0f;
-
-const PARTS_SET: u64 = 0x10;
-
-const MODE_SET: u64 = 0x11;
-
-const ALL: u64 = 0x3fc03;
-
-const GET: u64 = 0;
-
-const SET: u64 = 1;
-
 // Shows a reply under a name.
 fn show_reply(name: &[u8], reply: &[u8], written: usize) {
     transcript::print(name);
@@ -55,27 +33,29 @@ fn fresh(card: &mut [u8]) {
 }
 
 fn list_use(mask: u64) -> Request {
-    Request::new(LIST_USE, 1, 0).number(8, mask)
+    Request::new(transcript::LIST_USE, 1, 0).number(8, mask)
 }
 
 fn create(id: u64, kind: u64) -> Request {
-    Request::new(CREATE, 1, 1)
+    Request::new(transcript::CREATE, 1, 1)
         .object(id)
         .number(8, 0)
         .number(8, kind)
 }
 
 fn metadata(what: u64) -> Request {
-    Request::new(METADATA, 1, 1).object(0).number(8, what)
+    Request::new(transcript::METADATA, 1, 1)
+        .object(0)
+        .number(8, what)
 }
 
 fn mode_set(member: u64, flags: u8) -> Request {
-    Request::new(MODE_SET, 1, member).byte(flags)
+    Request::new(transcript::MODE_SET, 1, member).byte(flags)
 }
 
 // Queue notify of queue 0, then the device status.
 fn get_two() -> Request {
-    Request::new(PARTS_GET, 1, 1)
+    Request::new(transcript::PARTS_GET, 1, 1)
         .object(0)
         .number(8, 0)
         .header(0x105, 0, 0)
@@ -83,12 +63,14 @@ fn get_two() -> Request {
 }
 
 fn get_all() -> Request {
-    Request::new(PARTS_GET, 1, 1).object(0).number(8, 1)
+    Request::new(transcript::PARTS_GET, 1, 1)
+        .object(0)
+        .number(8, 1)
 }
 
 // Driver features, given once.
 fn set_once() -> Request {
-    Request::new(PARTS_SET, 1, 1)
+    Request::new(transcript::PARTS_SET, 1, 1)
         .object(1)
         .header(0x101, 0, 16)
         .number(16, 0x5aa5)
@@ -99,10 +81,14 @@ fn set_twice() -> Request {
 }
 
 fn before_use(card: &mut [u8]) {
-    show(b"B1 list query", Request::new(LIST_QUERY, 1, 0), card);
+    show(
+        b"B1 list query",
+        Request::new(transcript::LIST_QUERY, 1, 0),
+        card,
+    );
     show(
         b"B2 object create, not in use",
-        Request::new(CREATE, 1, 0),
+        Request::new(transcript::CREATE, 1, 0),
         card,
     );
     show(
@@ -119,20 +105,20 @@ fn members(card: &mut [u8]) {
 }
 
 fn ids(card: &mut [u8]) {
-    show(b"B5 create get object 0", create(0, GET), card);
-    show(b"B5 again", create(0, GET), card);
-    show(b"B6 create get object 1", create(1, GET), card);
-    show(b"B6 create get object 2", create(2, GET), card);
+    show(b"B5 create get object 0", create(0, transcript::GET), card);
+    show(b"B5 again", create(0, transcript::GET), card);
+    show(b"B6 create get object 1", create(1, transcript::GET), card);
+    show(b"B6 create get object 2", create(2, transcript::GET), card);
 }
 
 fn objects(card: &mut [u8]) {
-    show(b"B6 create set object 1", create(1, SET), card);
+    show(b"B6 create set object 1", create(1, transcript::SET), card);
     show(
         b"B7 destroy object 0",
-        Request::new(DESTROY, 1, 1).object(0),
+        Request::new(transcript::DESTROY, 1, 1).object(0),
         card,
     );
-    show(b"B7 create get object 0", create(0, GET), card);
+    show(b"B7 create get object 0", create(0, transcript::GET), card);
     show(b"B8 parts set, member running", set_once(), card);
 }
 
@@ -160,7 +146,7 @@ fn main() {
     let mut card = [0u8; 472];
     fresh(&mut card);
     before_use(&mut card);
-    send(list_use(ALL), &mut card);
+    send(list_use(transcript::ALL), &mut card);
     members(&mut card);
     ids(&mut card);
     objects(&mut card);
