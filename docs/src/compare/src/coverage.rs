@@ -55,14 +55,16 @@ impl Coverage {
         rows: &[&'static str],
         columns: &[&str],
     ) -> fmt::Result {
+        let digits = self.0.values().max().map_or(1, |most| most.to_string().len());
+        let width = digits.max(4) + 1;
         write!(f, "{:<18}", "")?;
-        columns.iter().try_for_each(|column| write!(f, "{column:>7}"))?;
+        columns.iter().try_for_each(|column| write!(f, "{column:>width$}"))?;
         writeln!(f)?;
         for row in rows {
             write!(f, "{row:<18}")?;
             for column in columns {
                 let count = self.0.get(&(*row, column.to_string())).copied().unwrap_or(0);
-                write!(f, "{count:>7}")?;
+                write!(f, "{count:>width$}")?;
             }
             writeln!(f)?;
         }
