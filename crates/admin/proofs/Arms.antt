@@ -1,5 +1,5 @@
 -- What each kind of command comes to, from what the layers below answered. Assumes nothing.
-use mathlib.Core.Path.{_≡_, refl, sym, _∙_}
+use mathlib.Core.Path.{_≡_, sym, _∙_}
 use mathlib.Core.Bool.{Bool, true, false, not}
 use mathlib.Core.List.{List, []}
 use Prim.Native.Nat.{ℕ, _+_, _≤_}
@@ -23,7 +23,7 @@ use Rattle.card.specs.declared.Setup.{Setup}
 use Rattle.card.specs.Layout.{setupOf, inUseOf, isMember, recordIn, memberIn, withMember}
 use Rattle.card.specs.Sound.{isSound}
 use Rattle.frame.specs.declared.Ask.{Ask}
-use Rattle.frame.specs.declared.Ask.the-variants.{Refused, QueryList, UseList, Read, Change}
+use Rattle.frame.specs.declared.Ask.the-variants.{Refused, QueryList, Read, Change}
 use Rattle.frame.proofs.Asked.{asked}
 use Rattle.reply.specs.declared.Written.{Written}
 use Rattle.reply.specs.Result.{resultOf}

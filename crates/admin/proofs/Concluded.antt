@@ -7,7 +7,6 @@ use lib.Dec.{leb}
 use lib.ListN.{length}
 use borrow.Author.Tests.{le-leb, lt-leb, not-true, not-false}
 use Rattle.theory.specs.Logic.{if_then_else_, unless_answer_then_, _and_}
-use Rattle.theory.specs.Bytes.{put}
 use Rattle.theory.proofs.Tests.{by-cases, and-false}
 use Rattle.theory.proofs.Bytes.{put-nil}
 use Rattle.protocol.specs.declared.Answer.{Answer}
@@ -18,7 +17,7 @@ use Rattle.card.specs.Sound.{isSound}
 use Rattle.frame.specs.declared.Ask.the-variants.{UseList}
 use Rattle.reply.specs.declared.Written.{Written}
 use Rattle.reply.specs.Reply.{finalOf, concludeOf}
-use Rattle.admin.specs.Command.{Effect, effect, askIn, perform, conclude, respond, delivered, commandOf}
+use Rattle.admin.specs.Command.{effect, askIn, perform, conclude, respond, delivered, commandOf}
 
 -- w and l′ are what the writer left of the buffer l: answer a, result x
 module _ (c : List ℕ) (a : Answer) (x l l′ : List ℕ) (w : Written)

@@ -1,11 +1,10 @@
 -- What the code needs to know of a sound card. Assumes nothing.
-use mathlib.Core.Path.{_≡_, sym, _∙_}
+use mathlib.Core.Path.{_≡_}
 use mathlib.Core.Bool.{true}
 use mathlib.Core.List.{List}
 use Prim.Native.Nat.{ℕ, _+_, _≤_, _<_}
 use native.Mathlib.Omega.{arith}
 use lib.ListN.{length}
-use Rattle.theory.proofs.Tests.{tests}
 use Rattle.card.specs.declared.Setup.{Setup}
 use Rattle.inventory.specs.Inventory.{valuesSize}
 use Rattle.member.specs.Record.{recordSize, memberOf}

@@ -1,5 +1,4 @@
 -- A command: document 01, "Statuses, and which comes first", whole. Assumes nothing.
-use mathlib.Core.Bool.{Bool}
 use mathlib.Core.List.{List, []}
 use Prim.Native.Nat.{ℕ, _+_}
 use lib.Dec.{leb}

@@ -1,5 +1,5 @@
 -- Rows whose values are of one size, and all parts of a member as runs of such rows. Assumes nothing.
-use mathlib.Core.Path.{_≡_, refl, ap, sym, _∙_}
+use mathlib.Core.Path.{_≡_, refl, sym, _∙_}
 use mathlib.Core.Bool.{Bool, true, false, not}
 use mathlib.Core.List.{List, [], _∷_, _++_, append-assoc}
 use Prim.Native.Nat.{ℕ, zero, suc, _+_, _*_, _≤_, _<_}
@@ -13,15 +13,14 @@ use Rattle.theory.specs.Bytes.{part, put}
 use Rattle.theory.specs.Items.{itemsFrom}
 use Rattle.theory.proofs.Tests.{false-or, both}
 use Rattle.theory.proofs.Table.{every}
-use Rattle.theory.proofs.Bytes.{length-part}
 use Rattle.theory.proofs.Items.{Written, written-start, written-room, written-end, written-at}
 use Rattle.inventory.specs.Inventory.{Row, row, rows, rowAt, rowCount, offsetOf, valuesSize, partsSize}
 use Rattle.inventory.specs.Header.{headerOf, headerSize}
-use Rattle.inventory.proofs.Columns.{selectors, sizes, selector-at, size-at}
-use Rattle.inventory.proofs.Rules.{table, every-row, every-count, row-within, offset-next, length-header}
+use Rattle.inventory.proofs.Columns.{selectors, selector-at, size-at}
+use Rattle.inventory.proofs.Rules.{table, every-row, row-within, offset-next}
 use Rattle.capture.specs.Capture.{partAt, asks, partItem, partsWritten, captureOf, RowsAlike, runOf, Wrote}
 use Rattle.capture.proofs.Sizes.{part-length, capture-length}
-use Rattle.capture.proofs.Writes.{row-small, row-inside, wrote-next}
+use Rattle.capture.proofs.Writes.{row-small, wrote-next}
 
 -- ---- one run ----
 

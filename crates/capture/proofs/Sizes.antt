@@ -1,5 +1,5 @@
 -- How long the headers and the parts are that are written. Assumes nothing.
-use mathlib.Core.Path.{_≡_, refl, sym, _∙_}
+use mathlib.Core.Path.{_≡_, refl, _∙_}
 use mathlib.Core.Bool.{Bool, true, false}
 use mathlib.Core.List.{List, []}
 use Prim.Native.Nat.{ℕ, zero, suc, _+_, _*_, _-_, _≤_, _<_}
@@ -15,7 +15,7 @@ use Rattle.theory.proofs.Bytes.{length-part}
 use Rattle.inventory.specs.Inventory.{rowAt, rowCount, present, offsetOf, valuesSize, partCount, partsSize}
 use Rattle.inventory.specs.Header.{headerOf, headerSize}
 use Rattle.inventory.proofs.Rules.{table, every-count, row-within, size-below, length-header}
-use Rattle.capture.specs.Capture.{Selection, All, Asked, headerItem, headersOf, partAt, asks, partItem, partsWritten, captureOf}
+use Rattle.capture.specs.Capture.{Selection, All, headerItem, headersOf, partAt, asks, partItem, partsWritten, captureOf}
 
 -- ---- a sum of k numbers from the i-th on ----
 

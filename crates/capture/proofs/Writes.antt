@@ -1,6 +1,6 @@
 -- What the writers leave in the buffer, in the form in which their needs ask it. Assumes nothing.
 use mathlib.Core.Path.{_≡_, refl, ap, sym, _∙_}
-use mathlib.Core.Bool.{Bool, true, false, not}
+use mathlib.Core.Bool.{Bool, true, false}
 use mathlib.Core.List.{List, _++_}
 use Prim.Native.Nat.{ℕ, _+_, _-_, _^_, _≤_, _<_}
 use native.Mathlib.Nat.{add-sub-cancel-left, sub-zero}
@@ -12,15 +12,12 @@ use lib.Dec.{leb}
 use lib.ListN.{length, getD, take, drop, length-append}
 use Rattle.theory.specs.Logic.{if_then_else_}
 use Rattle.theory.specs.Bytes.{part, put}
-use Rattle.theory.proofs.Tests.{true-and, false-and}
 use Rattle.theory.proofs.Bytes.{put-append, part-put-as, length-part}
 use Rattle.theory.proofs.Items.{Written, written-room, written-next, written-skip}
 use Rattle.inventory.specs.Inventory.{Row, row, rowAt, rowCount, present, valuesSize}
 use Rattle.inventory.specs.Header.{headerOf, headerSize}
 use Rattle.inventory.proofs.Columns.{types, selectors, sizes, offsets, type-at, selector-at, size-at, offset-at, row-at}
 use Rattle.inventory.proofs.Rules.{table, every-row, row-within, length-header}
-use Rattle.parts.specs.declared.ListForm.the-variants.{Headers}
-use Rattle.parts.specs.List.{partsOf, among}
 use Rattle.capture.specs.Capture.{Selection, All, Asked, headerItem, partAt, asks, partItem, Wrote}
 use Rattle.capture.proofs.Sizes.{itemSize, size-most}
 

@@ -154,7 +154,7 @@ module _ (c : List ℕ) (m i : ℕ) (d : List ℕ) (k j l : ℕ) (x : Restorable
   captured-is : (r : ℕ) → 8 + partsSize q ≤ r → capture c m i r ≡ headOf Done ++ list
   unfolding list
   captured-is r h =
-      rw (x .sameSetup) at (capture-is c m source i r (x .sourceGet) (x .sourceInUse .partsGet) (rw (x .sameSetup, list-long) h))
+      rw (x .sameSetup) at (capture-is c m source i r (x .sourceGet) (x .captureInUse) (rw (x .sameSetup, list-long) h))
 
   restored : Member
   restored = withValues (memberIn d k) (applied q (partsOf Parts list) w)
@@ -169,7 +169,7 @@ module _ (c : List ℕ) (m i : ℕ) (d : List ℕ) (k j l : ℕ) (x : Restorable
       let n = list-long in
       let f = few-queues in
       rw (captured-is r₁ h, after-head) (respond-done d (setParts k j list) r₂ _ [] (x .soundTarget)
-      (set-performs d k target j list (x .targetSet) (x .targetInUse .partsSet) (x .stopped) (omega arith) list-accepted) g)
+      (set-performs d k target j list (x .targetSet) (x .setInUse) (x .stopped) (omega arith) list-accepted) g)
 
   -- the target's card after it, and a capture there
   restored-in : SoundIn d restored
@@ -195,7 +195,7 @@ module _ (c : List ℕ) (m i : ℕ) (d : List ℕ) (k j l : ℕ) (x : Restorable
   unfolding after restored lookupOf
   recaptured-is r h =
       rw values-after at
-      (capture-is after k reached-after l r (rw member-after (x .targetGet)) (rw use-with-member (x .targetInUse .partsGet))
+      (capture-is after k reached-after l r (rw member-after (x .targetGet)) (rw use-with-member (x .recaptureInUse))
       (rw (values-after, list-long) h))
 
   trip : (r₁ r₂ r₃ : ℕ) → 8 + partsSize (setupOf c .queues) ≤ r₁ → 8 ≤ r₂ → 8 + partsSize (setupOf c .queues) ≤ r₃

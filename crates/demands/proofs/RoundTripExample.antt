@@ -52,8 +52,9 @@ restorable = record {
   targetSet = refl;
   targetGet = refl;
   stopped = refl;
-  sourceInUse = record { partsGet = refl; partsSet = refl };
-  targetInUse = record { partsGet = refl; partsSet = refl };
+  captureInUse = refl;
+  setInUse = refl;
+  recaptureInUse = refl;
 }
 
 captures-differ : getD (capture source 1 0 237) 190 0 ≢ getD (capture target 1 0 237) 190 0

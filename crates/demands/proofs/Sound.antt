@@ -7,8 +7,6 @@ use native.Mathlib.Omega.{arith}
 use lib.ListN.{length}
 use Rattle.theory.proofs.Tests.{inside, within-low, if-cases, unless-cases}
 use Rattle.protocol.specs.declared.EventAnswer.{EventAnswer}
-use Rattle.protocol.specs.declared.ChangeOp.{ChangeOp}
-use Rattle.protocol.specs.declared.ChangeOp.the-variants.{Create, Modify, Destroy, SetParts, SetMode}
 use Rattle.member.specs.Member.{freshOf}
 use Rattle.member.proofs.Sound.{sound-fresh, sound-part}
 use Rattle.changes.proofs.Kept.{change-sound}

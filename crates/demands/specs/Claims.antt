@@ -42,14 +42,9 @@ RefusalsChangeNothing = (c : List ℕ) (x : Call) → refused (step c x .1) ≡ 
 
 -- ---- DEMAND 2: the round trip ----
 
--- The opcodes of these commands are in use, and each reply has room.
-pub record InUse (c : List ℕ) : Type 0 where
-  pub partsGet : bit (inUseOf c) 0x0f ≡ true
-  pub partsSet : bit (inUseOf c) 0x10 ≡ true
-
 -- Member m of a sound card c is captured through a live get object i. Member k of a sound card d with the same setup is
--- stopped and has a live set object j and a live get object l. (d may be c and k may be m.) The capture is a full one:
--- the reply is a head of 8 bytes and all parts.
+-- stopped and has a live set object j and a live get object l. (d may be c and k may be m.) Parts get, 0x0f, is in use on
+-- both cards, and parts set, 0x10, where the capture is set.
 pub record Restorable (c : List ℕ) (m i : ℕ) (d : List ℕ) (k j l : ℕ) : Type 0 where
   pub soundSource : isSound c ≡ true
   pub soundTarget : isSound d ≡ true
@@ -60,8 +55,9 @@ pub record Restorable (c : List ℕ) (m i : ℕ) (d : List ℕ) (k j l : ℕ) : 
   pub targetSet : lookupOf (memberIn d k) j ≡ Live Set
   pub targetGet : lookupOf (memberIn d k) l ≡ Live Get
   pub stopped : memberIn d k .mode ≡ Stopped
-  pub sourceInUse : InUse c
-  pub targetInUse : InUse d
+  pub captureInUse : bit (inUseOf c) 0x0f ≡ true
+  pub setInUse : bit (inUseOf d) 0x10 ≡ true
+  pub recaptureInUse : bit (inUseOf d) 0x0f ≡ true
 
 -- what is captured with room for r bytes
 abbrev pub capture : List ℕ → ℕ → ℕ → ℕ → List ℕ
@@ -71,7 +67,8 @@ capture c m i r = respond c (getAll m i) r .1
 abbrev pub restore : List ℕ → ℕ → ℕ → List ℕ → ℕ → List ℕ × List ℕ
 restore d k j reply r = respond d (setParts k j (drop 8 reply)) r
 
--- The capture succeeds, the set is accepted, and a capture of the target gives the same bytes.
+-- The capture succeeds and is a full one, a head of 8 bytes and all parts; the set is accepted; and a capture of the
+-- target gives the same bytes.
 pub record RestoredSame (c : List ℕ) (m i : ℕ) (d : List ℕ) (k j l r₁ r₂ r₃ : ℕ) : Type 0 where
   pub captured : take 8 (capture c m i r₁) ≡ headOf Done
   pub full : length (capture c m i r₁) ≡ 8 + partsSize (setupOf c .queues)

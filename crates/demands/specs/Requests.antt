@@ -1,6 +1,6 @@
 -- Requests as bytes, for the round trip and the worked examples: document 01, "The frame" and "What each command does".
 -- Assumes nothing.
-use mathlib.Core.List.{List, [], _∷_, _++_}
+use mathlib.Core.List.{List, _∷_, _++_}
 use Prim.Native.Nat.{ℕ}
 use lib.ListN.{replicate}
 use Rattle.wire.specs.Le.{bytes}

@@ -12,8 +12,6 @@ use Rattle.theory.proofs.Tests.{if-cases, unless-cases, both, either, below, wi
 use Rattle.protocol.specs.declared.Answer.{Answer}
 use Rattle.protocol.specs.declared.ReadOp.{ReadOp}
 use Rattle.protocol.specs.declared.ReadOp.the-variants.{QueryObject, GetMetadata, GetSelected, GetAll}
-use Rattle.protocol.specs.declared.ChangeOp.{ChangeOp}
-use Rattle.protocol.specs.declared.ChangeOp.the-variants.{Create, Modify, Destroy, SetParts, SetMode}
 use Rattle.protocol.specs.Opcodes.{supported, supportedOnly, namesMember}
 use Rattle.protocol.proofs.Operations.{IdBelow}
 use Rattle.frame.proofs.Steps.{names-one}

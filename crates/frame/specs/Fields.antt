@@ -5,7 +5,7 @@ use mathlib.Core.List.{List}
 use Prim.Native.Nat.{ℕ, zero, suc}
 use lib.Dec.{leb, ltb, eqb}
 use lib.ListN.{length, getD}
-use Rattle.theory.specs.Logic.{if_then_else_, unless_answer_then_, _and_, _or_}
+use Rattle.theory.specs.Logic.{if_then_else_, unless_answer_then_, _and_}
 use Rattle.wire.specs.Le.{number}
 use Rattle.protocol.specs.declared.Answer.the-variants.{BadField}
 use Rattle.protocol.specs.declared.ObjectKind.{ObjectKind}

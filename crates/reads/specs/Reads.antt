@@ -1,5 +1,4 @@
 -- The commands that read a member: document 01, "What each command does", steps 8 to 10. Assumes nothing.
-use mathlib.Core.Bool.{Bool}
 use mathlib.Core.List.{List}
 use Prim.Native.Nat.{ℕ}
 use lib.Dec.{eqb}

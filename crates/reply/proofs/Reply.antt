@@ -1,7 +1,7 @@
 -- The head and the result of a reply, written one after the other. Assumes nothing.
-use mathlib.Core.Path.{_≡_, refl, ap, sym, _∙_}
+use mathlib.Core.Path.{_≡_, refl, sym, _∙_}
 use mathlib.Core.Bool.{Bool, true, false, not}
-use mathlib.Core.List.{List, [], _∷_, _++_, append-nil}
+use mathlib.Core.List.{List, [], _++_, append-nil}
 use Prim.Native.Nat.{ℕ, _+_, _-_, _≤_, _<_}
 use native.Mathlib.Omega.{arith}
 use lib.Dec.{leb}
@@ -21,7 +21,7 @@ use Rattle.protocol.specs.Answers.{statusOf, qualifierOf, isDone}
 use Rattle.reads.specs.declared.Body.{Body}
 use Rattle.reply.specs.declared.Written.{Written}
 use Rattle.reply.specs.Result.{resultOf}
-use Rattle.reply.specs.Reply.{headOf, finalOf, replyOf, writtenOf, concludeOf}
+use Rattle.reply.specs.Reply.{headOf, finalOf, replyOf, concludeOf}
 
 pub head-long : (a : Answer) → length (headOf a) ≡ 8
 unfolding headOf bytes

@@ -1,5 +1,4 @@
 -- The reply: document 01, "The frame", and steps 11 and 12. Assumes nothing.
-use mathlib.Core.Bool.{Bool}
 use mathlib.Core.List.{List, [], _++_}
 use Prim.Native.Nat.{ℕ, _+_}
 use lib.Dec.{leb}

@@ -10,7 +10,7 @@ use lib.ListN.{length}
 use borrow.Author.Tests.{leb-true, le-leb}
 use Rattle.theory.specs.Logic.{if_then_else_}
 use Rattle.theory.specs.Machine.{replied, exposed, guarded, trace, seen, visible}
-use Rattle.theory.proofs.Tests.{tests, if-cases, by-cases}
+use Rattle.theory.proofs.Tests.{if-cases, by-cases}
 use Rattle.theory.proofs.Unwinding.{Masking, isolated-by-mask, guarded-masking}
 
 record Cells : Type 0 where

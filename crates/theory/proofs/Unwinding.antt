@@ -5,7 +5,7 @@ use mathlib.Core.Bool.{Bool, true, false}
 use mathlib.Core.List.{List, [], _∷_, _++_}
 use lib.ListN.{length}
 use Rattle.theory.specs.Logic.{if_then_else_}
-use Rattle.theory.specs.Machine.{Observation, replied, guarded, trace, seen, visible}
+use Rattle.theory.specs.Machine.{replied, guarded, trace, seen, visible}
 use Rattle.theory.proofs.Tests.{by-cases}
 
 -- `mask s` is s with the hidden part blanked, and `Good` an invariant. Each law speaks of one state and one call

@@ -1,7 +1,5 @@
 -- `admin::command` meets its contract. Assumes nothing.
 use borrow.Author.Needs.{needs}
-use mathlib.Core.Path.{_≡_}
-use mathlib.Core.Bool.{true}
 use Rattle.theory.proofs.Ladder.{said-true}
 use Rattle.admin.proofs.Concluded.{no-room, unsound}
 use Rattle.admin.proofs.Arms.{answered, refusal-told, query-told, read-member, change-member}

@@ -2,7 +2,6 @@
 use Prim.Native.Nat.{ℕ}
 use mathlib.Core.List.{List}
 use native.Mathlib.Omega.{arith}
-use borrow.Author.Needs.{needs}
 use Rattle.capture.proofs.Runs.{run-alike, Ready, Upto, upto-none, next-fits, upto-next, upto-all}
 use Rattle.capture.proofs.write_all.Statement.{statement}
 use Rattle.capture.proofs.write_all.Tie as tie

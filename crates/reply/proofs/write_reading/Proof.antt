@@ -4,7 +4,6 @@ use mathlib.Core.Path.{refl}
 use mir.Syntax.{w64}
 use mir.Val.{Fits}
 use lib.ListN.{length}
-use native.Mathlib.Omega.{arith}
 use Rattle.theory.proofs.Lent.{lent-tail}
 use Rattle.reply.proofs.Reply.{refused-written, result-written, reply-fits, tail-fits, fits-word}
 use Rattle.reply.proofs.write_reading.Statement.{statement}
