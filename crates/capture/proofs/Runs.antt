@@ -7,29 +7,24 @@ use native.Mathlib.Nat.{add-zero, add-assoc}
 use native.Mathlib.Omega.{arith}
 use borrow.Author.Tests.{eqb-true, le-leb, lt-leb}
 use lib.Dec.{leb, eqb}
-use lib.ListN.{length, getD, length-append}
+use lib.ListN.{length, getD}
 use Rattle.theory.specs.Logic.{_and_, _or_}
 use Rattle.theory.specs.Bytes.{part, put}
 use Rattle.theory.specs.Items.{itemsFrom}
 use Rattle.theory.proofs.Tests.{false-or, both}
 use Rattle.theory.proofs.Table.{every}
+use Rattle.theory.proofs.Sums.{length-items, sum-same}
 use Rattle.theory.proofs.Items.{Written, written-start, written-room, written-end, written-at}
 use Rattle.inventory.specs.Inventory.{Row, row, rows, rowAt, rowCount, offsetOf, valuesSize, partsSize}
 use Rattle.inventory.specs.Header.{headerOf, headerSize}
 use Rattle.inventory.proofs.Columns.{selectors, selector-at, size-at}
 use Rattle.inventory.proofs.Rules.{table, every-row, row-within, offset-next}
-use Rattle.capture.specs.Capture.{partAt, asks, partItem, partsWritten, captureOf, RowsAlike, runOf, Wrote}
+use Rattle.capture.specs.Capture.{partAt, asks, partItem, partsWritten, captureOf}
+use Rattle.capture.specs.Runs.{RowsAlike, runOf, Wrote}
 use Rattle.capture.proofs.Sizes.{part-length, capture-length}
 use Rattle.capture.proofs.Writes.{row-small, wrote-next}
 
 -- ---- one run ----
-
-items-length : (item : ℕ → List ℕ) (k n : ℕ) → ((j : ℕ) → j < n → length (item j) ≡ k) → (i m : ℕ) → i + m ≡ n
-    → length (itemsFrom item m i) ≡ m * k
-unfolding itemsFrom
-items-length item k n l i zero e = omega arith
-items-length item k n l i (suc m) e =
-    rw (length-append, l i (omega arith), items-length item k n l (i + 1) m (omega arith)) (omega arith)
 
 -- i parts are written; the next goes to `at`, and its value starts at `from`
 pub record Running (v : List ℕ) (first count b : ℕ) (out₀ out : List ℕ) (at from i : ℕ) : Type 0 where
@@ -52,7 +47,7 @@ module _ (v : List ℕ) (first count type size offset : ℕ) (a : RowsAlike firs
   run-item j h = part-length v (first + j) (inside j h) e ∙ rw (a .sized j h)
 
   pub run-length : length (runOf v first count) ≡ count * (headerSize + size)
-  run-length = items-length item (headerSize + size) count run-item 0 count (omega arith)
+  run-length = length-items item (λ j. headerSize + size) count count 0 (omega arith) run-item ∙ sum-same (headerSize + size) count 0
 
   pub run-start : (b : ℕ) (out : List ℕ) → b + count * (headerSize + size) ≤ length out → Running v first count b out out b offset 0
   run-start b out h = record { written = written-start item count b out (omega (arith, run-length)); starts = a .starts ∙ rw add-zero }

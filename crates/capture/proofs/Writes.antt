@@ -18,7 +18,8 @@ use Rattle.inventory.specs.Inventory.{Row, row, rowAt, rowCount, present, value
 use Rattle.inventory.specs.Header.{headerOf, headerSize}
 use Rattle.inventory.proofs.Columns.{types, selectors, sizes, offsets, type-at, selector-at, size-at, offset-at, row-at}
 use Rattle.inventory.proofs.Rules.{table, every-row, row-within, length-header}
-use Rattle.capture.specs.Capture.{Selection, All, Asked, headerItem, partAt, asks, partItem, Wrote}
+use Rattle.capture.specs.Capture.{Selection, All, Asked, headerItem, partAt, asks, partItem}
+use Rattle.capture.specs.Runs.{Wrote}
 use Rattle.capture.proofs.Sizes.{itemSize, size-most}
 
 -- ---- one part ----

@@ -1,11 +1,9 @@
 -- The headers and the parts of a member as bytes: document 01, "Metadata" and "Parts get". Assumes nothing.
 use mathlib.Core.Bool.{Bool}
 use mathlib.Core.List.{List, [], _++_}
-use mathlib.Core.Path.{_≡_}
-use Prim.Native.Nat.{ℕ, _+_, _≤_, _<_}
-use lib.ListN.{length}
+use Prim.Native.Nat.{ℕ}
 use Rattle.theory.specs.Logic.{if_then_else_, _and_}
-use Rattle.theory.specs.Bytes.{part, put}
+use Rattle.theory.specs.Bytes.{part}
 use Rattle.theory.specs.Items.{itemsFrom}
 use Rattle.inventory.specs.Inventory.{Row, rowAt, rowCount, offsetOf, present}
 use Rattle.inventory.specs.Header.{headerOf}
@@ -22,21 +20,6 @@ headersOf queues = itemsFrom (headerItem queues) rowCount 0
 -- a part: the header and the value
 unfoldable pub partAt : List ℕ → ℕ → List ℕ
 partAt values i = headerOf (rowAt i) ++ part (offsetOf i) (rowAt i .size) values
-
--- rows of one type whose values are of one size, from an offset on, and their parts
-pub record RowsAlike (first count type size offset : ℕ) : Type 0 where
-  pub there : first + count ≤ rowCount
-  pub typed : (j : ℕ) → j < count → rowAt (first + j) .partType ≡ type
-  pub sized : (j : ℕ) → j < count → rowAt (first + j) .size ≡ size
-  pub starts : offset ≡ offsetOf first
-
-abbrev pub runOf : List ℕ → ℕ → ℕ → List ℕ
-runOf values first count = itemsFrom (λ j. partAt values (first + j)) count 0
-
--- an item written at a place of a buffer, and the place after it
-pub record Wrote (item : List ℕ) (at : ℕ) (before after : List ℕ) (next : ℕ) : Type 0 where
-  pub buffer : after ≡ put at item before
-  pub place : next ≡ at + length item
 
 -- all parts that the member has, or those of them that the asked list names
 pub data Selection : Type 0 where

@@ -7,7 +7,8 @@ ghost use Rattle.theory.specs.Logic.{if_then_else_};
 ghost use Rattle.theory.specs.Bytes.{part, put};
 ghost use Rattle.inventory.specs.Inventory.{row, valuesSize, partsSize};
 ghost use Rattle.inventory.specs.Header.{headerSize, headerOf};
-ghost use Rattle.capture.specs.Capture.{Asked, headersOf, asks, partsWritten, captureOf, RowsAlike, runOf, Wrote};
+ghost use Rattle.capture.specs.Capture.{Asked, headersOf, asks, partsWritten, captureOf};
+ghost use Rattle.capture.specs.Runs.{RowsAlike, runOf, Wrote};
 use parts::ListForm;
 
 // ---- headers ----

@@ -4,7 +4,6 @@ use mathlib.Core.Path.{_≡_, ap, sym, _∙_}
 use mathlib.Core.Logic.{_≢_}
 use mathlib.Core.List.{List, _∷_, _++_}
 use Prim.Native.Nat.{ℕ, _+_, _*_, _-_, _^_, _≤_, _<_}
-use native.Mathlib.Nat.{zero-add}
 use native.Mathlib.Omega.{arith}
 use lib.Dec.{leb}
 use lib.ListN.{length, getD, take, drop, length-append}
@@ -12,7 +11,7 @@ use lib.Seq.{take-take, take-all, take-at, take-add, drop-at, drop-append-add, d
 use borrow.Rule.Slice.PartMut.{putMid}
 use Rattle.theory.specs.Bytes.{part, put, repeat}
 use Rattle.theory.proofs.Tests.{by-cases, tests}
-use Rattle.theory.proofs.Bytes.{length-put, put-put, put-comm, put-undo, put-part, put-out, put-eq, part-before, part-after, part-put-as, length-part, length-part-le, part-part, length-repeat, part-repeat}
+use Rattle.theory.proofs.Bytes.{length-put, put-put, put-comm, put-part, put-out, put-eq, part-before, part-after, part-put-as, length-part, length-part-le, part-part, length-repeat, part-repeat}
 use Rattle.wire.specs.Le.{le, bytes, number}
 use Rattle.wire.proofs.Le.{length-bytes, le-bytes, number-before, number-put}
 use Rattle.protocol.specs.Opcodes.{freshMask}
@@ -88,13 +87,6 @@ module _ (c : List ℕ) (m : ℕ) (r : List ℕ) where
       (λ e. put-comm (recordAt k) (take recordSize q) (recordAt m) (take recordSize r) c (omega tests))
       (λ e. sym (put-comm (recordAt m) (take recordSize r) (recordAt k) (take recordSize q) c (omega tests)))
 
-  -- to put back what was there undoes it
-  pub record-undo : withRecord (withRecord c m r) m (recordIn c m) ≡ c
-  unfolding withRecord recordIn
-  record-undo =
-      rw (take-take recordSize recordSize (drop (recordAt m) c) (omega arith))
-      (put-undo (recordAt m) recordSize (take recordSize r) c (cut r))
-
   -- there is no member m
   pub record-none : length c ≡ cardSize (setupOf c .members) → setupOf c .members < m → withRecord c m r ≡ c
   unfolding withRecord
@@ -136,22 +128,11 @@ module _ (c : List ℕ) (mask : ℕ) where
   unfolding withInUse inUseOf
   use-same h l = number-put inUseAt 8 mask c h l
 
-  pub use-over : (k : ℕ) → withInUse (withInUse c mask) k ≡ withInUse c k
-  unfolding withInUse
-  use-over k =
-      let n = length-bytes 8 mask in
-      let o = length-bytes 8 k in
-      put-put inUseAt (bytes 8 mask) (bytes 8 k) c (omega arith)
-
   pub use-swap : (m : ℕ) (r : List ℕ) → withInUse (withRecord c m r) mask ≡ withRecord (withInUse c mask) m r
   unfolding withInUse withRecord
   use-swap m r =
       let n = length-bytes 8 mask in
       put-comm inUseAt (bytes 8 mask) (recordAt m) (take recordSize r) c (omega arith)
-
-  pub member-with-use : (m : ℕ) → memberIn (withInUse c mask) m ≡ memberIn c m
-  unfolding memberIn
-  member-with-use m = ap memberOf (record-with-use m)
 
 -- ---- the setup ----
 
@@ -189,20 +170,12 @@ module _ (c : List ℕ) where
 pub features-long : (c : List ℕ) → inUseAt ≤ length c → length (setupOf c .features) ≡ 16
 features-long c h = rw (← features-read c h) (length-part featuresAt 16 c h)
 
--- the same bytes before a record hold the same setup and list in use
-module _ (c d : List ℕ) (m : ℕ) (e : take (recordAt m) c ≡ take (recordAt m) d) where
-  same-before : (at n : ℕ) → at + n ≤ headSize → part at n c ≡ part at n d
-  same-before at n h =
-      let p : (l : List ℕ) → part at n (take (recordAt m) l) ≡ part at n l = λ l. part-part at n 0 (recordAt m) l (omega arith) ∙ rw zero-add in
-      sym (p c) ∙ ap (part at n) e ∙ p d
-
-  pub same-setup : setupOf c ≡ setupOf d
-  unfolding setupOf
-  same-setup = ap setupIn (same-before 0 inUseAt (omega arith))
-
-  pub same-use : inUseOf c ≡ inUseOf d
-  unfolding inUseOf number
-  same-use = ap le (same-before inUseAt 8 (omega arith))
+-- the same bytes before a record hold the same setup
+pub same-setup : (c d : List ℕ) (m : ℕ) → take (recordAt m) c ≡ take (recordAt m) d → setupOf c ≡ setupOf d
+unfolding setupOf
+same-setup c d m e =
+    let p : (l : List ℕ) → part 0 inUseAt (take (recordAt m) l) ≡ part 0 inUseAt l = λ l. part-part 0 inUseAt 0 (recordAt m) l (omega arith) in
+    ap setupIn (sym (p c) ∙ ap (part 0 inUseAt) e ∙ p d)
 
 -- ---- a fresh card ----
 

@@ -7,9 +7,9 @@ use native.Mathlib.Omega.{arith}
 use lib.Dec.{eqb}
 use lib.ListN.{length}
 use borrow.Author.Tests.{eqb-true, eqb-false, eq-eqb, leb-true, le-leb}
-use Rattle.theory.specs.Logic.{_and_}
 use Rattle.theory.proofs.Tests.{by-cases, both, and-i, inside, within-low, within-high, tests}
-use Rattle.protocol.specs.Opcodes.{supportedOnly, freshMask}
+use Rattle.protocol.specs.Opcodes.{supportedOnly}
+use Rattle.protocol.proofs.Masks.{mask-fits, fresh-only}
 use Rattle.member.specs.declared.Member.{Member}
 use Rattle.member.specs.Record.{recordSize, recordOf}
 use Rattle.member.specs.Sound.{soundRecord}
@@ -132,17 +132,11 @@ sound-with-member c m x s low h = sound-with-record c m (recordOf x) s low (leng
 
 -- another list with supported bits only is in use
 pub sound-with-use : (c : List ℕ) (mask : ℕ) → Sound c → supportedOnly mask ≡ true → Sound (withInUse c mask)
-unfolding supportedOnly
 sound-with-use c mask s u =
-    let b = both _ _ u .1 in
-    let long = sound-long c s in
-    kept c _ s (length-with-use c mask) (setup-with-use c mask) (rw (use-same c mask long (omega tests)) u) (λ k l h. rw (record-with-use c mask k) (s .each k l h))
+    kept c _ s (length-with-use c mask) (setup-with-use c mask) (rw (use-same c mask (sound-long c s) (mask-fits mask u)) u)
+    (λ k l h. rw (record-with-use c mask k) (s .each k l h))
 
 -- a fresh card
-fresh-supported : supportedOnly freshMask ≡ true
-unfolding supportedOnly _and_
-fresh-supported = refl
-
 pub sound-fresh-card : (s : Setup) → soundSetup s ≡ true → length (s .features) ≡ 16 → Sound (freshCard s)
 sound-fresh-card s e n =
     let f = setup-fresh s n in
@@ -150,6 +144,6 @@ sound-fresh-card s e n =
     record {
       long = rw f (length-fresh s n);
       numbers = rw f (numbers-of s e);
-      supported = rw (use-fresh s n) fresh-supported;
+      supported = rw (use-fresh s n) fresh-only;
       each = rw f (λ m l h. rw (record-fresh s n m l h) g);
     }

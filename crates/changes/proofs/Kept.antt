@@ -1,6 +1,6 @@
 -- What a change of a member can come to, and what it keeps: a refusal leaves the member, and a sound member stays sound.
 -- Assumes nothing.
-use mathlib.Core.Path.{_≡_, refl, _∙_}
+use mathlib.Core.Path.{_≡_, refl}
 use mathlib.Core.Bool.{true, false}
 use mathlib.Core.List.{List}
 use Prim.Native.Nat.{ℕ, _+_, _<_}
@@ -14,7 +14,6 @@ use Rattle.protocol.specs.Answers.{isDone}
 use Rattle.protocol.proofs.Operations.{IdBelow}
 use Rattle.parts.specs.List.{PartList}
 use Rattle.values.specs.Apply.{applied}
-use Rattle.values.proofs.Kept.{applied-length}
 use Rattle.objects.specs.declared.Slot.{Slot}
 use Rattle.objects.specs.declared.Slot.the-variants.{Free}
 use Rattle.objects.specs.declared.Found.{Found}
@@ -23,7 +22,6 @@ use Rattle.objects.specs.Objects.{slotFor, onFound}
 use Rattle.member.specs.declared.Member.{Member}
 use Rattle.member.specs.Objects.{lookupOf, withObject, roomIn}
 use Rattle.member.specs.Member.{withMode, withValues}
-use Rattle.member.proofs.Record.{Shaped, shaped-mode, shaped-values, shaped-object}
 use Rattle.member.proofs.Sound.{SoundMember, sound-mode, sound-object, sound-free, sound-applied}
 use Rattle.changes.specs.declared.Changed.{Changed}
 use Rattle.changes.specs.Changes.{refuse, done, limited, createOf, modifyOf, destroyOf, setPartsOf, changeOf}
@@ -74,12 +72,6 @@ module _ (queues gets sets : ℕ) (list : List ℕ) (op : ChangeOp) (m : Member)
   change-refused =
       change-cases queues gets sets m (λ x. isDone (x .answer) ≡ false → x .member ≡ m) (λ a e f. refl) list op
       (λ id slot p e f. cc) (λ id f. cc) (λ mode f. cc) (λ ps f. cc)
-
-  pub change-shaped : Shaped m → Shaped (changeOf queues gets sets list op m .member)
-  change-shaped s =
-      change-cases queues gets sets m (λ x. Shaped (x .member)) (λ a e. s) list op
-      (λ id slot p e. shaped-object m s id slot) (λ id. shaped-object m s id Free) (λ mode. shaped-mode m s mode)
-      (λ ps. shaped-values m s _ (applied-length queues ps (m .values) ∙ s .long))
 
   pub change-sound : (features : List ℕ) → IdBelow (gets + sets) op → SoundMember gets sets features m
       → SoundMember gets sets features (changeOf queues gets sets list op m .member)

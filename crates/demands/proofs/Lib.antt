@@ -2,7 +2,6 @@ pub mod Model
 pub mod Examples
 pub mod Refusals
 pub mod Requests
-pub mod Live
 pub mod Sound
 pub mod Mask
 pub mod Isolation

@@ -29,6 +29,7 @@ use Rattle.member.specs.declared.Member.{Member}
 use Rattle.member.specs.Objects.{lookupOf}
 use Rattle.member.specs.Member.{featuresIn, withValues}
 use Rattle.member.proofs.Sound.{sound-applied}
+use Rattle.member.proofs.Live.{live-below}
 use Rattle.changes.specs.Changes.{setPartsOf}
 use Rattle.reads.specs.Reads.{throughGet}
 use Rattle.card.specs.declared.Setup.{Setup}
@@ -42,7 +43,6 @@ use Rattle.admin.specs.Command.{askIn, effect, perform, conclude, respond}
 use Rattle.demands.specs.Requests.{request, objectHeader, getAll, setParts}
 use Rattle.demands.specs.Claims.{Restorable, RestoredSame, RoundTrip, capture, restore}
 use Rattle.demands.proofs.Requests.{get-all-asked, set-parts-asked}
-use Rattle.demands.proofs.Live.{live-below}
 
 -- a command that succeeds, where the card is sound and the reply has room
 respond-done : (c r : List ℕ) (room : ℕ) (next result : List ℕ) → isSound c ≡ true

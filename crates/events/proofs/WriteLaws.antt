@@ -1,14 +1,14 @@
 -- What setup writes: zeros, or a fresh card. Assumes nothing.
 use mathlib.Core.Path.{_≡_, refl, sym, _∙_}
 use mathlib.Core.List.{List, [], _∷_, _++_, append-assoc}
-use Prim.Native.Nat.{ℕ, suc, _+_, _*_, _-_, _≤_, _<_}
+use Prim.Native.Nat.{ℕ, _+_, _*_, _-_, _≤_, _<_}
 use native.Mathlib.Nat.{sub-zero}
 use native.Mathlib.Omega.{arith}
 use native.Mathlib.Numerals.{add-one}
 use lib.ListN.{length, take, set, replicate, length-append, replicate-append-replicate}
 use lib.Seq.{take-suc-set, take-all}
 use Rattle.theory.specs.Bytes.{put, repeat}
-use Rattle.theory.proofs.Bytes.{put-append, put-nil, put-all}
+use Rattle.theory.proofs.Bytes.{put-append, put-nil, put-all, repeat-step, repeat-end}
 use Rattle.wire.specs.Le.{bytes}
 use Rattle.wire.proofs.Le.{length-bytes}
 use Rattle.protocol.specs.Opcodes.{freshMask}
@@ -41,14 +41,6 @@ head-written c d e f s n p q r =
     let h = s .members ∷ s .queues ∷ s .gets ∷ s .sets ∷ [] in
     let k : 0 + length (h ++ s .features) ≡ inUseAt = omega arith in
     rw (r, q, p) (sym (put-append 0 (h ++ s .features) (bytes 8 freshMask) c ∙ rw (k, put-append 0 h (s .features) c)))
-
-repeat-step : (n m : ℕ) (r : List ℕ) → m < n → repeat (n - m) r ≡ r ++ repeat (n - (m + 1)) r
-unfolding repeat
-repeat-step n m r h = let e : n - m ≡ suc (n - (m + 1)) = omega arith in rw e
-
-repeat-end : (n m : ℕ) (r : List ℕ) → n ≤ m → repeat (n - m) r ≡ []
-unfolding repeat
-repeat-end n m r h = let e : n - m ≡ 0 = omega arith in rw e
 
 head-and-records : (s : Setup) → freshHead s ++ repeat (s .members) (recordOf (freshOf (s .features))) ≡ freshCard s
 unfolding freshHead freshCard

@@ -69,10 +69,6 @@ module _ (op : ℕ) (s : supported op ≡ true) (n0 : op ≡ 0x00 → ⊥) (n1 :
   unfolding fieldsOf if_then_else_
   at-last-opcode ids m d x h = rw is-last h
 
--- the code tests `!b`, where b is what a function answered
-pub not-of : (t b v : Bool) → b ≡ t → not b ≡ v → not t ≡ v
-not-of t b v e h = rw (← e) h
-
 pub usable-supported : (used op : ℕ) (b : Bool) → b ≡ usable used op → not b ≡ false → supported op ≡ true
 unfolding usable
 usable-supported used op b e h = both _ _ (sym e ∙ not-false b h) .0

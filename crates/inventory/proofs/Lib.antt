@@ -2,3 +2,4 @@ pub mod Columns
 pub mod Rules
 pub mod Find
 pub mod Headers
+pub mod Places

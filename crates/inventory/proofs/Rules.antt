@@ -1,7 +1,7 @@
 -- Rules of the whole inventory: each is one test that antt computes over the table. Assumes nothing.
 use mathlib.Core.Path.{_≡_, refl}
 use mathlib.Core.Bool.{Bool, true, not}
-use mathlib.Core.List.{List, [], _∷_, map}
+use mathlib.Core.List.{List, [], _∷_}
 use Prim.Native.Nat.{ℕ, _+_, _<_, _≤_, _^_}
 use borrow.Author.Tests.{eqb-true, ltb-true, leb-true, lt-leb, eq-eqb}
 use lib.Dec.{leb, ltb, eqb}
@@ -9,9 +9,8 @@ use lib.ListN.{length}
 use Rattle.theory.specs.Logic.{_and_, _or_, one, if_then_else_}
 use Rattle.theory.proofs.Table.{every, at}
 use Rattle.wire.specs.Le.{bytes}
-use Rattle.inventory.specs.Inventory.{Row, row, rows, rowAt, rowCount, deviceFeatures, present, total, offsetOf, valuesSize, partCount, partsSize, selectorOf, isRow, seek, placeOf}
+use Rattle.inventory.specs.Inventory.{Row, row, rows, rowAt, rowCount, deviceFeatures, present, offsetOf, valuesSize, selectorOf, isRow, seek, placeOf}
 use Rattle.inventory.specs.Header.{headerOf, headerSize}
-use Rattle.inventory.specs.declared.Place.the-variants.{At}
 
 -- what computes where a proof says `unfolding table`
 unfoldable pub table : Unit {0}
@@ -84,23 +83,8 @@ pub offset-zero : offsetOf 0 ≡ 0
 unfolding table
 offset-zero = refl
 
-pub features-place : (q : ℕ) → placeOf q deviceFeatures 0 ≡ At 0
-unfolding table
-features-place q = refl
-
--- ---- headers, counts and sizes ----
+-- ---- headers ----
 
 pub length-header : (r : Row) → length (headerOf r) ≡ headerSize
 unfolding headerOf bytes
 length-header r = refl
-
--- "The number of parts is 7 + 2Q and the size is 157 + 72Q"
-pub count-is : (q : ℕ) → q < 5 → total (map (λ (r : Row). one (present q r)) rows) ≡ partCount q
-unfolding table
-count-is q h = eqb-true _ _ (every-count (λ q. eqb (total (map (λ (r : Row). one (present q r)) rows)) (partCount q)) refl q h)
-
-pub size-is : (q : ℕ) → q < 5 → total (map (λ (r : Row). if present q r then headerSize + r .size else 0) rows) ≡ partsSize q
-unfolding table
-size-is q h =
-    eqb-true _ _
-    (every-count (λ q. eqb (total (map (λ (r : Row). if present q r then headerSize + r .size else 0) rows)) (partsSize q)) refl q h)

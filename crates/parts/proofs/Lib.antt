@@ -2,4 +2,3 @@ pub mod Walk
 pub mod ByHand
 pub mod Reader
 pub mod Turns
-pub mod Places

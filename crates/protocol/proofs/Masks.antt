@@ -90,7 +90,3 @@ mask-fits mask e = let l = both _ _ e .1 in omega tests
 pub fresh-only : supportedOnly freshMask ≡ true
 unfolding supportedOnly _and_
 fresh-only = refl
-
-pub all-only : supportedOnly supportedMask ≡ true
-unfolding supportedOnly _and_
-all-only = refl

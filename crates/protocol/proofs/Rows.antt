@@ -1,13 +1,11 @@
 -- The rows of the opcodes: the code's tables are their columns, and which opcodes they support. Assumes nothing.
 use mathlib.Core.Path.{_≡_, refl, sym, _∙_}
 use mathlib.Core.Bool.{Bool, true, false, not}
-use mathlib.Core.List.{List, [], _∷_, map}
-use Prim.Native.Nat.{ℕ, zero, suc, _-_, max, _%_, _^_, _<_, _≤_}
+use mathlib.Core.List.{List, map}
+use Prim.Native.Nat.{ℕ, _-_, _%_, _<_, _≤_}
 use native.Mathlib.Omega.{arith}
 use borrow.Author.Tests.{ltb-true, le-ltb, le-leb, lt-leb, eqb-true, eqb-false, eq-eqb, ne-eqb}
-use mir.Syntax.{Width}
-use mir.Val.{Fits, bits}
-use lib.Dec.{T, leb, ltb, eqb, leb→le, ltb→lt}
+use lib.Dec.{T, leb, ltb, eqb, leb→le}
 use lib.ListN.{getD, List·getD-map, List·getD-eq-default}
 use Rattle.theory.specs.Logic.{_and_, _or_, within}
 use Rattle.theory.proofs.Tests.{by-cases, both, within-low, above, or-i, false-or, tests}
@@ -126,16 +124,3 @@ unfolding every _and_ opcodeRows _or_ namesMember within
 supported-is =
     by-rows (λ (k : ℕ). ltb k 2 or namesMember k) refl
     (λ k h. or-i (ltb k 2) _ (omega tests) (above 0x0a 0x11 k h))
-
--- the entries of a table fit a width that holds the largest
-abbrev top : List ℕ → ℕ
-top [] = 0
-top (x ∷ l) = max x (top l)
-
-under-top : (l : List ℕ) (i : ℕ) → getD l i 0 ≤ top l
-under-top [] i = omega arith
-under-top (x ∷ l) zero = omega arith
-under-top (x ∷ l) (suc i) = omega (arith, under-top l i)
-
-pub entry-fits : (w : Width) (l : List ℕ) (i : ℕ) → T (ltb (top l) (2 ^ bits w)) → Fits w (getD l i 0)
-entry-fits w l i t = record { fits = omega (arith, under-top l i, ltb→lt (top l) (2 ^ bits w) t) }

@@ -3,11 +3,10 @@ use mathlib.Core.Path.{_≡_, sym, _∙_}
 use mathlib.Core.Bool.{Bool, true, false, not}
 use mathlib.Core.List.{List}
 use Prim.Native.Nat.{ℕ}
-use Rattle.theory.proofs.Ladder.{pass, stop, said-true, said-false}
+use Rattle.theory.proofs.Ladder.{pass, stop, said-true, said-false, yes-not, no-not}
 use Rattle.rules.specs.declared.Cause.the-variants.{Accepted, Cut, Unknown, Length, Features, Twice}
 use Rattle.parts.specs.List.{PartList, whole}
 use Rattle.rules.specs.Rules.{knownOrSkipped, lengthRight, featuresSame, every, repeated, causeIn}
-use Rattle.rules.proofs.Tests.{yes-not, no-not}
 
 ruleset steps = (pass, stop, said-true, said-false)
 

@@ -178,6 +178,15 @@ part-part at n b m l h =
 
 -- ---- repeat ----
 
+-- one more, and none left: m of n are done
+pub repeat-step : (n m : ℕ) (x : List ℕ) → m < n → repeat (n - m) x ≡ x ++ repeat (n - (m + 1)) x
+unfolding repeat
+repeat-step n m x h = let e : n - m ≡ suc (n - (m + 1)) = omega arith in rw e
+
+pub repeat-end : (n m : ℕ) (x : List ℕ) → n ≤ m → repeat (n - m) x ≡ []
+unfolding repeat
+repeat-end n m x h = let e : n - m ≡ 0 = omega arith in rw e
+
 pub length-repeat : (n k : ℕ) (x : List ℕ) → length x ≡ k → length (repeat n x) ≡ k * n
 unfolding repeat
 length-repeat zero k x e = omega arith

@@ -46,11 +46,6 @@ module _ (item : ℕ → List ℕ) (n b : ℕ) (out₀ out : List ℕ) (at i : �
         whole = w .whole ∙ ap (λ x. put at x out) e ∙ put-append at (item i) (itemsFrom item (n - (i + 1)) (i + 1)) out;
       }
 
-  -- in the form in which a loop's need asks it: x was put, which is the item, and is so long
-  pub written-on : (out′ x : List ℕ) (size : ℕ) → out′ ≡ put at x out → i < n → item i ≡ x → length x ≡ size
-      → Written item n b out₀ out′ (at + size) (i + 1)
-  written-on out′ x size p h e l = rw (p, ← l, ← e) (written-next h)
-
   -- an item with nothing to write
   pub written-skip : i < n → item i ≡ [] → Written item n b out₀ out at (i + 1)
   written-skip h z =
@@ -62,7 +57,3 @@ module _ (item : ℕ → List ℕ) (n b : ℕ) (out₀ out : List ℕ) (at i : �
 
   pub written-at : n ≤ i → at ≡ b + length (itemsFrom item n 0)
   written-at h = omega (arith, ap length (items-end item n i h))
-
-  -- the same, from the front of the buffer: the bytes written
-  pub written-size : b ≡ 0 → n ≤ i → at ≡ length (itemsFrom item n 0)
-  written-size z h = omega (arith, written-at h)

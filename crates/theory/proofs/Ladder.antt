@@ -2,7 +2,7 @@
 -- same order: laws for one step of such a definition, and for what a test of the code says. At any type of answer.
 -- Each step takes one lemma of depth and its test one or two: `search ladder depth 9` for more than three steps. About six tests
 -- are the most; then split the function. Assumes nothing.
-use mathlib.Core.Path.{_≡_, sym, _∙_}
+use mathlib.Core.Path.{_≡_, ap, sym, _∙_}
 use mathlib.Core.Bool.{Bool, true, false, not}
 use Prim.Native.Nat.{ℕ, _≤_, _<_}
 use borrow.Author.Tests.{le-leb, lt-leb, lt-ltb, le-ltb, eq-eqb, ne-eqb, not-true, not-false}
@@ -105,6 +105,13 @@ module _ (x v n : ℕ) (e : v ≡ x) where
   pub from-ge : v ≤ n → ltb n x ≡ false
   from-ge h = le-ltb n x (rw e at h)
 
+  -- n on the left; these are listed beside the ladder where they are needed
+  pub from-eq : n ≡ v → eqb n x ≡ true
+  from-eq h = eq-eqb n x (h ∙ e)
+
+  pub from-ne : (n ≡ v → ⊥) → eqb n x ≡ false
+  from-ne h = ne-eqb n x (λ p. h (p ∙ sym e))
+
   pub is-inside : (a : ℕ) → a ≤ v → v ≤ n → within a n x ≡ true
   is-inside a h k = inside a n x (rw e at h) (rw e at k)
 
@@ -124,6 +131,19 @@ module _ (v x w y : ℕ) (e : v ≡ x) (f : w ≡ y) where
 
   pub eqb-of : eqb v w ≡ eqb x y
   eqb-of = rw (e, f)
+
+-- a test behind a `not`; these are listed beside the ladder where they are needed
+pub no-not : (t : Bool) → t ≡ false → not t ≡ true
+no-not t e = ap not e
+
+pub yes-not : (t : Bool) → t ≡ true → not t ≡ false
+yes-not t e = ap not e
+
+pub not-of : (t b : Bool) → b ≡ t → not b ≡ not t
+not-of t b e = ap not e
+
+pub not-told : (t b v : Bool) → b ≡ t → not b ≡ v → not t ≡ v
+not-told t b v e h = rw (← e) h
 
 -- the last of two ends is what the code answers
 pub last-end : (a b n : ℕ) → a ≤ n → leb n b ≡ within a b n

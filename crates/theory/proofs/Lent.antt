@@ -8,14 +8,11 @@ use lib.ListN.{length, take, drop, length-drop, take-append-drop, drop-of-length
 use lib.Seq.{length-take-le}
 use borrow.Rule.Slice.PartMut.{midOf, postOf, putMid}
 use Rattle.theory.specs.Bytes.{put}
-use Rattle.theory.proofs.Bytes.{length-put, drop-put, take-put, take-before, drop-after}
+use Rattle.theory.proofs.Bytes.{length-put, drop-put, take-put, take-before}
 
--- what is lent from a place to the end, and from a place to a place, is so long
+-- what is lent from a place to the end is so long
 pub length-tail : (at : ℕ) (l : List ℕ) → length (take (length l - at) (drop at l)) ≡ length l - at
 length-tail at l = length-take-le (length l - at) (drop at l) (rw length-drop (omega arith))
-
-pub length-between : (at end : ℕ) (l : List ℕ) → end ≤ length l → length (take (end - at) (drop at l)) ≡ end - at
-length-between at end l h = length-take-le (end - at) (drop at l) (rw length-drop (omega arith))
 
 -- The lent part came back as `last`, which is the part with x put at i: then x is put there in the whole. What was lent is l; the
 -- definition may say it otherwise, as m (what an earlier call left). Where they are the same, `refl` proves that premise.
@@ -26,18 +23,6 @@ module _ (at n i : ℕ) (x l m last : List ℕ) (k : l ≡ m) (e : last ≡ put 
       let front : take at (put (at + i) x l) ≡ take at l = take-before at (at + i) x l (omega arith) in
       let back : last ++ postOf at n l ≡ put i x (drop at l) = rw (e, ← take-put, d) (take-append-drop n (put i x (drop at l))) in
       rw (← k, back) (rw (front, drop-put) at split)
-
-  pub lent-at : i + length x ≤ n → putMid at n l last ≡ put (at + i) x m
-  lent-at h = lent-by (sym (drop-after n i x (drop at l) h))
-
--- written from the front of what is lent
-pub lent-front : (at n : ℕ) (x l m last : List ℕ) → l ≡ m → last ≡ put 0 x (midOf at n l) → length x ≤ n → putMid at n l last ≡ put at x m
-lent-front at n x l m last k e h = lent-at at n 0 x l m last k e (omega arith) ∙ rw add-zero
-
--- lent as `&mut l[at..at + n]`, and written whole
-pub lent-sized : (at n : ℕ) (x l m last : List ℕ) → l ≡ m → last ≡ put 0 x (midOf at (at + n - at) l) → length x ≡ n
-    → putMid at (at + n - at) l last ≡ put at x m
-lent-sized at n x l m last k e s = lent-front at (at + n - at) x l m last k e (omega arith)
 
 -- lent to the end of the buffer, `&mut l[at..]`
 pub lent-tail-at : (at i : ℕ) (x l m last : List ℕ) → l ≡ m → last ≡ put i x (midOf at (length l - at) l)

@@ -4,6 +4,7 @@ pub mod Bytes
 pub mod Lent
 pub mod Copies
 pub mod Items
+pub mod Sums
 pub mod Table
 pub mod Unwinding
 pub mod Example

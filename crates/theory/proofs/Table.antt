@@ -2,9 +2,12 @@
 use mathlib.Core.Path.{_≡_}
 use mathlib.Core.Bool.{Bool, true}
 use mathlib.Core.List.{List, [], _∷_}
-use Prim.Native.Nat.{ℕ, zero, suc, _+_, _<_}
+use Prim.Native.Nat.{ℕ, zero, suc, _+_, max, _^_, _<_, _≤_}
 use native.Mathlib.Nat.{zero-add, add-zero, add-suc, suc-add}
 use native.Mathlib.Omega.{arith}
+use mir.Syntax.{Width}
+use mir.Val.{Fits, bits}
+use lib.Dec.{T, ltb, ltb→lt}
 use lib.ListN.{length, getD}
 use Rattle.theory.specs.Logic.{_and_}
 use Rattle.theory.proofs.Tests.{both}
@@ -23,3 +26,16 @@ module _ {A : Type 0} (f : ℕ → A → Bool) (d : A) where
 
   pub at : (xs : List A) → every f 0 xs ≡ true → (k : ℕ) → k < length xs → f k (getD xs k d) ≡ true
   at xs t k h = rw zero-add at (from xs 0 t k h)
+
+-- the entries of a table fit a width that holds the largest
+abbrev top : List ℕ → ℕ
+top [] = 0
+top (x ∷ l) = max x (top l)
+
+under-top : (l : List ℕ) (i : ℕ) → getD l i 0 ≤ top l
+under-top [] i = omega arith
+under-top (x ∷ l) zero = omega arith
+under-top (x ∷ l) (suc i) = omega (arith, under-top l i)
+
+pub entry-fits : (w : Width) (l : List ℕ) (i : ℕ) → T (ltb (top l) (2 ^ bits w)) → Fits w (getD l i 0)
+entry-fits w l i t = record { fits = omega (arith, under-top l i, ltb→lt (top l) (2 ^ bits w) t) }

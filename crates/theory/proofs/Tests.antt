@@ -1,5 +1,5 @@
 -- Case analysis on a test, and the laws of the choices and tests of specs/Logic.antt and of `same`. Assumes nothing.
-use mathlib.Core.Path.{_≡_, refl, ap, sym, _∙_}
+use mathlib.Core.Path.{_≡_, refl, ap}
 use mathlib.Core.Bool.{Bool, true, false}
 use mathlib.Core.List.{List, [], _∷_}
 use Prim.Native.Nat.{ℕ, _+_, _≤_, _<_}
@@ -75,16 +75,11 @@ unfolding _or_
 or-false true = refl
 or-false false = refl
 
--- both hold; both fail
+-- both hold
 pub both : (a b : Bool) → a and b ≡ true → (a ≡ true) × (b ≡ true)
 unfolding _and_
 both true b e = (refl, e)
 both false b e = (e, cc)
-
-pub neither : (a b : Bool) → a or b ≡ false → (a ≡ false) × (b ≡ false)
-unfolding _or_
-neither true b e = (e, cc)
-neither false b e = (refl, e)
 
 pub and-i : (a b : Bool) → a ≡ true → b ≡ true → a and b ≡ true
 and-i a b e f = rw (e, f) (true-and true)
@@ -130,10 +125,6 @@ unfolding within
 outside a b n e f g = not-both _ _ e (λ q. f (leb-false a n q)) (λ q. g (leb-false n b q))
 
 -- what a count adds
-pub one-true : (t : Bool) → t ≡ true → one t ≡ 1
-unfolding one
-one-true t e = rw e
-
 pub one-false : (t : Bool) → t ≡ false → one t ≡ 0
 unfolding one
 one-false t e = rw e
@@ -165,9 +156,6 @@ eq-same a b e = rw e (same-refl b)
 
 pub ne-same : (a b : List ℕ) → (a ≡ b → ⊥) → same a b ≡ false
 ne-same a b n = by-cases (same a b) (λ e. absurd (n (same-true a b e))) (λ e. e)
-
-pub same-false : (a b : List ℕ) → same a b ≡ false → a ≡ b → ⊥
-same-false a b e q = let z : true ≡ false = sym (eq-same a b q) ∙ e in let y : _≡_ {A = ℕ} 0 1 = cc in omega arith
 
 pub same-other-length : (a b : List ℕ) → (length a ≡ length b → ⊥) → same a b ≡ false
 same-other-length a b n = ne-same a b (λ e. n (ap length e))

@@ -5,10 +5,10 @@ use Prim.Native.Nat.{ℕ, zero, suc, _+_, _*_, _/_, _%_, _^_, _≤_, _<_}
 use native.Mathlib.Nat.{zero-add, suc-add, pow-succ'}
 use native.Mathlib.Numerals.{add-one}
 use native.Mathlib.Omega.{arith}
-use lib.ListN.{length, getD, take, drop}
-use lib.Seq.{take-nil, drop-nil, drop-cons, drop-drop, take-length}
+use lib.ListN.{length, getD, take}
+use lib.Seq.{take-nil, drop-nil, drop-cons}
 use Rattle.theory.specs.Bytes.{part, put}
-use Rattle.theory.proofs.Bytes.{part-before, part-after, part-put-as, part-part}
+use Rattle.theory.proofs.Bytes.{part-before, part-put-as}
 use Rattle.wire.specs.Le.{le, bytes, number}
 
 -- ---- the bytes of a number ----
@@ -57,15 +57,6 @@ number-step (suc at) n (x ∷ l) = number-step at n l ∙ rw (add-one, add-one)
 pub number-byte : (at : ℕ) (l : List ℕ) → number at 1 l ≡ getD l at 0
 number-byte at l = number-step at 0 l ∙ rw number-none (omega arith)
 
--- in a part of a list
-pub number-drop : (at n b : ℕ) (l : List ℕ) → number at n (drop b l) ≡ number (b + at) n l
-unfolding number
-number-drop at n b l = rw drop-drop
-
-pub number-part : (at n b m : ℕ) (l : List ℕ) → at + n ≤ m → number at n (part b m l) ≡ number (b + at) n l
-unfolding number
-number-part at n b m l h = ap le (part-part at n b m l h)
-
 -- of bytes, each below 256
 module _ (l : List ℕ) (small : (i : ℕ) → getD l i 0 < 256) where
   pub number-below : (n at : ℕ) → number at n l < 256 ^ n
@@ -81,25 +72,11 @@ module _ (l : List ℕ) (small : (i : ℕ) → getD l i 0 < 256) where
       let high : (getD l at 0 + 256 * number (at + 1) n l) / 256 ≡ number (at + 1) n l = omega (arith, small at) in
       rw (number-step, low, high, drop-cons l at 0 k, bytes-number n (at + 1) (omega arith), add-one)
 
-  le-whole : le l ≡ number 0 (length l) l
-  unfolding number
-  le-whole = rw take-length
-
-  pub le-below : le l < 256 ^ length l
-  le-below = rw le-whole (number-below (length l) 0)
-
-  pub bytes-le : bytes (length l) (le l) ≡ l
-  bytes-le = rw le-whole (bytes-number (length l) 0 (omega arith) ∙ take-length l)
-
 -- ---- the number at a place where something was put ----
 
 pub number-before : (at n i : ℕ) (x l : List ℕ) → at + n ≤ i → number at n (put i x l) ≡ number at n l
 unfolding number
 number-before at n i x l h = ap le (part-before at n i x l h)
-
-pub number-after : (at n i : ℕ) (x l : List ℕ) → i + length x ≤ at → number at n (put i x l) ≡ number at n l
-unfolding number
-number-after at n i x l h = ap le (part-after at n i x l h)
 
 pub number-put : (at n x : ℕ) (l : List ℕ) → at + n ≤ length l → x < 256 ^ n → number at n (put at (bytes n x) l) ≡ x
 unfolding number

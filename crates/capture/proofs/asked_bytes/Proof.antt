@@ -6,7 +6,8 @@ use native.Mathlib.Omega.{arith}
 use borrow.Author.Needs.{needs}
 use Rattle.inventory.specs.Inventory.{rows, rowCount}
 use Rattle.capture.specs.Capture.{Asked}
-use Rattle.capture.proofs.Sizes.{sumFrom, sum-start, sum-on, summed, itemSize, parts-length}
+use Rattle.theory.proofs.Sums.{sumFrom, sum-start, sum-on, summed}
+use Rattle.capture.proofs.Sizes.{itemSize, parts-length}
 use Rattle.capture.proofs.Writes.{row-bytes, row-most}
 use Rattle.capture.proofs.asked_bytes.Statement.{statement}
 use Rattle.capture.proofs.asked_bytes.Tie as tie

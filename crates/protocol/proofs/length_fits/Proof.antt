@@ -1,7 +1,8 @@
 -- `protocol::length_fits` meets its contract. Assumes nothing.
 use borrow.Author.Needs.{needs}
 use Rattle.protocol.specs.Opcodes.{opcodeRows}
-use Rattle.protocol.proofs.Rows.{supported-below, too-short, too-long, whole-headers, part-header, entry-fits}
+use Rattle.protocol.proofs.Rows.{supported-below, too-short, too-long, whole-headers, part-header}
+use Rattle.theory.proofs.Table.{entry-fits}
 use Rattle.protocol.proofs.length_fits.Statement.{statement}
 use Rattle.protocol.proofs.length_fits.Tie as tie
 

@@ -1,8 +1,7 @@
 -- `rules::check_asked` meets its contract. Assumes nothing.
 use borrow.Author.Needs.{needs}
-use Rattle.theory.proofs.Ladder.{ladder}
+use Rattle.theory.proofs.Ladder.{ladder, not-of}
 use Rattle.rules.specs.Rules.{askedIn}
-use Rattle.rules.proofs.Tests.{not-of}
 use Rattle.rules.proofs.check_asked.Statement.{statement}
 use Rattle.rules.proofs.check_asked.Tie as tie
 

@@ -1,7 +1,6 @@
 -- `rules::is_features` meets its contract. Assumes nothing.
 use borrow.Author.Needs.{needs}
-use Rattle.theory.proofs.Ladder.{ladder}
-use Rattle.rules.proofs.Tests.{no-not, yes-not}
+use Rattle.theory.proofs.Ladder.{ladder, no-not, yes-not}
 use Rattle.rules.proofs.is_features.Statement.{statement}
 use Rattle.rules.proofs.is_features.Tie as tie
 

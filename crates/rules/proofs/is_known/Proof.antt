@@ -1,7 +1,7 @@
 -- `rules::is_known` meets its contract. Assumes nothing.
 use borrow.Author.Needs.{needs}
 use Rattle.rules.specs.Rules.{known}
-use Rattle.parts.proofs.Places.{at-row, at-none}
+use Rattle.inventory.proofs.Places.{at-row, at-none}
 use Rattle.rules.proofs.is_known.Statement.{statement}
 use Rattle.rules.proofs.is_known.Tie as tie
 

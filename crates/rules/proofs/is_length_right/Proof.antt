@@ -1,7 +1,7 @@
 -- `rules::is_length_right` meets its contract. Assumes nothing.
 use borrow.Author.Needs.{needs}
 use Rattle.theory.proofs.Ladder.{ladder}
-use Rattle.parts.proofs.Places.{row-in, at-row, at-none}
+use Rattle.inventory.proofs.Places.{row-in, at-row, at-none}
 use Rattle.rules.proofs.is_length_right.Statement.{statement}
 use Rattle.rules.proofs.is_length_right.Tie as tie
 

@@ -1,9 +1,9 @@
 -- `values::store_answer` meets its contract. Assumes nothing.
 use borrow.Author.Needs.{needs}
-use Rattle.theory.proofs.Ladder.{ladder}
+use Rattle.theory.proofs.Ladder.{ladder, from-eq, from-ne}
 use Rattle.values.specs.Apply.{storable}
-use Rattle.parts.proofs.Places.{row-in, at-row, at-none}
-use Rattle.values.proofs.Tests.{row-first, row-later, from-eq, from-ne}
+use Rattle.inventory.proofs.Places.{row-in, at-row, at-none}
+use Rattle.values.proofs.Tests.{row-first, row-later}
 use Rattle.values.proofs.store_answer.Statement.{statement}
 use Rattle.values.proofs.store_answer.Tie as tie
 

@@ -1,9 +1,9 @@
 -- `values::store_part` meets its contract. Assumes nothing.
 use borrow.Author.Needs.{needs}
-use Rattle.theory.proofs.Ladder.{ladder}
+use Rattle.theory.proofs.Ladder.{ladder, from-eq, from-ne}
 use Rattle.values.specs.Apply.{stored}
-use Rattle.parts.proofs.Places.{row-in, row-room, row-put, at-row, at-none}
-use Rattle.values.proofs.Tests.{row-first, row-later, from-eq, from-ne}
+use Rattle.inventory.proofs.Places.{row-in, row-room, row-put, at-row, at-none}
+use Rattle.values.proofs.Tests.{row-first, row-later}
 use Rattle.values.proofs.store_part.Statement.{statement}
 use Rattle.values.proofs.store_part.Tie as tie
 
@@ -17,7 +17,7 @@ returns-2 c = search (ladder, at-row, row-first)
 
 returns-3 : tie.Need-returns-3
 unfolding stored
-returns-3 c = search (ladder, at-row, row-later, from-ne)
+returns-3 c = search (ladder, at-row, from-ne)
 
 returns-4 : tie.Need-returns-4
 unfolding stored

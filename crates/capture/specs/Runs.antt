@@ -1,0 +1,24 @@
+-- What the private writers of parts leave. No public contract cites this. Assumes nothing.
+use mathlib.Core.Path.{_≡_}
+use mathlib.Core.List.{List}
+use Prim.Native.Nat.{ℕ, _+_, _≤_, _<_}
+use lib.ListN.{length}
+use Rattle.theory.specs.Bytes.{put}
+use Rattle.theory.specs.Items.{itemsFrom}
+use Rattle.inventory.specs.Inventory.{rowAt, rowCount, offsetOf}
+use Rattle.capture.specs.Capture.{partAt}
+
+-- rows of one type whose values are of one size, from an offset on, and their parts
+pub record RowsAlike (first count type size offset : ℕ) : Type 0 where
+  pub there : first + count ≤ rowCount
+  pub typed : (j : ℕ) → j < count → rowAt (first + j) .partType ≡ type
+  pub sized : (j : ℕ) → j < count → rowAt (first + j) .size ≡ size
+  pub starts : offset ≡ offsetOf first
+
+abbrev pub runOf : List ℕ → ℕ → ℕ → List ℕ
+runOf values first count = itemsFrom (λ j. partAt values (first + j)) count 0
+
+-- an item written at a place of a buffer, and the place after it
+pub record Wrote (item : List ℕ) (at : ℕ) (before after : List ℕ) (next : ℕ) : Type 0 where
+  pub buffer : after ≡ put at item before
+  pub place : next ≡ at + length item
