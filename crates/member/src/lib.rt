@@ -91,7 +91,7 @@ pub fn put_object(m: Member, id: usize, slot: Slot) -> Member
 pub fn without(m: Member, id: usize) -> Member
     ensures { λ r. ⌜ r ≡ withObject m id Slot.Free ⌝ }
 {
-    if 16 <= id {
+    if IDS <= id {
         return m;
     }
     let mode = m.mode;

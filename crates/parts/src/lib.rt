@@ -95,7 +95,7 @@ impl<'a> PartReader<'a> {
 
 // What stands at a position, through a reader.
 pub fn next_part(form: ListForm, list: &[u8], at: usize) -> Step
-    ensures { λ r. ⌜ r ≡ stepAt form (now (list .entry)) at ⌝ }
+    ensures { λ s. ⌜ s ≡ stepAt form (now (list .entry)) at ⌝ }
 {
     PartReader::new(list).moved(at).next(form)
 }
