@@ -11,6 +11,11 @@ use protocol::Answer;
 use protocol::ChangeOp;
 use protocol::ReadOp;
 
+// Where a request has its list: the headers asked for, and the parts given.
+const ASKED_AT: usize = 40;
+
+const GIVEN_AT: usize = 32;
+
 // Steps 2 to 7: what a request asks of this card.
 fn asked(card: &[u8], request: &[u8]) -> Ask
     requires { ⌜ isSound (now card) ≡ true ⌝ }
@@ -40,7 +45,7 @@ fn read_member(card: &[u8], m: u64, op: ReadOp, request: &[u8], reply: &mut [u8]
     let s = card::setup_of(card);
     let queues = s.queues;
     let rec = card::record_of(card, m);
-    let list = from(request, 40);
+    let list = from(request, ASKED_AT);
     let found = reads::read(rec, op, queues, list);
     let answer = found.answer;
     let body = found.body;
@@ -56,7 +61,14 @@ fn change_member(card: &mut [u8], m: u64, op: ChangeOp, request: &[u8], reply: &
 {
     let s = card::setup_of(card);
     let before = card::load_member(card, m);
-    let outcome = changes::change(before, op, s.queues, s.gets, s.sets, from(request, 32));
+    let outcome = changes::change(
+        before,
+        op,
+        s.queues,
+        s.gets,
+        s.sets,
+        from(request, GIVEN_AT),
+    );
     let answer = outcome.answer;
     let after = outcome.member;
     let told = reply::write_answer(answer, reply);
@@ -82,7 +94,7 @@ fn use_list(card: &mut [u8], mask: u64, request: &[u8], reply: &mut [u8]) -> usi
 pub fn command(card: &mut [u8], request: &[u8], reply: &mut [u8]) -> usize
     ensures { λ r. ⌜ (r, (now (card .exit), now (reply .exit))) ≡ commandOf (now (card .entry)) (now (request .entry)) (now (reply .entry)) ⌝ }
 {
-    if reply.len() < 8 {
+    if reply.len() < reply::HEAD_SIZE {
         return 0;
     }
     if !card::is_sound(card) {
@@ -94,7 +106,7 @@ pub fn command(card: &mut [u8], request: &[u8], reply: &mut [u8]) -> usize
             told.bytes
         }
         Ask::QueryList => {
-            let told = reply::write_mask(0x3fc03, reply);
+            let told = reply::write_mask(protocol::SUPPORTED_MASK, reply);
             told.bytes
         }
         Ask::UseList(mask) => use_list(card, mask, request, reply),

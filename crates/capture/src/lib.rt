@@ -9,6 +9,14 @@ ghost use Rattle.inventory.specs.Inventory.{row, valuesSize, partsSize};
 ghost use Rattle.inventory.specs.Header.{headerSize, headerOf};
 ghost use Rattle.capture.specs.Capture.{Asked, headersOf, asks, partsWritten, captureOf};
 ghost use Rattle.capture.specs.Runs.{RowsAlike, runOf, Wrote};
+use inventory::DEVICE_FEATURES;
+use inventory::DEVICE_STATUS;
+use inventory::DRIVER_FEATURES;
+use inventory::HEADER_SIZE;
+use inventory::PCI_COMMON;
+use inventory::QUEUE;
+use inventory::QUEUE_NOTIFY;
+use inventory::ROWS;
 use parts::ListForm;
 
 // ---- headers ----
@@ -23,10 +31,10 @@ pub fn write_headers(out: &mut [u8], queues: u8)
     let sizes = inventory::SIZES;
     let mut at = 0;
     let mut i = 0;
-    while i < 15 {
+    while i < ROWS {
         if inventory::is_present(queues, types[i], selectors[i]) {
             inventory::write_header(out, at, types[i], selectors[i], sizes[i]);
-            at += 16;
+            at += HEADER_SIZE;
             i += 1;
             continue;
         }
@@ -38,13 +46,13 @@ pub fn headers_bytes(queues: u8) -> usize
     requires { ⌜ queues < 5 ⌝ }
     ensures { λ r. ⌜ r ≡ length (headersOf queues) ⌝ }
 {
-    16 * (inventory::part_count(queues) as usize)
+    HEADER_SIZE * (inventory::part_count(queues) as usize)
 }
 
 // ---- one part ----
 
 // The part of this row, the header and the value, whose place is `offset` among the values. Returns the place after it.
-// The value goes through an array: where its size is a constant, the copies are then single moves.
+// The value goes through an array of the largest size: where its own is a constant, the copies are then single moves.
 fn write_part(
     out: &mut [u8],
     at: usize,
@@ -62,8 +70,8 @@ fn write_part(
     let len = size as usize;
     let mut value = [0u8; 32];
     wire::copy(&mut value, 0, &values[from..from + len]);
-    wire::copy(out, at + 16, &value[0..len]);
-    at + 16 + len
+    wire::copy(out, at + HEADER_SIZE, &value[0..len]);
+    at + HEADER_SIZE + len
 }
 
 // ---- all parts ----
@@ -102,13 +110,13 @@ pub fn write_all(out: &mut [u8], values: &[u8], queues: u8)
     ensures { λ _. ⌜ now (out .exit) ≡ put 0 (captureOf queues (now (values .entry))) (now (out .entry)) ⌝ }
 {
     let n = queues as usize;
-    let mut at = write_run(out, 0, values, 0, 1, 0x100, 16, 0);
-    at = write_run(out, at, values, 1, 1, 0x101, 16, 16);
-    at = write_run(out, at, values, 2, 2, 0x102, 4, 32);
-    at = write_run(out, at, values, 4, 2, 0x102, 2, 40);
-    at = write_run(out, at, values, 6, 1, 0x103, 1, 44);
-    at = write_run(out, at, values, 7, n, 0x104, 32, 45);
-    write_run(out, at, values, 11, n, 0x105, 8, 173);
+    let mut at = write_run(out, 0, values, 0, 1, DEVICE_FEATURES, 16, 0);
+    at = write_run(out, at, values, 1, 1, DRIVER_FEATURES, 16, 16);
+    at = write_run(out, at, values, 2, 2, PCI_COMMON, 4, 32);
+    at = write_run(out, at, values, 4, 2, PCI_COMMON, 2, 40);
+    at = write_run(out, at, values, 6, 1, DEVICE_STATUS, 1, 44);
+    at = write_run(out, at, values, 7, n, QUEUE, 32, 45);
+    write_run(out, at, values, 11, n, QUEUE_NOTIFY, 8, 173);
 }
 
 // ---- the parts that a list asks for ----
@@ -134,7 +142,7 @@ pub fn write_asked(out: &mut [u8], values: &[u8], queues: u8, asked: &[u8])
     let offsets = inventory::OFFSETS;
     let mut at = 0;
     let mut i = 0;
-    while i < 15 {
+    while i < ROWS {
         if is_asked(queues, asked, types[i], selectors[i]) {
             at = write_part(
                 out,
@@ -159,7 +167,7 @@ fn asked_size(queues: u8, asked: &[u8], row_type: u16, row_selector: u8, size: u
     if !is_asked(queues, asked, row_type, row_selector) {
         return 0;
     }
-    16 + size as usize
+    HEADER_SIZE + size as usize
 }
 
 // The bytes of the parts that a list asks for, whatever the values are.
@@ -171,7 +179,7 @@ pub fn asked_bytes(queues: u8, asked: &[u8]) -> usize
     let sizes = inventory::SIZES;
     let mut n = 0;
     let mut i = 0;
-    while i < 15 {
+    while i < ROWS {
         n += asked_size(queues, asked, types[i], selectors[i], sizes[i]);
         i += 1;
     }

@@ -6,7 +6,9 @@ ghost use lib.ListN.{length};
 ghost use Rattle.protocol.specs.Opcodes.{supportedOnly};
 ghost use Rattle.card.specs.Layout.{headSize, cardSize, cardBytes, setupOf, inUseOf, withInUse, isMember, recordAt, recordIn, HasRecord, memberIn, withMember};
 ghost use Rattle.card.specs.Sound.{inNumbers, soundSetup, soundAt, soundUpTo, isSound};
+use member::FEATURES_SIZE;
 use member::Member;
+use member::RECORD_SIZE;
 
 // A card's setup, from its header.
 pub struct Setup {
@@ -14,7 +16,7 @@ pub struct Setup {
     pub queues: u8,
     pub gets: u8,
     pub sets: u8,
-    pub features: [u8; 16],
+    pub features: [u8; FEATURES_SIZE],
 }
 
 // Header: N, Q, G, S 1 byte each, device features 16, list in use 8; then a record for each member.
@@ -24,7 +26,7 @@ pub const IN_USE_AT: usize = 20;
 
 const HEAD_SIZE: usize = 28;
 
-const RECORD_SIZE: usize = 222;
+const MOST_MEMBERS: u64 = 16;
 
 // ---- the layout ----
 
@@ -42,7 +44,7 @@ pub fn card_bytes(members: u64) -> usize
     if members < 1 {
         return 0;
     }
-    if members <= 16 {
+    if members <= MOST_MEMBERS {
         return HEAD_SIZE + RECORD_SIZE * (members as usize);
     }
     0
@@ -53,7 +55,7 @@ pub fn setup_of(card: &[u8]) -> Setup
     requires { ⌜ headSize ≤ length (now card) ⌝ }
     ensures { λ r. ⌜ r ≡ setupOf (now (card .entry)) ⌝ }
 {
-    let mut features = [0u8; 16];
+    let mut features = [0u8; FEATURES_SIZE];
     wire::copy(&mut features, 0, &card[FEATURES_AT..IN_USE_AT]);
     Setup {
         members: card[0],
@@ -132,7 +134,7 @@ pub fn in_numbers(members: u64, queues: u64, gets: u64, sets: u64) -> bool
     if members < 1 {
         return false;
     }
-    if 16 < members {
+    if MOST_MEMBERS < members {
         return false;
     }
     if queues < 1 {

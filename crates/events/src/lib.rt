@@ -13,11 +13,10 @@ ghost use Rattle.events.specs.Events.{InBounds, setupWith, setUp, resetM
 use card::FEATURES_AT;
 use card::IN_USE_AT;
 use card::Setup;
+use member::FEATURES_SIZE;
 use member::Member;
 use protocol::EventAnswer;
-
-// Commands 0x0 and 0x1.
-const FRESH_MASK: u64 = 3;
+use protocol::FRESH_MASK;
 
 // ---- setup ----
 
@@ -45,7 +44,7 @@ fn write_head(card: &mut [u8], s: Setup)
 }
 
 // The records of n fresh members.
-fn write_members(card: &mut [u8], n: u64, features: [u8; 16])
+fn write_members(card: &mut [u8], n: u64, features: [u8; FEATURES_SIZE])
     requires { ⌜ length (now card) ≡ cardSize n ⌝ }
     ensures { λ _. ⌜ now (card .exit) ≡ put headSize (repeat n (recordOf (freshOf features))) (now (card .entry)) ⌝ }
 {
@@ -74,7 +73,7 @@ fn is_setup(members: u64, queues: u64, gets: u64, sets: u64, features: usize, bu
     if !card::in_numbers(members, queues, gets, sets) {
         return false;
     }
-    if features != 16 {
+    if features != FEATURES_SIZE {
         return false;
     }
     buffer == card::card_bytes(members)
@@ -85,7 +84,7 @@ fn setup_from(members: u64, queues: u64, gets: u64, sets: u64, features: &[u8]) 
     requires { ⌜ InBounds members queues gets sets × (length (now features) ≡ 16) ⌝ }
     ensures { λ r. ⌜ r ≡ setupWith members queues gets sets (now (features .entry)) ⌝ }
 {
-    let mut own = [0u8; 16];
+    let mut own = [0u8; FEATURES_SIZE];
     wire::copy(&mut own, 0, features);
     Setup {
         members: members as u8,

@@ -12,6 +12,22 @@ use protocol::Metadata;
 use protocol::ObjectKind;
 use protocol::ReadOp;
 
+// Opcode 2 bytes, group type 2, reserved 12, member 8, data; at most 4,096 bytes.
+const MEMBER_AT: usize = 16;
+
+const DATA_AT: usize = 24;
+
+const LONGEST: usize = 4096;
+
+// The object header: type 2 bytes, reserved 2, id 4. Flags of 8 bytes follow, and a kind; or a type byte.
+const ID_AT: usize = 4;
+
+const FLAGS_AT: usize = 8;
+
+const KIND_AT: usize = 16;
+
+const TYPE_AT: usize = 8;
+
 // What a request asks. Read and Change name a member of the card.
 pub enum Ask {
     Refused(Answer),
@@ -29,14 +45,14 @@ fn object_valid(ids: u8, d: &[u8]) -> bool
     if wire::read_u16(d, 0) != 0 {
         return false;
     }
-    wire::read_u32(d, 4) < ids as u32
+    wire::read_u32(d, ID_AT) < ids as u32
 }
 
 fn flags_valid(d: &[u8]) -> bool
     requires { ⌜ 16 ≤ length (now d) ⌝ }
     ensures { λ r. ⌜ r ≡ flagsValid (now (d .entry)) ⌝ }
 {
-    wire::read_u64(d, 8) == 0
+    wire::read_u64(d, FLAGS_AT) == 0
 }
 
 fn kind_valid(ids: u8, d: &[u8]) -> bool
@@ -49,14 +65,14 @@ fn kind_valid(ids: u8, d: &[u8]) -> bool
     if !flags_valid(d) {
         return false;
     }
-    d[16] <= 1
+    d[KIND_AT] <= 1
 }
 
 fn id_of(d: &[u8]) -> usize
     requires { ⌜ 8 ≤ length (now d) ⌝ }
     ensures { λ r. ⌜ r ≡ idOf (now (d .entry)) ⌝ }
 {
-    wire::read_u32(d, 4) as usize
+    wire::read_u32(d, ID_AT) as usize
 }
 
 fn kind_in(b: u8) -> ObjectKind
@@ -76,7 +92,7 @@ fn create_in(ids: u8, m: u64, d: &[u8]) -> Ask
     if !kind_valid(ids, d) {
         return Ask::Refused(Answer::BadField);
     }
-    Ask::Change(m, ChangeOp::Create(id_of(d), kind_in(d[16])))
+    Ask::Change(m, ChangeOp::Create(id_of(d), kind_in(d[KIND_AT])))
 }
 
 fn modify_in(ids: u8, m: u64, d: &[u8]) -> Ask
@@ -86,7 +102,7 @@ fn modify_in(ids: u8, m: u64, d: &[u8]) -> Ask
     if !kind_valid(ids, d) {
         return Ask::Refused(Answer::BadField);
     }
-    Ask::Change(m, ChangeOp::Modify(id_of(d), kind_in(d[16])))
+    Ask::Change(m, ChangeOp::Modify(id_of(d), kind_in(d[KIND_AT])))
 }
 
 fn query_in(ids: u8, m: u64, d: &[u8]) -> Ask
@@ -129,10 +145,10 @@ fn metadata_in(ids: u8, m: u64, d: &[u8]) -> Ask
     if !object_valid(ids, d) {
         return Ask::Refused(Answer::BadField);
     }
-    if 2 < d[8] {
+    if 2 < d[TYPE_AT] {
         return Ask::Refused(Answer::BadField);
     }
-    Ask::Read(m, ReadOp::GetMetadata(id_of(d), metadata_is(d[8])))
+    Ask::Read(m, ReadOp::GetMetadata(id_of(d), metadata_is(d[TYPE_AT])))
 }
 
 fn get_in(ids: u8, m: u64, d: &[u8]) -> Ask
@@ -142,10 +158,10 @@ fn get_in(ids: u8, m: u64, d: &[u8]) -> Ask
     if !object_valid(ids, d) {
         return Ask::Refused(Answer::BadField);
     }
-    if d[8] == 0 {
+    if d[TYPE_AT] == 0 {
         return Ask::Read(m, ReadOp::GetSelected(id_of(d)));
     }
-    if d[8] != 1 {
+    if d[TYPE_AT] != 1 {
         return Ask::Refused(Answer::BadField);
     }
     if d.len() != 16 {
@@ -250,14 +266,14 @@ fn framed(members: u8, ids: u8, in_use: u64, group: u16, op: usize, m: u64, d: &
 pub fn decode(members: u8, ids: u8, in_use: u64, request: &[u8]) -> Ask
     ensures { λ r. ⌜ r ≡ askOf members ids in_use (now (request .entry)) ⌝ }
 {
-    if request.len() < 24 {
+    if request.len() < DATA_AT {
         return Ask::Refused(Answer::BadLength);
     }
-    if 4096 < request.len() {
+    if LONGEST < request.len() {
         return Ask::Refused(Answer::BadLength);
     }
     let op = wire::read_u16(request, 0) as usize;
     let group = wire::read_u16(request, 2);
-    let m = wire::read_u64(request, 16);
-    framed(members, ids, in_use, group, op, m, &request[24..])
+    let m = wire::read_u64(request, MEMBER_AT);
+    framed(members, ids, in_use, group, op, m, &request[DATA_AT..])
 }

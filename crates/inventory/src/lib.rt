@@ -9,30 +9,48 @@ ghost use Rattle.theory.specs.Bytes.{put};
 ghost use Rattle.inventory.specs.Inventory.{row, rowAt, rowCount, deviceFeatures, offsetOf, present, selectorOf, isRow, placeOf, partCount, partsSize};
 ghost use Rattle.inventory.specs.Header.{headerOf, headerSize};
 
-pub const TYPES: [u16; 15] = [
-    0x100,
-    0x101,
-    0x102,
-    0x102,
-    0x102,
-    0x102,
-    0x103,
-    0x104,
-    0x104,
-    0x104,
-    0x104,
-    0x105,
-    0x105,
-    0x105,
-    0x105,
+// The types of parts.
+pub const DEVICE_FEATURES: u16 = 0x100;
+
+pub const DRIVER_FEATURES: u16 = 0x101;
+
+pub const PCI_COMMON: u16 = 0x102;
+
+pub const DEVICE_STATUS: u16 = 0x103;
+
+pub const QUEUE: u16 = 0x104;
+
+pub const QUEUE_NOTIFY: u16 = 0x105;
+
+// The table has a row for each part of a member with four queues; a part's header has 16 bytes.
+pub const ROWS: usize = 15;
+
+pub const HEADER_SIZE: usize = 16;
+
+pub const TYPES: [u16; ROWS] = [
+    DEVICE_FEATURES,
+    DRIVER_FEATURES,
+    PCI_COMMON,
+    PCI_COMMON,
+    PCI_COMMON,
+    PCI_COMMON,
+    DEVICE_STATUS,
+    QUEUE,
+    QUEUE,
+    QUEUE,
+    QUEUE,
+    QUEUE_NOTIFY,
+    QUEUE_NOTIFY,
+    QUEUE_NOTIFY,
+    QUEUE_NOTIFY,
 ];
 
-pub const SELECTORS: [u8; 15] = [0, 0, 0, 8, 16, 22, 0, 0, 1, 2, 3, 0, 1, 2, 3];
+pub const SELECTORS: [u8; ROWS] = [0, 0, 0, 8, 16, 22, 0, 0, 1, 2, 3, 0, 1, 2, 3];
 
-pub const SIZES: [u8; 15] = [16, 16, 4, 4, 2, 2, 1, 32, 32, 32, 32, 8, 8, 8, 8];
+pub const SIZES: [u8; ROWS] = [16, 16, 4, 4, 2, 2, 1, 32, 32, 32, 32, 8, 8, 8, 8];
 
 // Where a row's value starts among a member's values: the sum of the sizes before it.
-pub const OFFSETS: [u8; 15] = [
+pub const OFFSETS: [u8; ROWS] = [
     0,
     16,
     32,
@@ -80,7 +98,7 @@ pub fn offset_of(i: usize) -> usize
 pub fn is_present(queues: u8, row_type: u16, row_selector: u8) -> bool
     ensures { λ r. ⌜ r ≡ present queues (row «row_type» «row_selector» 0) ⌝ }
 {
-    if row_type < 0x104 {
+    if row_type < QUEUE {
         return true;
     }
     row_selector < queues
@@ -90,13 +108,13 @@ pub fn is_present(queues: u8, row_type: u16, row_selector: u8) -> bool
 pub fn selector_of(t: u16, s: u64) -> u64
     ensures { λ r. ⌜ r ≡ selectorOf t s ⌝ }
 {
-    if t == 0x102 {
+    if t == PCI_COMMON {
         return s % 0x1_0000_0000;
     }
-    if t == 0x104 {
+    if t == QUEUE {
         return s % 0x1_0000;
     }
-    if t == 0x105 {
+    if t == QUEUE_NOTIFY {
         return s % 0x1_0000;
     }
     0
@@ -122,7 +140,7 @@ pub fn place_of(queues: u8, t: u16, selector: u64) -> Place
     let types = TYPES;
     let selectors = SELECTORS;
     let mut i = 0;
-    while i < 15 {
+    while i < ROWS {
         if is_row(queues, t, selector, types[i], selectors[i]) {
             return Place::At(i);
         }
@@ -135,7 +153,7 @@ pub fn place_of(queues: u8, t: u16, selector: u64) -> Place
 fn first_word(row_type: u16, row_selector: u8) -> u64
     ensures { λ r. ⌜ r ≡ «row_type» + 2 ^ 16 * (one (eqb «row_type» deviceFeatures) + 2 ^ 16 * «row_selector») ⌝ }
 {
-    let flags = (row_type == 0x100) as u64;
+    let flags = (row_type == DEVICE_FEATURES) as u64;
     row_type as u64 + 0x1_0000 * (flags + 0x1_0000 * (row_selector as u64))
 }
 

@@ -11,6 +11,7 @@ ghost use Rattle.member.specs.Objects.{lookupOf, withObject, roomIn};
 ghost use Rattle.member.specs.Member.{freshOf, withMode, withValues, withPart};
 ghost use Rattle.member.specs.Sound.{soundRecord};
 use objects::Found;
+use objects::IDS;
 use objects::ObjectRecord;
 use objects::Slot;
 use protocol::Mode;
@@ -18,15 +19,14 @@ use protocol::Mode;
 // The record: mode 1 byte, one object record for each id, then the values.
 pub const RECORD_SIZE: usize = 222;
 
-const IDS: usize = 16;
-
 const OBJECTS_AT: usize = 1;
 
 const VALUES_AT: usize = 17;
 
 const VALUES_SIZE: usize = 205;
 
-const FEATURES_SIZE: usize = 16;
+// The device features, which stand first.
+pub const FEATURES_SIZE: usize = 16;
 
 const FEATURES_END: usize = VALUES_AT + FEATURES_SIZE;
 

@@ -9,7 +9,8 @@ ghost use Rattle.theory.specs.Logic.{_and_, one};
 ghost use Rattle.objects.specs.Objects.{objectsSize, objectOf, objectByte, free, slotFor, foundIn, count, allUpTo, withinLimits};
 use protocol::ObjectKind;
 
-const IDS: usize = 16;
+// One object record for each id that any setup allows: G + S is at most 16.
+pub const IDS: usize = 16;
 
 // What one object id holds.
 pub enum Slot {
@@ -174,7 +175,7 @@ fn clear(objects: &mut [ObjectRecord], i: usize)
 }
 
 // The records with one cleared: it lends its own array to `clear`, so that no caller has to lend one.
-pub fn cleared(mut objects: [ObjectRecord; 16], i: usize) -> [ObjectRecord; 16]
+pub fn cleared(mut objects: [ObjectRecord; IDS], i: usize) -> [ObjectRecord; IDS]
     requires { ⌜ i < 16 ⌝ }
     ensures { λ r. ⌜ r ≡ set objects i free ⌝ }
 {

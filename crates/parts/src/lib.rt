@@ -5,6 +5,7 @@ ghost use lib.Dec.{eqb};
 ghost use lib.ListN.{length};
 ghost use Rattle.theory.specs.Logic.{_and_};
 ghost use Rattle.parts.specs.List.{valueSize, stepAt, partsOf, whole, among};
+use inventory::HEADER_SIZE;
 
 // What a list holds: whole parts, or headers alone.
 pub enum ListForm {
@@ -43,11 +44,11 @@ fn step_at(form: ListForm, list: &[u8], at: usize) -> Step
     if list.len() <= at {
         return Step::End;
     }
-    if list.len() - at < 16 {
+    if list.len() - at < HEADER_SIZE {
         return Step::Cut;
     }
     let len = value_size(form, list, at);
-    let start = at + 16;
+    let start = at + HEADER_SIZE;
     if list.len() - start < len {
         return Step::Cut;
     }

@@ -142,6 +142,11 @@ pub fn kind_number(kind: ObjectKind) -> u8
     }
 }
 
+// The ten opcodes as a mask, and those in use on a fresh card, 0x0 and 0x1.
+pub const SUPPORTED_MASK: u64 = 0x3fc03;
+
+pub const FRESH_MASK: u64 = 3;
+
 // The rows of the opcodes 0x00 to 0x11: data is from LEAST to MOST bytes long, in steps of UNIT, which is 1 or 16 bytes;
 // no unit: not supported.
 const LEAST: [u16; 18] = [0, 8, 0, 0, 0, 0, 0, 0, 0, 0, 24, 24, 16, 8, 16, 16, 8, 1];

@@ -12,6 +12,12 @@ ghost use Rattle.reply.specs.Reply.{headOf, finalOf, concludeOf};
 use protocol::Answer;
 use reads::Body;
 
+// Status 2 bytes, qualifier 2, four zero bytes; the result follows.
+pub const HEAD_SIZE: usize = 8;
+
+// A number in a result: 4 bytes and 4 zero bytes.
+const NUMBER_SIZE: usize = 8;
+
 // What was answered in the end, and how many bytes were written.
 pub struct Written {
     pub answer: Answer,
@@ -26,7 +32,7 @@ fn settle(a: Answer, size: usize, room: usize) -> Answer
     if !protocol::is_done(a) {
         return a;
     }
-    if room - 8 < size {
+    if room - HEAD_SIZE < size {
         return Answer::ShortReply;
     }
     a
@@ -49,7 +55,7 @@ pub fn write_answer(a: Answer, reply: &mut [u8]) -> Written
     write_head(a, reply);
     Written {
         answer: a,
-        bytes: 8,
+        bytes: HEAD_SIZE,
     }
 }
 
@@ -64,8 +70,8 @@ pub fn write_mask(mask: u64, reply: &mut [u8]) -> Written
         return write_answer(last, reply);
     }
     write_head(last, reply);
-    wire::write(reply, 8, 8, mask);
-    let bytes = 8 + size;
+    wire::write(reply, HEAD_SIZE, 8, mask);
+    let bytes = HEAD_SIZE + size;
     Written {
         answer: last,
         bytes,
@@ -80,8 +86,8 @@ fn result_bytes(body: Body, queues: u8, list: &[u8]) -> usize
     match body {
         Body::Nothing => 0,
         Body::Kind(_) => 8,
-        Body::Number(_) => 8,
-        Body::Headers => 8 + capture::headers_bytes(queues),
+        Body::Number(_) => NUMBER_SIZE,
+        Body::Headers => NUMBER_SIZE + capture::headers_bytes(queues),
         Body::Selected => capture::asked_bytes(queues, list),
         Body::All => inventory::parts_size(queues) as usize,
     }
@@ -102,7 +108,7 @@ fn write_metadata_list(out: &mut [u8], queues: u8)
     ensures { λ _. ⌜ now (out .exit) ≡ put 0 (numberBytes (partCount queues) ++ headersOf queues) (now (out .entry)) ⌝ }
 {
     write_number(out, inventory::part_count(queues));
-    capture::write_headers(&mut out[8..], queues);
+    capture::write_headers(&mut out[NUMBER_SIZE..], queues);
 }
 
 // The result, at the front of the lent tail.
@@ -138,8 +144,8 @@ pub fn write_reading(
         return write_answer(last, reply);
     }
     write_head(last, reply);
-    write_result(body, queues, list, values, &mut reply[8..]);
-    let bytes = 8 + size;
+    write_result(body, queues, list, values, &mut reply[HEAD_SIZE..]);
+    let bytes = HEAD_SIZE + size;
     Written {
         answer: last,
         bytes,

@@ -8,9 +8,13 @@ ghost use Rattle.theory.specs.Bytes.{same};
 ghost use Rattle.inventory.specs.Inventory.{rowAt, deviceFeatures, placeOf, onPlace};
 ghost use Rattle.parts.specs.List.{partsOf, partWith};
 ghost use Rattle.rules.specs.Rules.{known, obeys, every, repeated, causeOf, isAccepted, askedOf};
+use inventory::DEVICE_FEATURES;
 use inventory::Place;
 use parts::ListForm;
 use parts::Step;
+
+// A part of this type or above is never skipped.
+const NEVER_SKIPPED: u16 = 0x600;
 
 // A rule of one part.
 pub enum Rule {
@@ -53,7 +57,7 @@ fn is_known_or_skipped(queues: u8, t: u16, flags: u8, selector: u64) -> bool
     if flags % 2 != 1 {
         return false;
     }
-    t < 0x600
+    t < NEVER_SKIPPED
 }
 
 // Whether a value of n bytes is as long as the table says, where the member has got the part.
@@ -70,7 +74,7 @@ fn is_length_right(queues: u8, t: u16, selector: u64, n: usize) -> bool
 fn is_features(t: u16, value: &[u8], features: &[u8]) -> bool
     ensures { λ r. ⌜ r ≡ not (eqb t deviceFeatures) or same (now (value .entry)) (now (features .entry)) ⌝ }
 {
-    if t != 0x100 {
+    if t != DEVICE_FEATURES {
         return true;
     }
     wire::equal(value, features)
