@@ -6,7 +6,7 @@ use Prim.Native.Nat.{ℕ, zero, suc, _+_, _*_, _≤_, _<_}
 use native.Mathlib.Nat.{add-zero, add-assoc}
 use native.Mathlib.Omega.{arith}
 use borrow.Author.Tests.{eqb-true, le-leb, lt-leb}
-use lib.Dec.{leb, eqb}
+use lib.Dec.{T, leb, ltb, eqb, ltb→lt}
 use lib.ListN.{length, getD}
 use Rattle.theory.specs.Logic.{_and_, _or_}
 use Rattle.theory.specs.Bytes.{part, put}
@@ -15,12 +15,12 @@ use Rattle.theory.proofs.Tests.{false-or, both}
 use Rattle.theory.proofs.Table.{every}
 use Rattle.theory.proofs.Sums.{length-items, sum-same}
 use Rattle.theory.proofs.Items.{Written, written-start, written-room, written-end, written-at}
-use Rattle.inventory.specs.Inventory.{Row, row, rows, rowAt, rowCount, offsetOf, valuesSize, partsSize}
+use Rattle.inventory.specs.Inventory.{Row, row, rows, rowAt, rowCount, offsetOf, valuesSize}
 use Rattle.inventory.specs.Header.{headerOf, headerSize}
 use Rattle.inventory.proofs.Columns.{selectors, selector-at, size-at}
 use Rattle.inventory.proofs.Rules.{table, every-row, row-within, offset-next}
-use Rattle.capture.specs.Capture.{partAt, asks, partItem, partsWritten, captureOf}
-use Rattle.capture.specs.Runs.{RowsAlike, runOf, Wrote}
+use Rattle.capture.specs.Capture.{partAt, asks, partItem, partsWritten, captureOf, CaptureFits}
+use Rattle.capture.specs.Runs.{RowsAlike, RunFits, runOf, Wrote}
 use Rattle.capture.proofs.Sizes.{part-length, capture-length}
 use Rattle.capture.proofs.Writes.{row-small, wrote-next}
 
@@ -148,30 +148,34 @@ runs-are (suc (suc (suc zero))) v h = simp append-assoc
 runs-are (suc (suc (suc (suc zero)))) v h = simp append-assoc
 runs-are (suc (suc (suc (suc (suc q))))) v h = absurd (omega arith)
 
--- the runs one after the other: out₀ is the buffer before them, and it has room for all
-pub record Ready (q : ℕ) (v out₀ : List ℕ) : Type 0 where
-  pub few : q < 5
-  pub long : length v ≡ valuesSize
-  pub room : partsSize q ≤ length out₀
-
--- k runs are written, and the next goes to `at`
+-- the runs one after the other: out₀ is the buffer before them, k runs are written, and the next goes to `at`
 pub record Upto (q : ℕ) (v out₀ : List ℕ) (k : ℕ) (out : List ℕ) (at : ℕ) : Type 0 where
+  pub fits : CaptureFits q v out₀
   pub written : Written (run q v) runCount 0 out₀ out at k
 
-module _ {q : ℕ} {v out₀ : List ℕ} (p : Ready q v out₀) where
-  pub upto-none : Upto q v out₀ 0 out₀ 0
-  upto-none =
+module _ {q : ℕ} {v out₀ : List ℕ} where
+  pub upto-none : CaptureFits q v out₀ → Upto q v out₀ 0 out₀ 0
+  upto-none p =
       let l = p .room in
-      record { written = written-start (run q v) runCount 0 out₀ (rw (runs-are q v (p .few), capture-length q v (p .few) (p .long)) (omega arith)) }
+      record {
+        fits = p;
+        written = written-start (run q v) runCount 0 out₀ (rw (runs-are q v (p .few), capture-length q v (p .few) (p .long)) (omega arith));
+      }
 
-  module _ (k : ℕ) {out : List ℕ} {at : ℕ} (w : Upto q v out₀ k out at) (h : k < runCount) where
-    pub next-fits : at + countOf q k * (headerSize + sizeOf k) ≤ length out
-    next-fits =
-        written-room _ _ _ _ _ _ _ (w .written) _ h
-        (run-length v (firstOf k) (countOf q k) (typeOf k) (sizeOf k) (startOf k) (run-alike q k (p .few) h) (p .long))
+  module _ {k : ℕ} {out : List ℕ} {at : ℕ} (w : Upto q v out₀ k out at) where
+    -- the next run: what it asks, and when it is written
+    module _ (h : T (ltb k runCount)) where
+      abbrev few : k < runCount
+      few = ltb→lt k runCount h
 
-    pub upto-next : {out′ : List ℕ} {next : ℕ} → Wrote (run q v k) at out out′ next → Upto q v out₀ (k + 1) out′ next
-    upto-next d = record { written = wrote-next _ _ _ _ _ _ _ _ _ _ (w .written) h refl d }
+      pub run-asks : RunFits v (firstOf k) (countOf q k) (typeOf k) (sizeOf k) (startOf k) at out
+      run-asks =
+          let p = w .fits in
+          let a = run-alike q k (p .few) few in
+          record { alike = a; long = p .long; room = written-room _ _ _ _ _ _ _ (w .written) _ few (run-length v _ _ _ _ _ a (p .long)) }
+
+      pub upto-next : {out′ : List ℕ} {next : ℕ} → Wrote (run q v k) at out out′ next → Upto q v out₀ (k + 1) out′ next
+      upto-next d = record { fits = w .fits; written = wrote-next _ _ _ _ _ _ _ _ _ _ (w .written) few refl d }
 
   pub upto-all : {out : List ℕ} {at : ℕ} → Upto q v out₀ runCount out at → out ≡ put 0 (captureOf q v) out₀
-  upto-all w = rw (← runs-are q v (p .few)) (written-end _ _ _ _ _ _ _ (w .written) (omega arith))
+  upto-all w = rw (← runs-are q v (w .fits .few)) (written-end _ _ _ _ _ _ _ (w .written) (omega arith))

@@ -1,11 +1,13 @@
 -- The headers and the parts of a member as bytes: document 01, "Metadata" and "Parts get". Assumes nothing.
 use mathlib.Core.Bool.{Bool}
 use mathlib.Core.List.{List, [], _++_}
-use Prim.Native.Nat.{ℕ}
+use mathlib.Core.Path.{_≡_}
+use Prim.Native.Nat.{ℕ, _≤_, _<_}
+use lib.ListN.{length}
 use Rattle.theory.specs.Logic.{if_then_else_, _and_}
 use Rattle.theory.specs.Bytes.{part}
 use Rattle.theory.specs.Items.{itemsFrom}
-use Rattle.inventory.specs.Inventory.{Row, rowAt, rowCount, offsetOf, present}
+use Rattle.inventory.specs.Inventory.{Row, rowAt, rowCount, offsetOf, present, valuesSize, partsSize}
 use Rattle.inventory.specs.Header.{headerOf}
 use Rattle.parts.specs.declared.ListForm.the-variants.{Headers}
 use Rattle.parts.specs.List.{partsOf, among}
@@ -40,3 +42,9 @@ partsWritten selection queues list values = itemsFrom (partItem selection queues
 -- a full capture
 abbrev pub captureOf : ℕ → List ℕ → List ℕ
 captureOf queues values = partsWritten All queues [] values
+
+-- what a full capture asks: the values of a member with so many queues, and room for all its parts
+pub record CaptureFits (queues : ℕ) (values out : List ℕ) : Type 0 where
+  pub few : queues < 5
+  pub long : length values ≡ valuesSize
+  pub room : partsSize queues ≤ length out

@@ -5,10 +5,10 @@ ghost use Prim.Native.Nat.{ℕ, _+_, _*_, _≤_, _<_};
 ghost use lib.ListN.{length};
 ghost use Rattle.theory.specs.Logic.{if_then_else_};
 ghost use Rattle.theory.specs.Bytes.{part, put};
-ghost use Rattle.inventory.specs.Inventory.{row, valuesSize, partsSize};
+ghost use Rattle.inventory.specs.Inventory.{row, valuesSize};
 ghost use Rattle.inventory.specs.Header.{headerSize, headerOf};
-ghost use Rattle.capture.specs.Capture.{Asked, headersOf, asks, partsWritten, captureOf};
-ghost use Rattle.capture.specs.Runs.{RowsAlike, runOf, Wrote};
+ghost use Rattle.capture.specs.Capture.{Asked, headersOf, asks, partsWritten, captureOf, CaptureFits};
+ghost use Rattle.capture.specs.Runs.{RunFits, runOf, Wrote};
 use inventory::DEVICE_FEATURES;
 use inventory::DEVICE_STATUS;
 use inventory::DRIVER_FEATURES;
@@ -88,7 +88,7 @@ fn write_run(
     size: u8,
     offset: u8,
 ) -> usize
-    requires { ⌜ RowsAlike first count «row_type» size offset × (length (now values) ≡ valuesSize) × (at + count * (headerSize + size) ≤ length (now out)) ⌝ }
+    requires { ⌜ RunFits (now values) first count «row_type» size offset at (now out) ⌝ }
     ensures { λ r. ⌜ Wrote (runOf (now (values .entry)) first count) at (now (out .entry)) (now (out .exit)) r ⌝ }
 {
     let selectors = inventory::SELECTORS;
@@ -106,7 +106,7 @@ fn write_run(
 // All parts of a member, at the front of what is lent: a run of rows for each type and size, which are then constants.
 // The numbers of a run: its first row, its rows, their type and size, and where the first value stands.
 pub fn write_all(out: &mut [u8], values: &[u8], queues: u8)
-    requires { ⌜ (queues < 5) × (length (now values) ≡ valuesSize) × (partsSize queues ≤ length (now out)) ⌝ }
+    requires { ⌜ CaptureFits queues (now values) (now out) ⌝ }
     ensures { λ _. ⌜ now (out .exit) ≡ put 0 (captureOf queues (now (values .entry))) (now (out .entry)) ⌝ }
 {
     let n = queues as usize;

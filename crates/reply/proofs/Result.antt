@@ -10,7 +10,7 @@ use Rattle.theory.specs.Bytes.{put}
 use Rattle.theory.proofs.Bytes.{put-nil, put-append}
 use Rattle.wire.specs.Le.{bytes}
 use Rattle.inventory.specs.Inventory.{partCount, partsSize, valuesSize}
-use Rattle.capture.specs.Capture.{Asked, headersOf, partsWritten, captureOf}
+use Rattle.capture.specs.Capture.{Asked, headersOf, partsWritten, captureOf, CaptureFits}
 use Rattle.capture.proofs.Sizes.{capture-length, headers-length}
 use Rattle.protocol.specs.declared.ObjectKind.{ObjectKind}
 use Rattle.protocol.specs.declared.ObjectKind.the-variants.{Get, Set}
@@ -121,6 +121,6 @@ module _ (q : ℕ) (list v : List ℕ) (b : Body) (l : List ℕ) (fits : length 
   unfolding resultOf
   fits-selected e = rw e at fits
 
-  pub fits-all : b ≡ body.All → q < 5 → length v ≡ valuesSize → partsSize q ≤ length l
+  pub fits-all : b ≡ body.All → q < 5 → length v ≡ valuesSize → CaptureFits q v l
   unfolding resultOf
-  fits-all e k h = rw (e, capture-length q v k h) at fits
+  fits-all e k h = record { few = k; long = h; room = rw (e, capture-length q v k h) at fits }

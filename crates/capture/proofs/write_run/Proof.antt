@@ -16,24 +16,24 @@ abbrev μ-loop : tie.MeasureT-loop
 μ-loop out₀ at values first count row-type size offset selectors end₀ from₀ i₀ out end from i = count - i
 
 loop-holds : tie.Need-loop-holds Inv-loop μ-loop
-loop-holds c = let p = c .before .before .pre in run-start _ _ _ _ _ _ (p .0) (p .1) _ _ (p .2)
+loop-holds c = let p = c .before .before .pre in run-start _ _ _ _ _ _ (p .alike) (p .long) _ _ (p .room)
 
 write-part-requires : tie.Need-write-part-requires Inv-loop μ-loop
 write-part-requires c κs =
     let p = c .before .before .before .before .before .pre in
     let w = c .before .before .loop .inv in
     let h = c .before .loop-test .taken in
-    let l = run-inside _ _ _ _ _ _ (p .0) (p .1) _ _ _ _ _ _ w h in (
-      run-small _ _ _ _ _ _ (p .0) (p .1) _ _ _ _ _ _ w h,
-      omega (arith, l, p .1),
-      run-room _ _ _ _ _ _ (p .0) (p .1) _ _ _ _ _ _ w h,
+    let l = run-inside _ _ _ _ _ _ (p .alike) (p .long) _ _ _ _ _ _ w h in (
+      run-small _ _ _ _ _ _ (p .alike) (p .long) _ _ _ _ _ _ w h,
+      omega (arith, l, p .long),
+      run-room _ _ _ _ _ _ (p .alike) (p .long) _ _ _ _ _ _ w h,
     )
 
 add-from : tie.Need-add-from Inv-loop μ-loop
 add-from c =
     let at-test = c .before .before .before .before in
     let p = at-test .before .before .before .before .pre in
-    let l = run-inside _ _ _ _ _ _ (p .0) (p .1) _ _ _ _ _ _ (at-test .before .loop .inv) (at-test .loop-test .taken) in
+    let l = run-inside _ _ _ _ _ _ (p .alike) (p .long) _ _ _ _ _ _ (at-test .before .loop .inv) (at-test .loop-test .taken) in
     omega arith
 
 loop-again : tie.Need-loop-again Inv-loop μ-loop
@@ -41,7 +41,7 @@ unfolding rows
 loop-again c =
     let at-test = c .before .before .before .before in
     let p = at-test .before .before .before .before .pre in
-    run-on _ _ _ _ _ _ (p .0) (p .1) _ _ _ _ _ _ (at-test .before .loop .inv) (at-test .loop-test .taken) _ _ (c .before .before .write-part .ensures)
+    run-on _ _ _ _ _ _ (p .alike) (p .long) _ _ _ _ _ _ (at-test .before .loop .inv) (at-test .loop-test .taken) _ _ (c .before .before .write-part .ensures)
 
 pub write-run-spec : {M : Type 1} → statement M
 write-run-spec =

@@ -10,6 +10,6 @@ write-result-spec =
     (tie.spec (λ c. search needs) (λ c. search needs) (λ c κs. search needs) (λ c. search needs)
     (λ c κs. search (needs, fits-kind)) (λ c. search needs) (λ c κs. search (needs, fits-number)) (λ c. search needs)
     (λ c κs. search (needs, fits-headers)) (λ c. search needs) (λ c κs. (search needs, search (needs, fits-selected))) (λ c. search needs)
-    (λ c κs. (search needs, search needs, search (needs, fits-all))) (λ c. search (result-nothing)) (λ c. search needs) (λ c. search (result-kind))
+    (λ c κs. search (needs, fits-all)) (λ c. search (result-nothing)) (λ c. search needs) (λ c. search (result-kind))
     (λ c. search needs) (λ c. search (result-number)) (λ c. search needs) (λ c. search (result-headers)) (λ c. search needs)
     (λ c. search (result-selected)) (λ c. search needs) (λ c. search (result-all)))
