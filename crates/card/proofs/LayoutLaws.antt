@@ -36,6 +36,9 @@ cut r = length-part-le 0 recordSize r
 pub has-record : (c : List ℕ) (m : ℕ) → length c ≡ cardSize (setupOf c .members) → 1 ≤ m → m ≤ setupOf c .members → HasRecord c m
 has-record c m e l h = record { low = l; high = omega arith }
 
+pub has-head : (c : List ℕ) (m : ℕ) → HasRecord c m → headSize ≤ length c
+has-head c m h = omega (arith, h .high)
+
 pub record-long : (c : List ℕ) (m : ℕ) → HasRecord c m → length (recordIn c m) ≡ recordSize
 unfolding recordIn
 record-long c m h = length-part (recordAt m) recordSize c (h .high)

@@ -20,6 +20,14 @@ pub struct Setup {
 }
 
 // Header: N, Q, G, S 1 byte each, device features 16, list in use 8; then a record for each member.
+const MEMBERS_AT: usize = 0;
+
+const QUEUES_AT: usize = 1;
+
+const GETS_AT: usize = 2;
+
+const SETS_AT: usize = 3;
+
 pub const FEATURES_AT: usize = 4;
 
 pub const IN_USE_AT: usize = 20;
@@ -58,10 +66,10 @@ pub fn setup_of(card: &[u8]) -> Setup
     let mut features = [0u8; FEATURES_SIZE];
     wire::copy(&mut features, 0, &card[FEATURES_AT..IN_USE_AT]);
     Setup {
-        members: card[0],
-        queues: card[1],
-        gets: card[2],
-        sets: card[3],
+        members: card[MEMBERS_AT],
+        queues: card[QUEUES_AT],
+        gets: card[GETS_AT],
+        sets: card[SETS_AT],
         features,
     }
 }
@@ -89,7 +97,7 @@ pub fn is_member(card: &[u8], m: u64) -> bool
     if m < 1 {
         return false;
     }
-    m <= wide(card[0])
+    m <= wide(card[MEMBERS_AT])
 }
 
 // The place of member m's record.
@@ -153,7 +161,12 @@ fn is_setup_sound(card: &[u8]) -> bool
     requires { ⌜ headSize ≤ length (now card) ⌝ }
     ensures { λ r. ⌜ r ≡ soundSetup (setupOf (now (card .entry))) ⌝ }
 {
-    in_numbers(wide(card[0]), wide(card[1]), wide(card[2]), wide(card[3]))
+    in_numbers(
+        wide(card[MEMBERS_AT]),
+        wide(card[QUEUES_AT]),
+        wide(card[GETS_AT]),
+        wide(card[SETS_AT]),
+    )
 }
 
 fn is_sound_at(card: &[u8], m: u64) -> bool
@@ -162,8 +175,8 @@ fn is_sound_at(card: &[u8], m: u64) -> bool
 {
     member::is_sound_record(
         record_of(card, m),
-        card[2],
-        card[3],
+        card[GETS_AT],
+        card[SETS_AT],
         &card[FEATURES_AT..IN_USE_AT],
     )
 }
@@ -173,7 +186,7 @@ fn are_members_sound(card: &[u8]) -> bool
     requires { ⌜ length (now card) ≡ cardSize (setupOf (now card) .members) ⌝ }
     ensures { λ r. ⌜ r ≡ soundUpTo (setupOf (now (card .entry))) (now (card .entry)) (setupOf (now (card .entry)) .members) ⌝ }
 {
-    let mut m = wide(card[0]);
+    let mut m = wide(card[MEMBERS_AT]);
     while 0 < m {
         if !is_sound_at(card, m) {
             return false;
@@ -189,7 +202,7 @@ fn is_length_right(card: &[u8]) -> bool
     if card.len() < HEAD_SIZE {
         return false;
     }
-    card.len() == HEAD_SIZE + RECORD_SIZE * (wide(card[0]) as usize)
+    card.len() == HEAD_SIZE + RECORD_SIZE * (wide(card[MEMBERS_AT]) as usize)
 }
 
 fn is_use_supported(card: &[u8]) -> bool

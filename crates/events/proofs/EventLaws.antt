@@ -6,7 +6,7 @@ use Prim.Native.Nat.{ℕ, _≤_}
 use borrow.Author.Needs.{needs}
 use borrow.Author.Tests.{not-true, not-false, eqb-true, eq-eqb, ne-eqb}
 use lib.Dec.{eqb}
-use lib.ListN.{length, getD, replicate}
+use lib.ListN.{length, replicate}
 use Rattle.theory.specs.Logic.{if_then_else_, _and_}
 use Rattle.theory.specs.Bytes.{put}
 use Rattle.theory.proofs.Tests.{both}
@@ -23,7 +23,6 @@ use Rattle.card.specs.declared.Setup.{Setup}
 use Rattle.card.specs.Layout.{headSize, cardSize, cardBytes, setupOf, isMember, HasRecord, memberIn, withMember, freshCard}
 use Rattle.card.specs.Sound.{inNumbers, soundSetup, isSound}
 use Rattle.events.specs.Events.{InBounds, setupWith, setUp, ifDone, storeIn}
-use Rattle.card.proofs.LayoutLaws.{queues-read}
 use Rattle.card.proofs.SoundLaws.{numbers-of, sound-of, sound-long, sound-has}
 
 -- ---- what a test that held says ----
@@ -93,19 +92,19 @@ card-reset c d s e f = rw (f, e)
 
 -- ---- the card store ----
 
-module _ (c : List ℕ) (m t s : ℕ) (value : List ℕ) (a : EventAnswer) (v : ℕ)
-    (e : a ≡ storable (getD c 1 0) t s (length value)) (f : v ≡ eventNumber a) where
+module _ (c : List ℕ) (m t s : ℕ) (value : List ℕ) (w : Setup) (a : EventAnswer) (v : ℕ)
+    (g : w ≡ setupOf c) (e : a ≡ storable (w .queues) t s (length value)) (f : v ≡ eventNumber a) where
   is-answer : a ≡ storable (setupOf c .queues) t s (length value)
-  is-answer = e ∙ rw (queues-read c)
+  is-answer = e ∙ rw g
 
   pub store-refused : (v ≡ 0 → ⊥) → (a, c) ≡ storeIn c m t s value
   unfolding storeIn ifDone if_then_else_
   store-refused h = rw (← is-answer, ne-eqb (eventNumber a) 0 (λ z. h (f ∙ z)))
 
-  pub stored-in : (x y : Member) (d : List ℕ) → v ≡ 0 → x ≡ memberIn c m → y ≡ withPart (getD c 1 0) x t s value → d ≡ withMember c m y
+  pub stored-in : (x y : Member) (d : List ℕ) → v ≡ 0 → x ≡ memberIn c m → y ≡ withPart (w .queues) x t s value → d ≡ withMember c m y
       → (a, d) ≡ storeIn c m t s value
   unfolding storeIn ifDone if_then_else_
-  stored-in x y d h p q r = rw (← is-answer, eq-eqb (eventNumber a) 0 (sym f ∙ h), r, q, p, queues-read c)
+  stored-in x y d h p q r = rw (← is-answer, eq-eqb (eventNumber a) 0 (sym f ∙ h), r, q, p, g)
 
 pub store-done : (c d : List ℕ) (m t s k : ℕ) (value : List ℕ) (a : EventAnswer) → k ≡ selectorOf t s → (a, d) ≡ storeIn c m t k value
     → (a, d) ≡ storeIn c m t (selectorOf t s) value

@@ -151,7 +151,8 @@ fn store_in(card: &mut [u8], m: u64, t: u16, selector: u64, value: &[u8]) -> Eve
     requires { ⌜ HasRecord (now card) m ⌝ }
     ensures { λ r. ⌜ (r, now (card .exit)) ≡ storeIn (now (card .entry)) m t selector (now (value .entry)) ⌝ }
 {
-    let queues = card[1];
+    let s = card::setup_of(card);
+    let queues = s.queues;
     let a = values::store_answer(queues, t, selector, value.len());
     if protocol::event_number(a) != 0 {
         return a;
