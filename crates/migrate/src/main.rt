@@ -41,19 +41,6 @@ fn tell(name: &[u8], request: Request, card: &mut [u8], reply: &mut [u8]) -> usi
     written
 }
 
-fn create(member: u64, id: u64, kind: u64) -> Request {
-    Request::new(transcript::CREATE, 1, member)
-        .object(id)
-        .number(8, 0)
-        .number(8, kind)
-}
-
-fn capture(member: u64) -> Request {
-    Request::new(transcript::PARTS_GET, 1, member)
-        .object(0)
-        .number(8, 1)
-}
-
 // The capture without the reply's head, as a list to set.
 fn restore(member: u64, reply: &[u8]) -> Request {
     let empty = Request::new(transcript::PARTS_SET, 1, member).object(1);
@@ -66,32 +53,29 @@ fn restore(member: u64, reply: &[u8]) -> Request {
 fn objects(card: &mut [u8], member: u64, reply: &mut [u8]) {
     tell(
         b"object create, get 0      ",
-        create(member, 0, transcript::GET),
+        Request::create(member, 0, transcript::GET),
         card,
         reply,
     );
     tell(
         b"object create, set 1      ",
-        create(member, 1, transcript::SET),
+        Request::create(member, 1, transcript::SET),
         card,
         reply,
     );
 }
 
-fn list_use() -> Request {
-    Request::new(transcript::LIST_USE, 1, 0).number(8, transcript::ALL)
-}
-
-fn mode_set(member: u64, flags: u8) -> Request {
-    Request::new(transcript::MODE_SET, 1, member).byte(flags)
-}
-
 fn prepare(card: &mut [u8], member: u64, reply: &mut [u8]) {
-    tell(b"list use, all ten         ", list_use(), card, reply);
+    tell(
+        b"list use, all ten         ",
+        Request::list_use(transcript::ALL),
+        card,
+        reply,
+    );
     objects(card, member, reply);
     tell(
         b"mode set, stop            ",
-        mode_set(member, 1),
+        Request::mode_set(member, 1),
         card,
         reply,
     );
@@ -128,7 +112,12 @@ fn setup(card: &mut [u8]) {
 }
 
 fn get_all(card: &mut [u8], member: u64, reply: &mut [u8]) {
-    tell(b"parts get, all            ", capture(member), card, reply);
+    tell(
+        b"parts get, all            ",
+        Request::get_all(member),
+        card,
+        reply,
+    );
 }
 
 // Member 2 of the first card, before the guest and with it at work.
@@ -154,7 +143,12 @@ fn second_place(card: &mut [u8], reply: &mut [u8], leaving: &[u8], arrived: &mut
         reply,
     );
     get_all(card, 3, arrived);
-    tell(b"mode set, resume          ", mode_set(3, 0), card, reply);
+    tell(
+        b"mode set, resume          ",
+        Request::mode_set(3, 0),
+        card,
+        reply,
+    );
 }
 
 // The first place again: a reset, and another guest.

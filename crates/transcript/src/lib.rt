@@ -91,6 +91,27 @@ impl Request {
         r
     }
 
+    // List use of a mask.
+    pub fn list_use(mask: u64) -> Request {
+        Request::new(LIST_USE, 1, 0).number(8, mask)
+    }
+
+    pub fn create(member: u64, id: u64, kind: u64) -> Request {
+        Request::new(CREATE, 1, member)
+            .object(id)
+            .number(8, 0)
+            .number(8, kind)
+    }
+
+    // All parts of a member, through its get object 0.
+    pub fn get_all(member: u64) -> Request {
+        Request::new(PARTS_GET, 1, member).object(0).number(8, 1)
+    }
+
+    pub fn mode_set(member: u64, flags: u8) -> Request {
+        Request::new(MODE_SET, 1, member).byte(flags)
+    }
+
     // Sends it to a card; answers the bytes written to the reply.
     pub fn send(self, card: &mut [u8], reply: &mut [u8]) -> usize {
         let bytes = self.bytes;

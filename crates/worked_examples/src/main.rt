@@ -1,6 +1,8 @@
 // The worked examples of document 01, B1 to B12 and the metadata list, through the exported library: each reply in
 // hexadecimal under its name. Setup: two members, one queue, one get and one set object each, features all zero.
+use transcript::GET;
 use transcript::Request;
+use transcript::SET;
 
 // Shows a reply under a name.
 fn show_reply(name: &[u8], reply: &[u8], written: usize) {
@@ -32,25 +34,15 @@ fn fresh(card: &mut [u8]) {
     kajurnat::kajurnat_setup(card, 2, 1, 1, 1, &[0u8; 16]);
 }
 
-fn list_use(mask: u64) -> Request {
-    Request::new(transcript::LIST_USE, 1, 0).number(8, mask)
-}
-
+// The examples create objects of member 1 alone.
 fn create(id: u64, kind: u64) -> Request {
-    Request::new(transcript::CREATE, 1, 1)
-        .object(id)
-        .number(8, 0)
-        .number(8, kind)
+    Request::create(1, id, kind)
 }
 
 fn metadata(what: u64) -> Request {
     Request::new(transcript::METADATA, 1, 1)
         .object(0)
         .number(8, what)
-}
-
-fn mode_set(member: u64, flags: u8) -> Request {
-    Request::new(transcript::MODE_SET, 1, member).byte(flags)
 }
 
 // Queue notify of queue 0, then the device status.
@@ -60,12 +52,6 @@ fn get_two() -> Request {
         .number(8, 0)
         .header(0x105, 0, 0)
         .header(0x103, 0, 0)
-}
-
-fn get_all() -> Request {
-    Request::new(transcript::PARTS_GET, 1, 1)
-        .object(0)
-        .number(8, 1)
 }
 
 // Driver features, given once.
@@ -99,26 +85,26 @@ fn before_use(card: &mut [u8]) {
 }
 
 fn members(card: &mut [u8]) {
-    show(b"B4 mode set, member 0", mode_set(0, 0), card);
-    show(b"B4 mode set, member 3", mode_set(3, 0), card);
-    show(b"B4 mode set, member 2", mode_set(2, 0), card);
+    show(b"B4 mode set, member 0", Request::mode_set(0, 0), card);
+    show(b"B4 mode set, member 3", Request::mode_set(3, 0), card);
+    show(b"B4 mode set, member 2", Request::mode_set(2, 0), card);
 }
 
 fn ids(card: &mut [u8]) {
-    show(b"B5 create get object 0", create(0, transcript::GET), card);
-    show(b"B5 again", create(0, transcript::GET), card);
-    show(b"B6 create get object 1", create(1, transcript::GET), card);
-    show(b"B6 create get object 2", create(2, transcript::GET), card);
+    show(b"B5 create get object 0", create(0, GET), card);
+    show(b"B5 again", create(0, GET), card);
+    show(b"B6 create get object 1", create(1, GET), card);
+    show(b"B6 create get object 2", create(2, GET), card);
 }
 
 fn objects(card: &mut [u8]) {
-    show(b"B6 create set object 1", create(1, transcript::SET), card);
+    show(b"B6 create set object 1", create(1, SET), card);
     show(
         b"B7 destroy object 0",
         Request::new(transcript::DESTROY, 1, 1).object(0),
         card,
     );
-    show(b"B7 create get object 0", create(0, transcript::GET), card);
+    show(b"B7 create get object 0", create(0, GET), card);
     show(b"B8 parts set, member running", set_once(), card);
 }
 
@@ -129,7 +115,7 @@ fn parts(card: &mut [u8]) {
 }
 
 fn stopped(card: &mut [u8]) {
-    send(mode_set(1, 1), card);
+    send(Request::mode_set(1, 1), card);
     show(b"B11 driver features twice", set_twice(), card);
     show(b"metadata list", metadata(2), card);
 }
@@ -138,15 +124,25 @@ fn stopped(card: &mut [u8]) {
 fn room(card: &mut [u8]) {
     let mut short = [0u8; 236];
     let mut long = [0u8; 237];
-    show_in(b"B12 get all, room for 236", get_all(), card, &mut short);
-    show_in(b"B12 get all, room for 237", get_all(), card, &mut long);
+    show_in(
+        b"B12 get all, room for 236",
+        Request::get_all(1),
+        card,
+        &mut short,
+    );
+    show_in(
+        b"B12 get all, room for 237",
+        Request::get_all(1),
+        card,
+        &mut long,
+    );
 }
 
 fn main() {
     let mut card = [0u8; 472];
     fresh(&mut card);
     before_use(&mut card);
-    send(list_use(transcript::ALL), &mut card);
+    send(Request::list_use(transcript::ALL), &mut card);
     members(&mut card);
     ids(&mut card);
     objects(&mut card);
