@@ -19,7 +19,7 @@ use Rattle.member.specs.Record.{recordSize, memberOf}
 use Rattle.member.specs.Sound.{soundRecord}
 use Rattle.card.specs.declared.Setup.{Setup}
 use Rattle.card.specs.Layout.{featuresAt, headSize, cardSize, setupOf, isMember, recordAt, HasRecord, recordIn, memberIn}
-use Rattle.card.specs.Sound.{inNumbers, soundSetup, soundAt, soundUpTo}
+use Rattle.card.specs.Sound.{inNumbers, soundSetup, soundPlace, soundAt, soundUpTo}
 use Rattle.card.proofs.LayoutLaws.{setup-read, members-read, queues-read, gets-read, sets-read, features-read}
 
 -- ---- the header ----
@@ -67,9 +67,14 @@ module _ (c : List ℕ) (m : ℕ) where
     unfolding memberIn
     member-loaded x q = q ∙ rw e
 
-    pub record-tested : (t : Bool) → HasRecord c m → t ≡ soundRecord (getD c 2 0) (getD c 3 0) (part featuresAt 16 c) r
-        → t ≡ soundAt (setupOf c) c m
-    record-tested t h q = q ∙ rw (e, gets-read c, sets-read c, features-read c (omega arith))
+-- a record from any place
+module _ (c : List ℕ) (at : ℕ) where
+  pub place-long : at + recordSize ≤ length c → length (part at (at + recordSize - at) c) ≡ recordSize
+  place-long h = rw add-sub-cancel-left (length-part at recordSize c h)
+
+  pub place-tested : (t : Bool) → headSize ≤ length c
+      → t ≡ soundRecord (getD c 2 0) (getD c 3 0) (part featuresAt 16 c) (part at (at + recordSize - at) c) → t ≡ soundPlace (setupOf c) c at
+  place-tested t h q = q ∙ rw (add-sub-cancel-left at recordSize, gets-read c, sets-read c, features-read c (omega arith))
 
 -- ---- the pass over the members ----
 
@@ -78,20 +83,42 @@ unfolding soundUpTo
 sound-step s c zero h = absurd (omega arith)
 sound-step s c (suc m) h = let e : suc m - 1 ≡ m = omega arith in rw e
 
--- members above m are sound
-pub record Checked (c : List ℕ) (m : ℕ) : Type 0 where
+-- members above m are sound, and the record of member m ends at `at`
+pub record Checked (c : List ℕ) (m at : ℕ) : Type 0 where
+  pub long : length c ≡ cardSize (setupOf c .members)
   pub high : m ≤ setupOf c .members
+  pub place : at ≡ headSize + recordSize * m
   pub whole : soundUpTo (setupOf c) c (setupOf c .members) ≡ soundUpTo (setupOf c) c m
 
-pub checked-start : (c : List ℕ) (m : ℕ) → m ≡ getD c 0 0 → Checked c m
-checked-start c m e = rw (is-members c m e) (record { high = omega arith; whole = refl })
+pub checked-start : (c : List ℕ) (m : ℕ) → length c ≡ cardSize (setupOf c .members) → m ≡ getD c 0 0 → Checked c m (length c)
+checked-start c m l e = rw (is-members c m e) (record { long = l; high = omega arith; place = l; whole = refl })
 
-module _ (c : List ℕ) (m : ℕ) (k : Checked c m) where
-  pub checked-stop : (t : Bool) → 0 < m → not t ≡ true → t ≡ soundAt (setupOf c) c m → false ≡ soundUpTo (setupOf c) c (setupOf c .members)
-  checked-stop t h n e = sym (k .whole ∙ sound-step _ c m h ∙ rw (sym e ∙ not-true t n) (false-and _))
+module _ (c : List ℕ) (m at : ℕ) (k : Checked c m at) where
+  module _ (h : 0 < m) where
+    pub step-back : recordSize ≤ at
+    step-back = let p = k .place in omega arith
 
-  pub checked-on : (t : Bool) → 0 < m → not t ≡ false → t ≡ soundAt (setupOf c) c m → Checked c (m - 1)
-  checked-on t h n e = record { high = let l = k .high in omega arith; whole = k .whole ∙ sound-step _ c m h ∙ rw (sym e ∙ not-false t n) (true-and _) }
+    pub step-head : headSize ≤ length c
+    step-head = let l = k .long in omega arith
+
+    pub step-fits : at - recordSize + recordSize ≤ length c
+    step-fits = let p = k .place in let l = k .long in let b = k .high in omega arith
+
+    module _ (t : Bool) (e : t ≡ soundPlace (setupOf c) c (at - recordSize)) where
+      is-member : t ≡ soundAt (setupOf c) c m
+      unfolding recordIn
+      is-member = let p : at - recordSize ≡ recordAt m = (let q = k .place in omega arith) in e ∙ rw p
+
+      pub checked-stop : not t ≡ true → false ≡ soundUpTo (setupOf c) c (setupOf c .members)
+      checked-stop n = sym (k .whole ∙ sound-step _ c m h ∙ rw (sym is-member ∙ not-true t n) (false-and _))
+
+      pub checked-on : not t ≡ false → Checked c (m - 1) (at - recordSize)
+      checked-on n = record {
+        long = k .long;
+        high = let l = k .high in omega arith;
+        place = let p = k .place in omega arith;
+        whole = k .whole ∙ sound-step _ c m h ∙ rw (sym is-member ∙ not-false t n) (true-and _);
+      }
 
   pub checked-end : m ≤ 0 → true ≡ soundUpTo (setupOf c) c (setupOf c .members)
   unfolding soundUpTo

@@ -5,7 +5,9 @@ use Prim.Native.Nat.{ℕ, zero, suc}
 use lib.Dec.{leb, eqb}
 use lib.ListN.{length}
 use Rattle.theory.specs.Logic.{_and_, within}
+use Rattle.theory.specs.Bytes.{part}
 use Rattle.protocol.specs.Opcodes.{supportedOnly}
+use Rattle.member.specs.Record.{recordSize}
 use Rattle.member.specs.Sound.{soundRecord}
 use Rattle.card.specs.declared.Setup.{Setup}
 use Rattle.card.specs.Layout.{cardSize, setupOf, inUseOf, recordIn}
@@ -17,7 +19,10 @@ inNumbers members queues gets sets = within 1 16 members and within 1 4 queues a
 unfoldable pub soundSetup : Setup → Bool
 soundSetup s = inNumbers (s .members) (s .queues) (s .gets) (s .sets)
 
--- member m's record is sound
+-- the record at a place is sound, and member m's record is
+abbrev pub soundPlace : Setup → List ℕ → ℕ → Bool
+soundPlace s c at = soundRecord (s .gets) (s .sets) (s .features) (part at recordSize c)
+
 abbrev pub soundAt : Setup → List ℕ → ℕ → Bool
 soundAt s c m = soundRecord (s .gets) (s .sets) (s .features) (recordIn c m)
 

@@ -4,8 +4,9 @@ ghost use Prim.Native.Nat.{_+_, _^_, _≤_, _<_};
 ghost use lib.Dec.{eqb};
 ghost use lib.ListN.{length};
 ghost use Rattle.protocol.specs.Opcodes.{supportedOnly};
+ghost use Rattle.member.specs.Record.{recordSize};
 ghost use Rattle.card.specs.Layout.{headSize, cardSize, cardBytes, setupOf, inUseOf, withInUse, isMember, recordAt, recordIn, HasRecord, memberIn, withMember};
-ghost use Rattle.card.specs.Sound.{inNumbers, soundSetup, soundAt, soundUpTo, isSound};
+ghost use Rattle.card.specs.Sound.{inNumbers, soundSetup, soundPlace, soundUpTo, isSound};
 use member::FEATURES_SIZE;
 use member::Member;
 use member::RECORD_SIZE;
@@ -169,26 +170,30 @@ fn is_setup_sound(card: &[u8]) -> bool
     )
 }
 
-fn is_sound_at(card: &[u8], m: u64) -> bool
-    requires { ⌜ HasRecord (now card) m ⌝ }
-    ensures { λ r. ⌜ r ≡ soundAt (setupOf (now (card .entry))) (now (card .entry)) m ⌝ }
+// Whether the record at a place is sound.
+fn is_sound_at(card: &[u8], at: usize) -> bool
+    requires { ⌜ (headSize ≤ length (now card)) × (at + recordSize ≤ length (now card)) ⌝ }
+    ensures { λ r. ⌜ r ≡ soundPlace (setupOf (now (card .entry))) (now (card .entry)) at ⌝ }
 {
     member::is_sound_record(
-        record_of(card, m),
+        &card[at..at + RECORD_SIZE],
         card[GETS_AT],
         card[SETS_AT],
         &card[FEATURES_AT..IN_USE_AT],
     )
 }
 
-// One pass over the members, the last one first.
+// One pass over the members, the last one first: it steps from record to record, which is cheaper than to work out the
+// place of each.
 fn are_members_sound(card: &[u8]) -> bool
     requires { ⌜ length (now card) ≡ cardSize (setupOf (now card) .members) ⌝ }
     ensures { λ r. ⌜ r ≡ soundUpTo (setupOf (now (card .entry))) (now (card .entry)) (setupOf (now (card .entry)) .members) ⌝ }
 {
     let mut m = wide(card[MEMBERS_AT]);
+    let mut at = card.len();
     while 0 < m {
-        if !is_sound_at(card, m) {
+        at -= RECORD_SIZE;
+        if !is_sound_at(card, at) {
             return false;
         }
         m -= 1;
