@@ -4,6 +4,7 @@
 
 # A guest moves from one card to another, and nothing of it stays behind. The first run proves the crates, in minutes.
 run:
+	@test -x target/bin/migrate || echo "The first run proves the crates: three to five minutes." >&2
 	@rt check migrate >/dev/null || { rt check migrate; exit 1; }
 	@./target/bin/migrate
 
