@@ -63,21 +63,21 @@ fn step_at(form: ListForm, list: &[u8], at: usize) -> Step
 }
 
 // The reader of a list: the list, and a position in it.
-pub struct PartReader<'a> {
-    pub list: &'a [u8],
-    pub at: usize,
+struct PartReader<'a> {
+    list: &'a [u8],
+    at: usize,
 }
 
 impl<'a> PartReader<'a> {
     // A reader at the start of a list.
-    pub fn new(list: &'a [u8]) -> Self
+    fn new(list: &'a [u8]) -> Self
         ensures { λ r. ⌜ (r .list ≡ list .entry) × (r .at ≡ 0) ⌝ }
     {
         Self { list, at: 0 }
     }
 
     // The reader, moved to another position.
-    pub fn moved(self, at: usize) -> Self
+    fn moved(self, at: usize) -> Self
         ensures { λ r. ⌜ (r .list ≡ self .entry .list) × (r .at ≡ at) ⌝ }
     {
         Self {
@@ -87,7 +87,7 @@ impl<'a> PartReader<'a> {
     }
 
     // What stands at the reader's position.
-    pub fn next(self, form: ListForm) -> Step
+    fn next(self, form: ListForm) -> Step
         ensures { λ r. ⌜ r ≡ stepAt form (now (self .entry .list)) (self .entry .at) ⌝ }
     {
         step_at(form, self.list, self.at)
@@ -96,7 +96,7 @@ impl<'a> PartReader<'a> {
 
 // What stands at a position, through a reader.
 pub fn next_part(form: ListForm, list: &[u8], at: usize) -> Step
-    ensures { λ s. ⌜ s ≡ stepAt form (now (list .entry)) at ⌝ }
+    ensures { λ r. ⌜ r ≡ stepAt form (now (list .entry)) at ⌝ }
 {
     PartReader::new(list).moved(at).next(form)
 }

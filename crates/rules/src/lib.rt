@@ -37,7 +37,7 @@ pub enum Cause {
 // ---- the rules of one part ----
 
 // Whether a member with so many queues has got this part.
-pub fn is_known(queues: u8, t: u16, selector: u64) -> bool
+fn is_known(queues: u8, t: u16, selector: u64) -> bool
     ensures { λ r. ⌜ r ≡ known queues t selector ⌝ }
 {
     if let Place::At(_) = inventory::place_of(queues, t, selector) {
@@ -101,7 +101,7 @@ fn obeys(
 }
 
 // Whether every part obeys a rule.
-pub fn every_obeys(rule: Rule, form: ListForm, list: &[u8], queues: u8, features: &[u8]) -> bool
+fn every_obeys(rule: Rule, form: ListForm, list: &[u8], queues: u8, features: &[u8]) -> bool
     ensures { λ r. ⌜ r ≡ every (obeys rule queues (now (features .entry))) (partsOf form (now (list .entry))) ⌝ }
 {
     let mut at = 0;
@@ -135,7 +135,7 @@ pub fn every_obeys(rule: Rule, form: ListForm, list: &[u8], queues: u8, features
 // ---- the rules of a list ----
 
 // Whether a known part is named twice.
-pub fn repeats(form: ListForm, list: &[u8], queues: u8) -> bool
+fn repeats(form: ListForm, list: &[u8], queues: u8) -> bool
     ensures { λ r. ⌜ r ≡ repeated queues (partsOf form (now (list .entry))) ⌝ }
 {
     let mut at = 0;

@@ -5,7 +5,7 @@ use libc::STDOUT_FILENO;
 // Opcodes, the mask of all ten, and the kinds of objects, as numbers of a request.
 pub const LIST_QUERY: u64 = 0x00;
 
-pub const LIST_USE: u64 = 0x01;
+const LIST_USE: u64 = 0x01;
 
 pub const CREATE: u64 = 0x0a;
 
@@ -17,7 +17,7 @@ pub const PARTS_GET: u64 = 0x0f;
 
 pub const PARTS_SET: u64 = 0x10;
 
-pub const MODE_SET: u64 = 0x11;
+const MODE_SET: u64 = 0x11;
 
 pub const ALL: u64 = 0x3fc03;
 
@@ -46,7 +46,7 @@ impl Request {
     }
 
     // One byte more, where there is room.
-    pub fn byte(mut self, b: u8) -> Request {
+    fn byte(mut self, b: u8) -> Request {
         let at = self.len;
         if at < 512 {
             self.bytes[at] = b;
