@@ -10,7 +10,7 @@ use Rattle.inventory.specs.Inventory.{valuesSize}
 use Rattle.member.specs.Record.{recordSize, memberOf}
 use Rattle.card.specs.Layout.{headSize, setupOf, isMember, HasRecord, recordIn, memberIn}
 use Rattle.card.specs.Sound.{isSound}
-use Rattle.card.proofs.ReadLaws.{record-long}
+use Rattle.card.proofs.ReadLaws.{lent-long}
 use Rattle.card.proofs.SoundLaws.{sound-of, sound-long, sound-has, sound-member-in}
 
 module _ (c : List ℕ) (s : isSound c ≡ true) where
@@ -29,7 +29,7 @@ module _ (c : List ℕ) (s : isSound c ≡ true) where
   -- the record of a member, and the values in it
   module _ (m : ℕ) (h : isMember c m ≡ true) (r : List ℕ) (e : r ≡ recordIn c m) where
     pub record-sized : length r ≡ recordSize
-    record-sized = record-long c m r e (record-there m h)
+    record-sized = lent-long c m r e (record-there m h)
 
     pub values-long : (v : List ℕ) → v ≡ memberOf r .values → length v ≡ valuesSize
     unfolding memberIn

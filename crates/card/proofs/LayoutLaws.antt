@@ -2,7 +2,7 @@
 -- never the layout. Assumes nothing.
 use mathlib.Core.Path.{_≡_, ap, sym, _∙_}
 use mathlib.Core.Logic.{_≢_}
-use mathlib.Core.List.{List, _∷_, _++_}
+use mathlib.Core.List.{List, _∷_, _++_, append-assoc}
 use Prim.Native.Nat.{ℕ, _+_, _*_, _-_, _^_, _≤_, _<_}
 use native.Mathlib.Omega.{arith}
 use lib.Dec.{leb}
@@ -21,7 +21,7 @@ use Rattle.member.specs.Member.{freshOf}
 use Rattle.member.proofs.Record.{Shaped, length-record, member-back}
 use Rattle.member.proofs.Sound.{sound-fresh}
 use Rattle.card.specs.declared.Setup.{Setup}
-use Rattle.card.specs.Layout.{featuresAt, inUseAt, headSize, cardSize, setupIn, setupOf, inUseOf, withInUse, recordAt, HasRecord, recordIn, withRecord, memberIn, withMember, freshCard}
+use Rattle.card.specs.Layout.{featuresAt, inUseAt, headSize, cardSize, setupIn, setupOf, inUseOf, withInUse, recordAt, HasRecord, recordIn, withRecord, memberIn, withMember, freshHead, freshCard}
 
 -- a record's bytes are as many as its place has
 uncut : (r : List ℕ) → length r ≡ recordSize → take recordSize r ≡ r
@@ -202,6 +202,10 @@ headOf s = s .members ∷ s .queues ∷ s .gets ∷ s .sets ∷ s .features
 unfoldable recordsOf : Setup → List ℕ
 recordsOf s = repeat (s .members) (recordOf (freshOf (s .features)))
 
+fresh-laid : (s : Setup) → freshCard s ≡ headOf s ++ (bytes 8 freshMask ++ recordsOf s)
+unfolding freshCard freshHead headOf recordsOf
+fresh-laid s = append-assoc (headOf s) (bytes 8 freshMask) (recordsOf s)
+
 module _ (s : Setup) (e : length (s .features) ≡ 16) where
   pub fresh-long : length (recordOf (freshOf (s .features))) ≡ recordSize
   fresh-long = length-record _ (sound-fresh 0 0 (s .features) e .shaped)
@@ -211,25 +215,26 @@ module _ (s : Setup) (e : length (s .features) ≡ 16) where
   head-long = rw e
 
   pub length-fresh : length (freshCard s) ≡ cardSize (s .members)
-  unfolding freshCard
+  unfolding headOf recordsOf
   length-fresh =
       let n = length-bytes 8 freshMask in
       let f = length-repeat (s .members) recordSize (recordOf (freshOf (s .features))) fresh-long in
-      rw (length-append, length-append) (omega arith)
+      rw (fresh-laid s, length-append, length-append) (omega arith)
 
   pub setup-fresh : setupOf (freshCard s) ≡ s
-  unfolding freshCard setupOf setupIn headOf recordsOf
-  setup-fresh = ap setupIn (setup-laid (headOf s) freshMask (recordsOf s) head-long)
+  unfolding setupOf setupIn headOf
+  setup-fresh = rw (fresh-laid s) (ap setupIn (setup-laid (headOf s) freshMask (recordsOf s) head-long))
 
   pub use-fresh : inUseOf (freshCard s) ≡ freshMask
-  unfolding freshCard inUseOf number headOf recordsOf
-  use-fresh = ap le (use-laid (headOf s) freshMask (recordsOf s) head-long) ∙ le-bytes 8 freshMask (omega arith)
+  unfolding inUseOf number
+  use-fresh = rw (fresh-laid s) (ap le (use-laid (headOf s) freshMask (recordsOf s) head-long) ∙ le-bytes 8 freshMask (omega arith))
 
   pub record-fresh : (m : ℕ) → 1 ≤ m → m ≤ s .members → recordIn (freshCard s) m ≡ recordOf (freshOf (s .features))
-  unfolding freshCard recordIn headOf recordsOf
+  unfolding recordIn recordsOf
   record-fresh m l h =
-      records-laid (headOf s) freshMask (recordsOf s) head-long (recordSize * (m - 1)) recordSize
-      ∙ part-repeat (s .members) recordSize (m - 1) (recordOf (freshOf (s .features))) fresh-long (omega arith)
+      rw (fresh-laid s)
+      (records-laid (headOf s) freshMask (recordsOf s) head-long (recordSize * (m - 1)) recordSize
+      ∙ part-repeat (s .members) recordSize (m - 1) (recordOf (freshOf (s .features))) fresh-long (omega arith))
 
 -- ---- a member ----
 

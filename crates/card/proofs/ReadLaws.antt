@@ -19,8 +19,8 @@ use Rattle.member.specs.Record.{recordSize, memberOf}
 use Rattle.member.specs.Sound.{soundRecord}
 use Rattle.card.specs.declared.Setup.{Setup}
 use Rattle.card.specs.Layout.{featuresAt, headSize, cardSize, setupOf, isMember, recordAt, HasRecord, recordIn, memberIn}
-use Rattle.card.specs.Sound.{inNumbers, soundSetup, soundPlace, soundAt, soundUpTo}
-use Rattle.card.proofs.LayoutLaws.{setup-read, members-read, queues-read, gets-read, sets-read, features-read}
+use Rattle.card.specs.Sound.{inNumbers, soundSetup, soundFor, soundUpTo}
+use Rattle.card.proofs.LayoutLaws.{record-long, setup-read, members-read, queues-read, gets-read, sets-read, features-read}
 
 -- ---- the header ----
 
@@ -59,9 +59,8 @@ module _ (c : List ℕ) (m : ℕ) where
   record-lent at e = rw (e, add-sub-cancel-left (recordAt m) recordSize)
 
   module _ (r : List ℕ) (e : r ≡ recordIn c m) where
-    pub record-long : HasRecord c m → length r ≡ recordSize
-    unfolding recordIn
-    record-long h = rw e (length-part (recordAt m) recordSize c (h .high))
+    pub lent-long : HasRecord c m → length r ≡ recordSize
+    lent-long h = rw e (record-long c m h)
 
     pub member-loaded : (x : Member) → x ≡ memberOf r → x ≡ memberIn c m
     unfolding memberIn
@@ -73,12 +72,12 @@ module _ (c : List ℕ) (at : ℕ) where
   place-long h = rw add-sub-cancel-left (length-part at recordSize c h)
 
   pub place-tested : (t : Bool) → headSize ≤ length c
-      → t ≡ soundRecord (getD c 2 0) (getD c 3 0) (part featuresAt 16 c) (part at (at + recordSize - at) c) → t ≡ soundPlace (setupOf c) c at
+      → t ≡ soundRecord (getD c 2 0) (getD c 3 0) (part featuresAt 16 c) (part at (at + recordSize - at) c) → t ≡ soundFor (setupOf c) (part at recordSize c)
   place-tested t h q = q ∙ rw (add-sub-cancel-left at recordSize, gets-read c, sets-read c, features-read c (omega arith))
 
 -- ---- the pass over the members ----
 
-sound-step : (s : Setup) (c : List ℕ) (m : ℕ) → 0 < m → soundUpTo s c m ≡ soundAt s c m and soundUpTo s c (m - 1)
+sound-step : (s : Setup) (c : List ℕ) (m : ℕ) → 0 < m → soundUpTo s c m ≡ soundFor s (recordIn c m) and soundUpTo s c (m - 1)
 unfolding soundUpTo
 sound-step s c zero h = absurd (omega arith)
 sound-step s c (suc m) h = let e : suc m - 1 ≡ m = omega arith in rw e
@@ -104,8 +103,8 @@ module _ (c : List ℕ) (m at : ℕ) (k : Checked c m at) where
     pub step-fits : at - recordSize + recordSize ≤ length c
     step-fits = let p = k .place in let l = k .long in let b = k .high in omega arith
 
-    module _ (t : Bool) (e : t ≡ soundPlace (setupOf c) c (at - recordSize)) where
-      is-member : t ≡ soundAt (setupOf c) c m
+    module _ (t : Bool) (e : t ≡ soundFor (setupOf c) (part (at - recordSize) recordSize c)) where
+      is-member : t ≡ soundFor (setupOf c) (recordIn c m)
       unfolding recordIn
       is-member = let p : at - recordSize ≡ recordAt m = (let q = k .place in omega arith) in e ∙ rw p
 

@@ -12,12 +12,11 @@ use Rattle.protocol.specs.Opcodes.{supportedOnly}
 use Rattle.protocol.proofs.Masks.{mask-fits, fresh-only}
 use Rattle.member.specs.declared.Member.{Member}
 use Rattle.member.specs.Record.{recordSize, recordOf}
-use Rattle.member.specs.Sound.{soundRecord}
 use Rattle.member.proofs.Record.{length-record}
 use Rattle.member.proofs.Sound.{SoundMember, sound-record, sound-back, sound-member, sound-fresh}
 use Rattle.card.specs.declared.Setup.{Setup}
 use Rattle.card.specs.Layout.{headSize, cardSize, setupOf, inUseOf, isMember, HasRecord, recordIn, withInUse, withRecord, memberIn, withMember, freshCard}
-use Rattle.card.specs.Sound.{inNumbers, soundSetup, soundUpTo, isSound}
+use Rattle.card.specs.Sound.{inNumbers, soundSetup, soundFor, soundUpTo, isSound}
 use Rattle.card.proofs.LayoutLaws.{has-record, record-long, record-back, length-with-record, setup-with-record, use-with-record, record-same, record-other, length-with-use, setup-with-use, record-with-use, use-same, length-fresh, setup-fresh, use-fresh, record-fresh}
 
 -- ---- the test, as facts, and back ----
@@ -52,22 +51,18 @@ numbers-sound s n =
     and-i _ _ (and-i _ _ (and-i _ _ (inside _ _ _ (n .someMembers) (n .fewMembers)) (inside _ _ _ (n .someQueues) (n .fewQueues)))
     (le-leb _ _ (n .fewGets))) (le-leb _ _ (n .fewSets))
 
--- member m's record is sound in a card with this setup
-abbrev pub SoundAt : Setup → List ℕ → Type 0
-SoundAt s r = soundRecord (s .gets) (s .sets) (s .features) r ≡ true
-
 pub record Sound (c : List ℕ) : Type 0 where
   pub long : length c ≡ cardSize (setupOf c .members)
   pub numbers : Numbers (setupOf c)
   pub supported : supportedOnly (inUseOf c) ≡ true
-  pub each : (m : ℕ) → 1 ≤ m → m ≤ setupOf c .members → SoundAt (setupOf c) (recordIn c m)
+  pub each : (m : ℕ) → 1 ≤ m → m ≤ setupOf c .members → soundFor (setupOf c) (recordIn c m) ≡ true
 
-up-to-sound : (s : Setup) (c : List ℕ) (n : ℕ) → ((m : ℕ) → 1 ≤ m → m ≤ n → SoundAt s (recordIn c m)) → soundUpTo s c n ≡ true
+up-to-sound : (s : Setup) (c : List ℕ) (n : ℕ) → ((m : ℕ) → 1 ≤ m → m ≤ n → soundFor s (recordIn c m) ≡ true) → soundUpTo s c n ≡ true
 unfolding soundUpTo
 up-to-sound s c zero h = refl
 up-to-sound s c (suc n) h = and-i _ _ (h (suc n) (omega arith) (omega arith)) (up-to-sound s c n (λ m l i. h m l (omega arith)))
 
-sound-up-to : (s : Setup) (c : List ℕ) (n : ℕ) → soundUpTo s c n ≡ true → (m : ℕ) → 1 ≤ m → m ≤ n → SoundAt s (recordIn c m)
+sound-up-to : (s : Setup) (c : List ℕ) (n : ℕ) → soundUpTo s c n ≡ true → (m : ℕ) → 1 ≤ m → m ≤ n → soundFor s (recordIn c m) ≡ true
 unfolding soundUpTo
 sound-up-to s c zero e m l h = absurd (omega arith)
 sound-up-to s c (suc n) e m l h = by-cases (eqb m (suc n))
@@ -100,7 +95,7 @@ module _ (c : List ℕ) (s : Sound c) where
   pub sound-has : (m : ℕ) → isMember c m ≡ true → HasRecord c m
   sound-has m e = has-record c m (s .long) (within-low _ _ m e) (within-high _ _ m e)
 
-  pub sound-at : (m : ℕ) → isMember c m ≡ true → SoundAt (setupOf c) (recordIn c m)
+  pub sound-at : (m : ℕ) → isMember c m ≡ true → soundFor (setupOf c) (recordIn c m) ≡ true
   sound-at m e = s .each m (within-low _ _ m e) (within-high _ _ m e)
 
   pub sound-member-in : (m : ℕ) → isMember c m ≡ true → SoundIn c (memberIn c m)
@@ -115,11 +110,11 @@ module _ (c : List ℕ) (s : Sound c) where
 -- ---- what keeps a card sound ----
 
 kept : (c d : List ℕ) → Sound c → length d ≡ length c → setupOf d ≡ setupOf c → supportedOnly (inUseOf d) ≡ true
-    → ((m : ℕ) → 1 ≤ m → m ≤ setupOf c .members → SoundAt (setupOf c) (recordIn d m)) → Sound d
+    → ((m : ℕ) → 1 ≤ m → m ≤ setupOf c .members → soundFor (setupOf c) (recordIn d m) ≡ true) → Sound d
 kept c d s n e u h = record { long = rw (n, e) (s .long); numbers = rw e (s .numbers); supported = u; each = rw e h }
 
 -- a sound record is put
-pub sound-with-record : (c : List ℕ) (m : ℕ) (r : List ℕ) → Sound c → 1 ≤ m → length r ≡ recordSize → SoundAt (setupOf c) r → Sound (withRecord c m r)
+pub sound-with-record : (c : List ℕ) (m : ℕ) (r : List ℕ) → Sound c → 1 ≤ m → length r ≡ recordSize → soundFor (setupOf c) r ≡ true → Sound (withRecord c m r)
 sound-with-record c m r s low n g = kept c _ s (length-with-record c m r) (setup-with-record c m r) (rw use-with-record (s .supported)) λ k l h.
     by-cases (eqb k m)
     (λ q. let i : m ≤ setupOf c .members = omega tests in rw (eqb-true k m q, record-same c m r (has-record c m (s .long) low i) n) g)

@@ -70,11 +70,8 @@ unfoldable pub withMember : List ℕ → ℕ → Member → List ℕ
 withMember c m x = withRecord c m (recordOf x)
 
 -- "Fresh, or after reset of the whole card: commands 0x0 and 0x1 in use, every member fresh"
-unfoldable pub freshCard : Setup → List ℕ
-freshCard s =
-    (s .members ∷ s .queues ∷ s .gets ∷ s .sets ∷ s .features)
-    ++ (bytes 8 freshMask ++ repeat (s .members) (recordOf (freshOf (s .features))))
-
--- its header alone
 unfoldable pub freshHead : Setup → List ℕ
 freshHead s = (s .members ∷ s .queues ∷ s .gets ∷ s .sets ∷ s .features) ++ bytes 8 freshMask
+
+unfoldable pub freshCard : Setup → List ℕ
+freshCard s = freshHead s ++ repeat (s .members) (recordOf (freshOf (s .features)))

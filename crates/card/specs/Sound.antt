@@ -5,9 +5,7 @@ use Prim.Native.Nat.{ℕ, zero, suc}
 use lib.Dec.{leb, eqb}
 use lib.ListN.{length}
 use Rattle.theory.specs.Logic.{_and_, within}
-use Rattle.theory.specs.Bytes.{part}
 use Rattle.protocol.specs.Opcodes.{supportedOnly}
-use Rattle.member.specs.Record.{recordSize}
 use Rattle.member.specs.Sound.{soundRecord}
 use Rattle.card.specs.declared.Setup.{Setup}
 use Rattle.card.specs.Layout.{cardSize, setupOf, inUseOf, recordIn}
@@ -19,17 +17,14 @@ inNumbers members queues gets sets = within 1 16 members and within 1 4 queues a
 unfoldable pub soundSetup : Setup → Bool
 soundSetup s = inNumbers (s .members) (s .queues) (s .gets) (s .sets)
 
--- the record at a place is sound, and member m's record is
-abbrev pub soundPlace : Setup → List ℕ → ℕ → Bool
-soundPlace s c at = soundRecord (s .gets) (s .sets) (s .features) (part at recordSize c)
-
-abbrev pub soundAt : Setup → List ℕ → ℕ → Bool
-soundAt s c m = soundRecord (s .gets) (s .sets) (s .features) (recordIn c m)
+-- a member's record is sound in a card with this setup
+abbrev pub soundFor : Setup → List ℕ → Bool
+soundFor s r = soundRecord (s .gets) (s .sets) (s .features) r
 
 -- members 1 to k
 unfoldable pub soundUpTo : Setup → List ℕ → ℕ → Bool
 soundUpTo s c zero = true
-soundUpTo s c (suc k) = soundAt s c (suc k) and soundUpTo s c k
+soundUpTo s c (suc k) = soundFor s (recordIn c (suc k)) and soundUpTo s c k
 
 -- "its setup is in these numbers, its list in use has supported bits only, and each member" is sound; and it is as long
 -- as its header and N records

@@ -3,10 +3,11 @@ ghost use mathlib.Core.Path.{_≡_};
 ghost use Prim.Native.Nat.{_+_, _^_, _≤_, _<_};
 ghost use lib.Dec.{eqb};
 ghost use lib.ListN.{length};
+ghost use Rattle.theory.specs.Bytes.{part};
 ghost use Rattle.protocol.specs.Opcodes.{supportedOnly};
 ghost use Rattle.member.specs.Record.{recordSize};
 ghost use Rattle.card.specs.Layout.{headSize, cardSize, cardBytes, setupOf, inUseOf, withInUse, isMember, recordAt, recordIn, HasRecord, memberIn, withMember};
-ghost use Rattle.card.specs.Sound.{inNumbers, soundSetup, soundPlace, soundUpTo, isSound};
+ghost use Rattle.card.specs.Sound.{inNumbers, soundSetup, soundFor, soundUpTo, isSound};
 use member::FEATURES_SIZE;
 use member::Member;
 use member::RECORD_SIZE;
@@ -173,7 +174,7 @@ fn is_setup_sound(card: &[u8]) -> bool
 // Whether the record at a place is sound.
 fn is_sound_at(card: &[u8], at: usize) -> bool
     requires { ⌜ (headSize ≤ length (now card)) × (at + recordSize ≤ length (now card)) ⌝ }
-    ensures { λ r. ⌜ r ≡ soundPlace (setupOf (now (card .entry))) (now (card .entry)) at ⌝ }
+    ensures { λ r. ⌜ r ≡ soundFor (setupOf (now (card .entry))) (part at recordSize (now (card .entry))) ⌝ }
 {
     member::is_sound_record(
         &card[at..at + RECORD_SIZE],

@@ -18,7 +18,7 @@ use Rattle.member.specs.Member.{freshOf}
 use Rattle.member.specs.Sound.{soundRecord}
 use Rattle.changes.specs.Changes.{limited, createOf, modifyOf, destroyOf, setPartsOf}
 use Rattle.reads.specs.Reads.{queryOf, throughGet, selectedOf}
-use Rattle.card.specs.Layout.{setupIn, setupOf, inUseOf, withInUse, recordIn, withRecord, memberIn, withMember, freshCard}
+use Rattle.card.specs.Layout.{setupIn, setupOf, inUseOf, withInUse, recordIn, withRecord, memberIn, withMember, freshHead, freshCard}
 use Rattle.card.specs.Sound.{inNumbers, soundSetup, soundUpTo, isSound}
 use Rattle.events.specs.Events.{setUp, resetMember, resetCard, ifDone, storeIn, store}
 use Rattle.frame.specs.Fields.{objectValid, flagsValid, kindValid, createIn, modifyIn, queryIn, destroyIn, metadataIn, getIn, setIn, modeIn, useIn, fieldsOf}
@@ -37,7 +37,7 @@ unfolding if_then_else_ unless_answer_then_ _and_ _or_ within one put repeat sam
     known knownOrSkipped lengthRight featuresSame asksKnown whole every among repeated causeIn askedIn storable stored applied
     headerItem headersOf partAt asks partItem partsWritten memberOf recordOf lookupOf withObject count allUpTo withinLimits
     freshOf soundRecord limited createOf modifyOf destroyOf setPartsOf queryOf throughGet selectedOf
-    setupIn setupOf inUseOf withInUse recordIn withRecord memberIn withMember freshCard inNumbers soundSetup soundUpTo isSound
+    setupIn setupOf inUseOf withInUse recordIn withRecord memberIn withMember freshHead freshCard inNumbers soundSetup soundUpTo isSound
     setUp resetMember resetCard ifDone storeIn store
     objectValid flagsValid kindValid createIn modifyIn queryIn destroyIn metadataIn getIn setIn modeIn useIn fieldsOf
     usable reaches framedOf askOf numberBytes resultOf headOf finalOf replyOf askIn perform conclude respond step names

@@ -1,6 +1,6 @@
 -- What setup writes: zeros, or a fresh card. Assumes nothing.
 use mathlib.Core.Path.{_≡_, refl, sym, _∙_}
-use mathlib.Core.List.{List, [], _∷_, _++_, append-assoc}
+use mathlib.Core.List.{List, [], _∷_, _++_}
 use Prim.Native.Nat.{ℕ, _+_, _*_, _-_, _≤_, _<_}
 use native.Mathlib.Nat.{sub-zero}
 use native.Mathlib.Omega.{arith}
@@ -42,10 +42,6 @@ head-written c d e f s n p q r =
     let k : 0 + length (h ++ s .features) ≡ inUseAt = omega arith in
     rw (r, q, p) (sym (put-append 0 (h ++ s .features) (bytes 8 freshMask) c ∙ rw (k, put-append 0 h (s .features) c)))
 
-head-and-records : (s : Setup) → freshHead s ++ repeat (s .members) (recordOf (freshOf (s .features))) ≡ freshCard s
-unfolding freshHead freshCard
-head-and-records s = append-assoc (s .members ∷ s .queues ∷ s .gets ∷ s .sets ∷ s .features) (bytes 8 freshMask) _
-
 head-long : (s : Setup) → length (s .features) ≡ 16 → 0 + length (freshHead s) ≡ headSize
 unfolding freshHead
 head-long s e = rw (length-append, length-bytes 8 freshMask) (omega arith)
@@ -86,8 +82,7 @@ module _ (x : Member) (c₀ c : List ℕ) (n m : ℕ) (w : Filled x c₀ c n m) 
 -- the header and the records are the whole card
 pub fresh-written : (s : Setup) (c₀ c₁ c₂ : List ℕ) (n : ℕ) → length (s .features) ≡ 16 → length c₀ ≡ cardSize (s .members) → n ≡ s .members
     → c₁ ≡ put 0 (freshHead s) c₀ → c₂ ≡ put headSize (repeat n (recordOf (freshOf (s .features)))) c₁ → c₂ ≡ freshCard s
+unfolding freshCard
 fresh-written s c₀ c₁ c₂ n e l k p q =
-    let r = repeat (s .members) (recordOf (freshOf (s .features))) in
-    let whole : freshHead s ++ r ≡ freshCard s = head-and-records s in
     let h : 0 + length (freshHead s) ≡ headSize = head-long s e in
-    q ∙ rw (p, k, ← h) (sym (put-append 0 (freshHead s) r c₀) ∙ rw whole (put-all (freshCard s) c₀ (length-fresh s e ∙ sym l)))
+    q ∙ rw (p, k, ← h) (sym (put-append 0 (freshHead s) _ c₀) ∙ put-all (freshCard s) c₀ (length-fresh s e ∙ sym l))

@@ -17,7 +17,7 @@ use parts::Step;
 const NEVER_SKIPPED: u16 = 0x600;
 
 // A rule of one part.
-pub enum Rule {
+enum Rule {
     KnownOrSkipped,
     LengthRight,
     FeaturesSame,
