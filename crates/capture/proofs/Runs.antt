@@ -9,7 +9,7 @@ use borrow.Author.Tests.{eqb-true, le-leb, lt-leb}
 use lib.Dec.{T, leb, ltb, eqb, ltb→lt}
 use lib.ListN.{length, getD}
 use Rattle.theory.specs.Logic.{_and_, _or_}
-use Rattle.theory.specs.Bytes.{part, put}
+use Rattle.theory.specs.Bytes.{bytesAt, put}
 use Rattle.theory.specs.Items.{itemsFrom}
 use Rattle.theory.proofs.Tests.{false-or, both}
 use Rattle.theory.proofs.Table.{every}
@@ -66,7 +66,7 @@ module _ (v : List ℕ) (first count type size offset : ℕ) (a : RowsAlike firs
     pub run-room : at + (headerSize + size) ≤ length out
     run-room = written-room item count b out₀ out at i (w .written) (headerSize + size) h (run-item i h)
 
-    next-item : item i ≡ headerOf (row type (getD selectors (first + i) 0) size) ++ part from size v
+    next-item : item i ≡ headerOf (row type (getD selectors (first + i) 0) size) ++ bytesAt from size v
     unfolding partAt
     next-item = rw (w .starts, ← a .typed i h, selector-at (first + i), ← a .sized i h)
 
@@ -74,7 +74,7 @@ module _ (v : List ℕ) (first count type size offset : ℕ) (a : RowsAlike firs
     next-starts = rw (w .starts, ← a .sized i h, ← add-assoc) (sym (offset-next (first + i) row-there))
 
     pub run-on : (out′ : List ℕ) (next : ℕ)
-        → Wrote (headerOf (row type (getD selectors (first + i) 0) size) ++ part from size v) at out out′ next
+        → Wrote (headerOf (row type (getD selectors (first + i) 0) size) ++ bytesAt from size v) at out out′ next
         → Running v first count b out₀ out′ next (from + size) (i + 1)
     run-on out′ next d =
         record { written = wrote-next item count b out₀ out out′ _ at next i (w .written) h next-item d; starts = next-starts }

@@ -9,7 +9,7 @@ use lib.Dec.{eqb}
 use lib.ListN.{length, length-append}
 use Rattle.theory.specs.Logic.{if_then_else_}
 use Rattle.theory.proofs.Tests.{by-cases}
-use Rattle.theory.proofs.Bytes.{length-part}
+use Rattle.theory.proofs.Bytes.{length-bytesAt}
 use Rattle.theory.proofs.Sums.{sumFrom, length-items}
 use Rattle.inventory.specs.Inventory.{rowAt, rowCount, present, offsetOf, valuesSize, partCount, partsSize}
 use Rattle.inventory.specs.Header.{headerOf, headerSize}
@@ -22,7 +22,7 @@ pub part-length : (v : List ℕ) (i : ℕ) → i < rowCount → length v ≡ val
 unfolding partAt
 part-length v i h e =
     let w = row-within i h in
-    rw (length-append, length-header, length-part (offsetOf i) (rowAt i .size) v (omega arith))
+    rw (length-append, length-header, length-bytesAt (offsetOf i) (rowAt i .size) v (omega arith))
 
 -- an item that is written if a test holds
 abbrev chosenSize : Bool → ℕ → ℕ

@@ -11,8 +11,8 @@ use mir.Val.{Fits}
 use lib.Dec.{leb}
 use lib.ListN.{length, getD, take, drop, length-append}
 use Rattle.theory.specs.Logic.{if_then_else_}
-use Rattle.theory.specs.Bytes.{part, put}
-use Rattle.theory.proofs.Bytes.{put-append, part-put-as, length-part}
+use Rattle.theory.specs.Bytes.{bytesAt, put}
+use Rattle.theory.proofs.Bytes.{put-append, bytesAt-put-as, length-bytesAt}
 use Rattle.theory.proofs.Items.{Written, written-room, written-next, written-skip}
 use Rattle.inventory.specs.Inventory.{Row, row, rowAt, rowCount, present, valuesSize}
 use Rattle.inventory.specs.Header.{headerOf, headerSize}
@@ -26,20 +26,20 @@ use Rattle.capture.proofs.Sizes.{itemSize, size-most}
 
 -- the value in the array that it goes through, and the header, then the value
 module _ (from n : ℕ) (v : List ℕ) (h : from + n ≤ length v) (value z : List ℕ) (e : value ≡ put 0 (take (from + n - from) (drop from v)) z) where
-  value-is : value ≡ put 0 (part from n v) z
+  value-is : value ≡ put 0 (bytesAt from n v) z
   value-is = e ∙ rw add-sub-cancel-left
 
-  value-back : n ≤ length z → take (n - 0) (drop 0 value) ≡ part from n v
-  value-back l = rw (value-is, sub-zero) (part-put-as 0 n (part from n v) z (length-part from n v h) (omega arith))
+  value-back : n ≤ length z → take (n - 0) (drop 0 value) ≡ bytesAt from n v
+  value-back l = rw (value-is, sub-zero) (bytesAt-put-as 0 n (bytesAt from n v) z (length-bytesAt from n v h) (omega arith))
 
   pub wrote-part : (at t s : ℕ) (out out₁ out₂ : List ℕ) → n ≤ length z
       → out₁ ≡ put at (headerOf (row t s n)) out → out₂ ≡ put (at + headerSize) (take (n - 0) (drop 0 value)) out₁
-      → Wrote (headerOf (row t s n) ++ part from n v) at out out₂ (at + headerSize + n)
+      → Wrote (headerOf (row t s n) ++ bytesAt from n v) at out out₂ (at + headerSize + n)
   wrote-part at t s out out₁ out₂ l p q =
       let k = length-header (row t s n) in
       record {
-        buffer = q ∙ rw (value-back l, p, ← k) (sym (put-append at (headerOf (row t s n)) (part from n v) out));
-        place = rw (length-append, k, length-part from n v h) (omega arith);
+        buffer = q ∙ rw (value-back l, p, ← k) (sym (put-append at (headerOf (row t s n)) (bytesAt from n v) out));
+        place = rw (length-append, k, length-bytesAt from n v h) (omega arith);
       }
 
 -- ---- a turn of a loop over the tables ----
@@ -94,18 +94,18 @@ module _ (q : ℕ) (out₀ out : List ℕ) (at i : ℕ) (w : Written (headerItem
 module _ (selection : Selection) (q : ℕ) (list v out₀ out : List ℕ) (at i : ℕ)
     (w : Written (partItem selection q list v) rowCount 0 out₀ out at i) (h : i < rowCount)
     (b : Bool) (told : b ≡ asks selection q list (row (getD types i 0) (getD selectors i 0) 0)) where
-  part-item : b ≡ true → partItem selection q list v i ≡ headerOf (entry i) ++ part (getD offsets i 0) (getD sizes i 0) v
+  part-item : b ≡ true → partItem selection q list v i ≡ headerOf (entry i) ++ bytesAt (getD offsets i 0) (getD sizes i 0) v
   unfolding partItem partAt if_then_else_
   part-item y = rw (← chosen-row selection q list i, ← told, y, row-at i, offset-at i h, size-at i)
 
   pub parts-room : length v ≡ valuesSize → b ≡ true → at + (headerSize + getD sizes i 0) ≤ length out
   parts-room e y =
-      let n : length (headerOf (entry i) ++ part (getD offsets i 0) (getD sizes i 0) v) ≡ headerSize + getD sizes i 0 =
-      rw (length-append, length-header, length-part _ _ v (row-inside i v h e)) in
+      let n : length (headerOf (entry i) ++ bytesAt (getD offsets i 0) (getD sizes i 0) v) ≡ headerSize + getD sizes i 0 =
+      rw (length-append, length-header, length-bytesAt _ _ v (row-inside i v h e)) in
       written-room _ _ _ _ _ _ _ w _ h (ap length (part-item y) ∙ n)
 
   pub parts-on : (out′ : List ℕ) (next : ℕ) → b ≡ true
-      → Wrote (headerOf (entry i) ++ part (getD offsets i 0) (getD sizes i 0) v) at out out′ next
+      → Wrote (headerOf (entry i) ++ bytesAt (getD offsets i 0) (getD sizes i 0) v) at out out′ next
       → Written (partItem selection q list v) rowCount 0 out₀ out′ next (i + 1)
   parts-on out′ next y d = wrote-next _ _ _ _ _ out′ _ _ next _ w h (part-item y) d
 

@@ -5,7 +5,7 @@ use mathlib.Core.Path.{_≡_}
 use Prim.Native.Nat.{ℕ, _≤_, _<_}
 use lib.ListN.{length}
 use Rattle.theory.specs.Logic.{if_then_else_, _and_}
-use Rattle.theory.specs.Bytes.{part}
+use Rattle.theory.specs.Bytes.{bytesAt}
 use Rattle.theory.specs.Items.{itemsFrom}
 use Rattle.inventory.specs.Inventory.{Row, rowAt, rowCount, offsetOf, present, valuesSize, partsSize}
 use Rattle.inventory.specs.Header.{headerOf}
@@ -21,7 +21,7 @@ headersOf queues = itemsFrom (headerItem queues) rowCount 0
 
 -- a part: the header and the value
 unfoldable pub partAt : List ℕ → ℕ → List ℕ
-partAt values i = headerOf (rowAt i) ++ part (offsetOf i) (rowAt i .size) values
+partAt values i = headerOf (rowAt i) ++ bytesAt (offsetOf i) (rowAt i .size) values
 
 -- all parts that the member has, or those of them that the asked list names
 pub data Selection : Type 0 where

@@ -4,7 +4,7 @@ ghost use mathlib.Core.List.{List, _++_};
 ghost use Prim.Native.Nat.{ℕ, _+_, _*_, _≤_, _<_};
 ghost use lib.ListN.{length};
 ghost use Rattle.theory.specs.Logic.{if_then_else_};
-ghost use Rattle.theory.specs.Bytes.{part, put};
+ghost use Rattle.theory.specs.Bytes.{bytesAt, put};
 ghost use Rattle.inventory.specs.Inventory.{row, valuesSize};
 ghost use Rattle.inventory.specs.Header.{headerSize, headerOf};
 ghost use Rattle.capture.specs.Capture.{Asked, headersOf, asks, partsWritten, captureOf, CaptureFits};
@@ -63,7 +63,7 @@ fn write_part(
     offset: u8,
 ) -> usize
     requires { ⌜ (size ≤ 32) × (offset + size ≤ length (now values)) × (at + (headerSize + size) ≤ length (now out)) ⌝ }
-    ensures { λ r. ⌜ Wrote (headerOf (row «row_type» «row_selector» size) ++ part offset size (now (values .entry))) at (now (out .entry)) (now (out .exit)) r ⌝ }
+    ensures { λ r. ⌜ Wrote (headerOf (row «row_type» «row_selector» size) ++ bytesAt offset size (now (values .entry))) at (now (out .entry)) (now (out .exit)) r ⌝ }
 {
     inventory::write_header(out, at, row_type, row_selector, size);
     let from = offset as usize;

@@ -9,9 +9,9 @@ use lib.Dec.{leb}
 use lib.ListN.{length, getD, take, drop, length-append}
 use lib.Seq.{take-take, take-all, take-at, take-add, drop-at, drop-append-add, drop-drop, length-take-le, getD-take}
 use borrow.Rule.Slice.PartMut.{putMid}
-use Rattle.theory.specs.Bytes.{part, put, repeat}
+use Rattle.theory.specs.Bytes.{bytesAt, put, repeat}
 use Rattle.theory.proofs.Tests.{by-cases, tests}
-use Rattle.theory.proofs.Bytes.{length-put, put-put, put-comm, put-part, put-out, put-eq, part-before, part-after, part-put-as, length-part, length-part-le, part-part, length-repeat, part-repeat}
+use Rattle.theory.proofs.Bytes.{length-put, put-put, put-comm, put-bytesAt, put-out, put-eq, bytesAt-before, bytesAt-after, bytesAt-put-as, length-bytesAt, length-bytesAt-le, bytesAt-bytesAt, length-repeat, bytesAt-repeat}
 use Rattle.wire.specs.Le.{le, bytes, number}
 use Rattle.wire.proofs.Le.{length-bytes, le-bytes, number-before, number-put}
 use Rattle.protocol.specs.Opcodes.{freshMask}
@@ -28,7 +28,7 @@ uncut : (r : List ℕ) → length r ≡ recordSize → take recordSize r ≡ r
 uncut r e = take-all recordSize r (omega arith)
 
 cut : (r : List ℕ) → length (take recordSize r) ≤ recordSize
-cut r = length-part-le 0 recordSize r
+cut r = length-bytesAt-le 0 recordSize r
 
 -- ---- a member's record ----
 
@@ -41,12 +41,12 @@ has-head c m h = omega (arith, h .high)
 
 pub record-long : (c : List ℕ) (m : ℕ) → HasRecord c m → length (recordIn c m) ≡ recordSize
 unfolding recordIn
-record-long c m h = length-part (recordAt m) recordSize c (h .high)
+record-long c m h = length-bytesAt (recordAt m) recordSize c (h .high)
 
 -- to put what is there changes nothing
 pub record-back : (c : List ℕ) (m : ℕ) → withRecord c m (recordIn c m) ≡ c
 unfolding withRecord recordIn
-record-back c m = rw (take-take recordSize recordSize (drop (recordAt m) c) (omega arith)) (put-part (recordAt m) recordSize c)
+record-back c m = rw (take-take recordSize recordSize (drop (recordAt m) c) (omega arith)) (put-bytesAt (recordAt m) recordSize c)
 
 module _ (c : List ℕ) (m : ℕ) (r : List ℕ) where
   pub length-with-record : length (withRecord c m r) ≡ length c
@@ -55,7 +55,7 @@ module _ (c : List ℕ) (m : ℕ) (r : List ℕ) where
 
   pub setup-with-record : setupOf (withRecord c m r) ≡ setupOf c
   unfolding withRecord setupOf
-  setup-with-record = ap setupIn (part-before 0 inUseAt (recordAt m) (take recordSize r) c (omega arith))
+  setup-with-record = ap setupIn (bytesAt-before 0 inUseAt (recordAt m) (take recordSize r) c (omega arith))
 
   pub use-with-record : inUseOf (withRecord c m r) ≡ inUseOf c
   unfolding withRecord inUseOf
@@ -64,7 +64,7 @@ module _ (c : List ℕ) (m : ℕ) (r : List ℕ) where
   -- what is put there is there
   pub record-same : HasRecord c m → length r ≡ recordSize → recordIn (withRecord c m r) m ≡ r
   unfolding withRecord recordIn
-  record-same h e = rw (uncut r e) (part-put-as (recordAt m) recordSize r c e (h .high))
+  record-same h e = rw (uncut r e) (bytesAt-put-as (recordAt m) recordSize r c e (h .high))
 
   -- no other member's record is touched
   pub record-other : (k : ℕ) → 1 ≤ m → 1 ≤ k → k ≢ m → recordIn (withRecord c m r) k ≡ recordIn c k
@@ -72,8 +72,8 @@ module _ (c : List ℕ) (m : ℕ) (r : List ℕ) where
   record-other k l h n =
       let w = cut r in
       by-cases (leb k m)
-      (λ e. part-before (recordAt k) recordSize (recordAt m) (take recordSize r) c (omega tests))
-      (λ e. part-after (recordAt k) recordSize (recordAt m) (take recordSize r) c (omega tests))
+      (λ e. bytesAt-before (recordAt k) recordSize (recordAt m) (take recordSize r) c (omega tests))
+      (λ e. bytesAt-after (recordAt k) recordSize (recordAt m) (take recordSize r) c (omega tests))
 
   -- the last record that is put stands
   pub record-over : (q : List ℕ) → length q ≡ recordSize → withRecord (withRecord c m r) m q ≡ withRecord c m q
@@ -119,13 +119,13 @@ module _ (c : List ℕ) (mask : ℕ) where
 
   pub setup-with-use : setupOf (withInUse c mask) ≡ setupOf c
   unfolding withInUse setupOf
-  setup-with-use = ap setupIn (part-before 0 inUseAt inUseAt (bytes 8 mask) c (omega arith))
+  setup-with-use = ap setupIn (bytesAt-before 0 inUseAt inUseAt (bytes 8 mask) c (omega arith))
 
   pub record-with-use : (m : ℕ) → recordIn (withInUse c mask) m ≡ recordIn c m
   unfolding withInUse recordIn
   record-with-use m =
       let n = length-bytes 8 mask in
-      part-after (recordAt m) recordSize inUseAt (bytes 8 mask) c (omega arith)
+      bytesAt-after (recordAt m) recordSize inUseAt (bytes 8 mask) c (omega arith)
 
   pub use-same : headSize ≤ length c → mask < 256 ^ 8 → inUseOf (withInUse c mask) ≡ mask
   unfolding withInUse inUseOf
@@ -160,37 +160,37 @@ module _ (c : List ℕ) where
   unfolding setupOf setupIn
   sets-read = number-read 3 (omega arith)
 
-  pub features-read : inUseAt ≤ length c → part featuresAt 16 c ≡ setupOf c .features
+  pub features-read : inUseAt ≤ length c → bytesAt featuresAt 16 c ≡ setupOf c .features
   unfolding setupOf setupIn
   features-read h =
       sym (ap (drop featuresAt) (take-add featuresAt 16 c)
-      ∙ drop-at (take featuresAt c) (part featuresAt 16 c) featuresAt (length-take-le featuresAt c (omega arith)))
+      ∙ drop-at (take featuresAt c) (bytesAt featuresAt 16 c) featuresAt (length-take-le featuresAt c (omega arith)))
 
   pub setup-read : inUseAt ≤ length c
-      → record { members = getD c 0 0; queues = getD c 1 0; gets = getD c 2 0; sets = getD c 3 0; features = part featuresAt 16 c } ≡ setupOf c
+      → record { members = getD c 0 0; queues = getD c 1 0; gets = getD c 2 0; sets = getD c 3 0; features = bytesAt featuresAt 16 c } ≡ setupOf c
   setup-read h = rw (members-read, queues-read, gets-read, sets-read, features-read h)
 
 pub features-long : (c : List ℕ) → inUseAt ≤ length c → length (setupOf c .features) ≡ 16
-features-long c h = rw (← features-read c h) (length-part featuresAt 16 c h)
+features-long c h = rw (← features-read c h) (length-bytesAt featuresAt 16 c h)
 
 -- the same bytes before a record hold the same setup
 pub same-setup : (c d : List ℕ) (m : ℕ) → take (recordAt m) c ≡ take (recordAt m) d → setupOf c ≡ setupOf d
 unfolding setupOf
 same-setup c d m e =
-    let p : (l : List ℕ) → part 0 inUseAt (take (recordAt m) l) ≡ part 0 inUseAt l = λ l. part-part 0 inUseAt 0 (recordAt m) l (omega arith) in
-    ap setupIn (sym (p c) ∙ ap (part 0 inUseAt) e ∙ p d)
+    let p : (l : List ℕ) → bytesAt 0 inUseAt (take (recordAt m) l) ≡ bytesAt 0 inUseAt l = λ l. bytesAt-bytesAt 0 inUseAt 0 (recordAt m) l (omega arith) in
+    ap setupIn (sym (p c) ∙ ap (bytesAt 0 inUseAt) e ∙ p d)
 
 -- ---- a fresh card ----
 
 -- a setup, a list in use and records, one after the other
 module _ (h : List ℕ) (mask : ℕ) (q : List ℕ) (e : length h ≡ inUseAt) where
-  setup-laid : part 0 inUseAt (h ++ (bytes 8 mask ++ q)) ≡ h
+  setup-laid : bytesAt 0 inUseAt (h ++ (bytes 8 mask ++ q)) ≡ h
   setup-laid = take-at h (bytes 8 mask ++ q) inUseAt e
 
-  use-laid : part inUseAt 8 (h ++ (bytes 8 mask ++ q)) ≡ bytes 8 mask
+  use-laid : bytesAt inUseAt 8 (h ++ (bytes 8 mask ++ q)) ≡ bytes 8 mask
   use-laid = rw (drop-at h (bytes 8 mask ++ q) inUseAt e) (take-at (bytes 8 mask) q 8 (length-bytes 8 mask))
 
-  records-laid : (j n : ℕ) → part (headSize + j) n (h ++ (bytes 8 mask ++ q)) ≡ part j n q
+  records-laid : (j n : ℕ) → bytesAt (headSize + j) n (h ++ (bytes 8 mask ++ q)) ≡ bytesAt j n q
   records-laid j n =
       let f = length-bytes 8 mask in
       let k : headSize + j ≡ length h + (length (bytes 8 mask) + j) = omega arith in
@@ -234,7 +234,7 @@ module _ (s : Setup) (e : length (s .features) ≡ 16) where
   record-fresh m l h =
       rw (fresh-laid s)
       (records-laid (headOf s) freshMask (recordsOf s) head-long (recordSize * (m - 1)) recordSize
-      ∙ part-repeat (s .members) recordSize (m - 1) (recordOf (freshOf (s .features))) fresh-long (omega arith))
+      ∙ bytesAt-repeat (s .members) recordSize (m - 1) (recordOf (freshOf (s .features))) fresh-long (omega arith))
 
 -- ---- a member ----
 

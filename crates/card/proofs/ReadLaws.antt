@@ -10,9 +10,9 @@ use borrow.Author.Tests.{not-true, not-false, eqb-true, ne-eqb}
 use lib.Dec.{leb, eqb}
 use lib.ListN.{length, getD}
 use Rattle.theory.specs.Logic.{_and_}
-use Rattle.theory.specs.Bytes.{part, put}
+use Rattle.theory.specs.Bytes.{bytesAt, put}
 use Rattle.theory.proofs.Tests.{true-and, false-and}
-use Rattle.theory.proofs.Bytes.{length-part, put-all}
+use Rattle.theory.proofs.Bytes.{length-bytesAt, put-all}
 use Rattle.theory.proofs.Ladder.{last-end}
 use Rattle.member.specs.declared.Member.{Member}
 use Rattle.member.specs.Record.{recordSize, memberOf}
@@ -25,10 +25,10 @@ use Rattle.card.proofs.LayoutLaws.{record-long, setup-read, members-rea
 -- ---- the header ----
 
 -- the features were copied into l
-pub setup-copied : (c f l : List ℕ) → headSize ≤ length c → length l ≡ 16 → f ≡ put 0 (part featuresAt 16 c) l
+pub setup-copied : (c f l : List ℕ) → headSize ≤ length c → length l ≡ 16 → f ≡ put 0 (bytesAt featuresAt 16 c) l
     → record { members = getD c 0 0; queues = getD c 1 0; gets = getD c 2 0; sets = getD c 3 0; features = f } ≡ setupOf c
 setup-copied c f l h n e =
-    rw (e, put-all (part featuresAt 16 c) l (length-part featuresAt 16 c (omega arith) ∙ sym n)) (setup-read c (omega arith))
+    rw (e, put-all (bytesAt featuresAt 16 c) l (length-bytesAt featuresAt 16 c (omega arith) ∙ sym n)) (setup-read c (omega arith))
 
 -- n is the card's first byte
 module _ (c : List ℕ) (n : ℕ) (e : n ≡ getD c 0 0) where
@@ -54,7 +54,7 @@ numbers-tested c n q g s t a b d e f = f ∙ rw (a, b, d, e, members-read c, que
 -- ---- a member's record, from its place ----
 
 module _ (c : List ℕ) (m : ℕ) where
-  pub record-lent : (at : ℕ) → at ≡ recordAt m → part at (at + recordSize - at) c ≡ recordIn c m
+  pub record-lent : (at : ℕ) → at ≡ recordAt m → bytesAt at (at + recordSize - at) c ≡ recordIn c m
   unfolding recordIn
   record-lent at e = rw (e, add-sub-cancel-left (recordAt m) recordSize)
 
@@ -68,11 +68,11 @@ module _ (c : List ℕ) (m : ℕ) where
 
 -- a record from any place
 module _ (c : List ℕ) (at : ℕ) where
-  pub place-long : at + recordSize ≤ length c → length (part at (at + recordSize - at) c) ≡ recordSize
-  place-long h = rw add-sub-cancel-left (length-part at recordSize c h)
+  pub place-long : at + recordSize ≤ length c → length (bytesAt at (at + recordSize - at) c) ≡ recordSize
+  place-long h = rw add-sub-cancel-left (length-bytesAt at recordSize c h)
 
   pub place-tested : (t : Bool) → headSize ≤ length c
-      → t ≡ soundRecord (getD c 2 0) (getD c 3 0) (part featuresAt 16 c) (part at (at + recordSize - at) c) → t ≡ soundFor (setupOf c) (part at recordSize c)
+      → t ≡ soundRecord (getD c 2 0) (getD c 3 0) (bytesAt featuresAt 16 c) (bytesAt at (at + recordSize - at) c) → t ≡ soundFor (setupOf c) (bytesAt at recordSize c)
   place-tested t h q = q ∙ rw (add-sub-cancel-left at recordSize, gets-read c, sets-read c, features-read c (omega arith))
 
 -- ---- the pass over the members ----
@@ -103,7 +103,7 @@ module _ (c : List ℕ) (m at : ℕ) (k : Checked c m at) where
     pub step-fits : at - recordSize + recordSize ≤ length c
     step-fits = let p = k .place in let l = k .long in let b = k .high in omega arith
 
-    module _ (t : Bool) (e : t ≡ soundFor (setupOf c) (part (at - recordSize) recordSize c)) where
+    module _ (t : Bool) (e : t ≡ soundFor (setupOf c) (bytesAt (at - recordSize) recordSize c)) where
       is-member : t ≡ soundFor (setupOf c) (recordIn c m)
       unfolding recordIn
       is-member = let p : at - recordSize ≡ recordAt m = (let q = k .place in omega arith) in e ∙ rw p

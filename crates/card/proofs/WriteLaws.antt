@@ -5,7 +5,7 @@ use Prim.Native.Nat.{ℕ, _+_, _-_}
 use native.Mathlib.Nat.{add-sub-cancel-left}
 use lib.ListN.{length}
 use borrow.Rule.Slice.PartMut.{midOf, putMid}
-use Rattle.theory.proofs.Bytes.{length-part}
+use Rattle.theory.proofs.Bytes.{length-bytesAt}
 use Rattle.member.specs.declared.Member.{Member}
 use Rattle.member.specs.Record.{recordSize, recordOf}
 use Rattle.card.specs.Layout.{recordAt, HasRecord, withMember}
@@ -17,5 +17,5 @@ pub member-saved : (c : List ℕ) (m at : ℕ) (x : Member) (last : List ℕ) �
 unfolding withMember
 member-saved c m at x last e h q n =
     let k : recordAt m + recordSize - recordAt m ≡ recordSize = add-sub-cancel-left (recordAt m) recordSize in
-    let l : length (recordOf x) ≡ recordSize = ap length (sym q) ∙ n ∙ rw (e, k) (length-part (recordAt m) recordSize c (h .high)) in
+    let l : length (recordOf x) ≡ recordSize = ap length (sym q) ∙ n ∙ rw (e, k) (length-bytesAt (recordAt m) recordSize c (h .high)) in
     rw e (record-lent c m (recordOf x) _ last k q l h)

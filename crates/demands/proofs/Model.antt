@@ -1,5 +1,5 @@
 -- Every definition of the model, opened at once: an example that says `unfolding model` computes. Assumes nothing.
-use Rattle.theory.specs.Logic.{if_then_else_, unless_answer_then_, _and_, _or_, within, one}
+use Rattle.theory.specs.Logic.{if_then_else_, unless_answer_then_, _and_, _or_, within, indicator}
 use Rattle.theory.specs.Bytes.{put, repeat, same}
 use Rattle.theory.specs.Items.{itemsFrom}
 use Rattle.theory.specs.Machine.{trace, seen, visible}
@@ -31,7 +31,7 @@ use Rattle.demands.specs.Requests.{request, objectHeader, getAll, setPar
 use Rattle.demands.specs.Examples.{exampleCard, headersListed, joined, nineHeaders, nineParts, rows, repliesTo, lastSize}
 
 unfoldable pub model : Unit {0}
-unfolding if_then_else_ unless_answer_then_ _and_ _or_ within one put repeat same itemsFrom trace seen visible le bytes number
+unfolding if_then_else_ unless_answer_then_ _and_ _or_ within indicator put repeat same itemsFrom trace seen visible le bytes number
     opcodeRows opcodeRow supported lengthFits namesMember bit supportedOnly
     inventoryRows rowAt present offsetOf selectorOf isRow seek placeOf headerOf headerAt stepAt atMost partsFrom
     known knownOrSkipped lengthRight featuresSame asksKnown whole every among repeated causeIn askedIn storable stored applied

@@ -8,7 +8,7 @@ use native.Mathlib.Omega.{arith}
 use lib.ListN.{length, take, drop}
 use borrow.Author.Tests.{le-leb}
 use Rattle.theory.specs.Logic.{if_then_else_, unless_answer_then_, _and_}
-use Rattle.theory.specs.Bytes.{part as bytesAt}
+use Rattle.theory.specs.Bytes.{bytesAt}
 use Rattle.theory.proofs.Tests.{within-low}
 use Rattle.wire.specs.Le.{bytes}
 use Rattle.protocol.specs.declared.Answer.the-variants.{Done}

@@ -7,9 +7,9 @@ use native.Mathlib.Omega.{arith}
 use mir.Val.{boolByte}
 use lib.Dec.{eqb}
 use lib.ListN.{getD}
-use Rattle.theory.specs.Logic.{one}
+use Rattle.theory.specs.Logic.{indicator}
 use Rattle.theory.specs.Bytes.{put}
-use Rattle.theory.proofs.Tests.{one-le}
+use Rattle.theory.proofs.Tests.{bool-byte, indicator-le}
 use Rattle.theory.proofs.Bytes.{put-append}
 use Rattle.wire.specs.Le.{bytes, number}
 use Rattle.wire.proofs.Le.{le-bytes, bytes-append}
@@ -19,27 +19,22 @@ use Rattle.inventory.proofs.Rules.{type-below, selector-below, size-bel
 
 -- ---- made of two words ----
 
-pub flags-byte : (b : Bool) → boolByte b ≡ one b
-unfolding one
-flags-byte true = refl
-flags-byte false = refl
-
 pub flags-low : (b : Bool) → boolByte b ≤ 1
-flags-low b = rw (flags-byte b) (one-le b)
+flags-low b = rw (bool-byte b) (indicator-le b)
 
-flags-two : (b : Bool) → bytes 2 (one b) ≡ one b ∷ 0 ∷ []
-unfolding bytes one
+flags-two : (b : Bool) → bytes 2 (indicator b) ≡ indicator b ∷ 0 ∷ []
+unfolding bytes indicator
 flags-two true = refl
 flags-two false = refl
 
 module _ (t s n : ℕ) (h : t < 2 ^ 16) (k : s < 256) where
   abbrev flags : ℕ
-  flags = one (eqb t deviceFeatures)
+  flags = indicator (eqb t deviceFeatures)
 
   first-word : bytes 8 (t + 2 ^ 16 * (flags + 2 ^ 16 * s)) ≡ bytes 2 t ++ (flags ∷ 0 ∷ bytes 4 s)
   first-word =
       bytes-append 2 6 t (flags + 2 ^ 16 * s) h
-      ∙ ap (bytes 2 t ++_) (bytes-append 2 4 flags s (omega (arith, one-le (eqb t deviceFeatures))) ∙ rw (flags-two (eqb t deviceFeatures)))
+      ∙ ap (bytes 2 t ++_) (bytes-append 2 4 flags s (omega (arith, indicator-le (eqb t deviceFeatures))) ∙ rw (flags-two (eqb t deviceFeatures)))
 
   second-word : bytes 8 (2 ^ 32 * n) ≡ bytes 4 0 ++ bytes 4 n
   second-word = ap (bytes 8) (omega arith) ∙ bytes-append 4 4 0 n (omega arith)

@@ -6,7 +6,7 @@ use Prim.Native.Nat.{ℕ, _+_, _<_, _≤_, _^_}
 use borrow.Author.Tests.{eqb-true, ltb-true, leb-true, lt-leb, eq-eqb}
 use lib.Dec.{leb, ltb, eqb}
 use lib.ListN.{length}
-use Rattle.theory.specs.Logic.{_and_, _or_, one, if_then_else_}
+use Rattle.theory.specs.Logic.{_and_, _or_, indicator, if_then_else_}
 use Rattle.theory.proofs.Table.{every, at}
 use Rattle.wire.specs.Le.{bytes}
 use Rattle.inventory.specs.Inventory.{Row, row, rows, rowAt, rowCount, deviceFeatures, present, offsetOf, valuesSize, selectorOf, isRow, seek, placeOf}
@@ -14,7 +14,7 @@ use Rattle.inventory.specs.Header.{headerOf, headerSize}
 
 -- what computes where a proof says `unfolding table`
 unfoldable pub table : Unit {0}
-unfolding rows rowAt present offsetOf selectorOf isRow seek placeOf every _and_ _or_ one if_then_else_
+unfolding rows rowAt present offsetOf selectorOf isRow seek placeOf every _and_ _or_ indicator if_then_else_
 table = tt
 
 -- a test of each row and its index holds at each

@@ -2,7 +2,7 @@
 use mathlib.Core.List.{List, _∷_, _++_}
 use Prim.Native.Nat.{ℕ}
 use lib.Dec.{eqb}
-use Rattle.theory.specs.Logic.{one}
+use Rattle.theory.specs.Logic.{indicator}
 use Rattle.wire.specs.Le.{bytes}
 use Rattle.inventory.specs.Inventory.{Row, deviceFeatures}
 
@@ -11,7 +11,7 @@ headerSize = 16
 
 -- "Only device features has flags 1; the others have 0"
 abbrev pub flagsOf : Row → ℕ
-flagsOf r = one (eqb (r .partType) deviceFeatures)
+flagsOf r = indicator (eqb (r .partType) deviceFeatures)
 
 -- type 2 bytes, flags 1, reserved 1, selector 8, length 4
 unfoldable pub headerOf : Row → List ℕ

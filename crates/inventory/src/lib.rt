@@ -4,7 +4,7 @@ ghost use mathlib.Core.Path.{_≡_};
 ghost use Prim.Native.Nat.{_+_, _*_, _^_, _≤_, _<_};
 ghost use lib.Dec.{eqb};
 ghost use lib.ListN.{length};
-ghost use Rattle.theory.specs.Logic.{one};
+ghost use Rattle.theory.specs.Logic.{indicator};
 ghost use Rattle.theory.specs.Bytes.{put};
 ghost use Rattle.inventory.specs.Inventory.{row, rowAt, rowCount, deviceFeatures, offsetOf, present, selectorOf, isRow, placeOf, partCount, partsSize};
 ghost use Rattle.inventory.specs.Header.{headerOf, headerSize};
@@ -151,7 +151,7 @@ pub fn place_of(queues: u8, t: u16, selector: u64) -> Place
 
 // The first eight bytes of a header, as a number: type, flags and selector, which takes no more than a byte.
 fn first_word(row_type: u16, row_selector: u8) -> u64
-    ensures { λ r. ⌜ r ≡ «row_type» + 2 ^ 16 * (one (eqb «row_type» deviceFeatures) + 2 ^ 16 * «row_selector») ⌝ }
+    ensures { λ r. ⌜ r ≡ «row_type» + 2 ^ 16 * (indicator (eqb «row_type» deviceFeatures) + 2 ^ 16 * «row_selector») ⌝ }
 {
     let flags = (row_type == DEVICE_FEATURES) as u64;
     row_type as u64 + 0x1_0000 * (flags + 0x1_0000 * (row_selector as u64))

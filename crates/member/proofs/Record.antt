@@ -8,8 +8,8 @@ use borrow.Author.Tests.{leb-true}
 use lib.Dec.{leb}
 use lib.ListN.{length, getD, take, drop, set, replicate, length-append, length-map, length-set, length-drop, take-append-drop, List·getD-map}
 use lib.Seq.{take-at, drop-at, take-all}
-use Rattle.theory.specs.Bytes.{part, put}
-use Rattle.theory.proofs.Bytes.{length-put, length-part, put-all, put-cons, put-append, put-front, getD-part}
+use Rattle.theory.specs.Bytes.{bytesAt, put}
+use Rattle.theory.proofs.Bytes.{length-put, length-bytesAt, put-all, put-cons, put-append, put-front, getD-bytesAt}
 use Rattle.inventory.specs.Inventory.{valuesSize}
 use Rattle.protocol.specs.Answers.{modeOf}
 use Rattle.protocol.specs.declared.Mode.{Mode}
@@ -70,7 +70,7 @@ module _ (m : Member) (s : Shaped m) where
   record-objects = take-at _ (m .values) objectsSize bytes-long
 
   -- the values stand last, so each part of them is a part of the record
-  pub record-values : (n : ℕ) → part valuesAt n (recordOf m) ≡ take n (m .values)
+  pub record-values : (n : ℕ) → bytesAt valuesAt n (recordOf m) ≡ take n (m .values)
   unfolding recordOf
   record-values n = rw (drop-at (map objectByte (m .objects)) (m .values) objectsSize bytes-long)
 
@@ -81,7 +81,7 @@ module _ (m : Member) (s : Shaped m) where
   pub member-back : memberOf (recordOf m) ≡ m
   unfolding memberOf
   member-back =
-      let v : part valuesAt valuesSize (recordOf m) ≡ m .values = record-values valuesSize ∙ take-all valuesSize (m .values) (omega arith) in
+      let v : bytesAt valuesAt valuesSize (recordOf m) ≡ m .values = record-values valuesSize ∙ take-all valuesSize (m .values) (omega arith) in
       rw (record-mode, mode-back (m .mode), record-objects, objects-back (m .objects), v)
 
 -- ---- the member of a record ----
@@ -90,8 +90,8 @@ module _ (r : List ℕ) (e : length r ≡ recordSize) where
   pub member-shaped : Shaped (memberOf r)
   unfolding memberOf
   member-shaped = record {
-    ids = length-map (objectBytes r) objectOf ∙ length-part objectsAt objectsSize r (omega arith);
-    long = length-part valuesAt valuesSize r (omega arith);
+    ids = length-map (objectBytes r) objectOf ∙ length-bytesAt objectsAt objectsSize r (omega arith);
+    long = length-bytesAt valuesAt valuesSize r (omega arith);
   }
 
 -- what the record of a member leaves out is nothing, where its bytes say something
@@ -99,14 +99,14 @@ pub record-back : (r : List ℕ) → length r ≡ recordSize → leb (getD r 0 0
 unfolding memberOf recordOf
 record-back [] e h a = cc
 record-back (b ∷ r) e h a =
-    let v : part objectsSize valuesSize r ≡ drop objectsSize r = take-all valuesSize (drop objectsSize r) (rw length-drop (omega arith)) in
+    let v : bytesAt objectsSize valuesSize r ≡ drop objectsSize r = take-all valuesSize (drop objectsSize r) (rw length-drop (omega arith)) in
     rw (byte-of-mode b (leb-true b 1 h), bytes-of-objects (take objectsSize r) a, v, take-append-drop objectsSize r)
 
 -- ---- load and save ----
 
 -- a part of a list, stored over an array of its size
-pub part-loaded : (at n : ℕ) (s l : List ℕ) → at + n ≤ length s → length l ≡ n → put 0 (part at n s) l ≡ part at n s
-part-loaded at n s l h e = put-all (part at n s) l (length-part at n s h ∙ sym e)
+pub part-loaded : (at n : ℕ) (s l : List ℕ) → at + n ≤ length s → length l ≡ n → put 0 (bytesAt at n s) l ≡ bytesAt at n s
+part-loaded at n s l h e = put-all (bytesAt at n s) l (length-bytesAt at n s h ∙ sym e)
 
 -- mode, objects and values, stored one after the other
 module _ (m : Member) (s : Shaped m) (r : List ℕ) (e : length r ≡ recordSize) (b : ℕ) (os : List ℕ) (q : os ≡ map objectByte (m .objects)) where
@@ -133,7 +133,7 @@ module _ (r : List ℕ) (n : length r ≡ recordSize) (id : ℕ) where
   pub record-lookup : (f : Found) (o : ObjectRecord) → id < objectsSize → o ≡ objectOf (getD r (objectsAt + id) 0)
       → f ≡ foundIn (o .slot) → f ≡ lookupOf (memberOf r) id
   unfolding memberOf lookupOf
-  record-lookup f o h q e = rw (List·getD-map objectOf (objectBytes r) id 0, getD-part objectsAt objectsSize id r h) (e ∙ ap (λ (x : ObjectRecord). foundIn (x .slot)) q)
+  record-lookup f o h q e = rw (List·getD-map objectOf (objectBytes r) id 0, getD-bytesAt objectsAt objectsSize id r h) (e ∙ ap (λ (x : ObjectRecord). foundIn (x .slot)) q)
 
   pub record-lookup-out : objectsSize ≤ id → Nothing ≡ lookupOf (memberOf r) id
   record-lookup-out h = lookup-out (memberOf r) id objectsSize (member-shaped r n .ids) h

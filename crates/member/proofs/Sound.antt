@@ -10,7 +10,7 @@ use lib.ListN.{length, getD, drop, replicate, length-append}
 use lib.Seq.{take-at, drop-set-lt}
 use borrow.Author.Tests.{not-true, not-false}
 use Rattle.theory.specs.Logic.{_and_}
-use Rattle.theory.specs.Bytes.{part, same}
+use Rattle.theory.specs.Bytes.{bytesAt, same}
 use Rattle.theory.proofs.Tests.{both, and-i, and-assoc, same-true, eq-same}
 use Rattle.theory.proofs.Ladder.{ladder}
 use Rattle.inventory.specs.Inventory.{valuesSize}
@@ -78,7 +78,7 @@ module _ (gets sets : ℕ) (features : List ℕ) where
     sound-mode mode = record { shaped = shaped-mode m (s .shaped) mode; below = s .below; room = s .room; kept = s .kept }
 
     -- other values, with the same device features
-    pub sound-values : (values : List ℕ) → length values ≡ valuesSize → part 0 16 values ≡ featuresIn m → SoundMember (withValues m values)
+    pub sound-values : (values : List ℕ) → length values ≡ valuesSize → bytesAt 0 16 values ≡ featuresIn m → SoundMember (withValues m values)
     sound-values values n e = record { shaped = shaped-values m (s .shaped) values n; below = s .below; room = s .room; kept = e ∙ s .kept }
 
     -- an object that the limits allow, at an id that is valid
@@ -118,12 +118,12 @@ module _ (gets sets : ℕ) (features r : List ℕ) where
   bad-mode h = search ladder
 
   module _ (bs : List ℕ) (b : Bool) (p : bs ≡ objectBytes r) (q : b ≡ allUpTo 2 bs and allUpTo 0 (drop (gets + sets) bs) and withinLimits gets sets bs) where
-    steps : leb (getD r 0 0) 1 and (b and same (part valuesAt 16 r) features) ≡ soundRecord gets sets features r
+    steps : leb (getD r 0 0) 1 and (b and same (bytesAt valuesAt 16 r) features) ≡ soundRecord gets sets features r
     unfolding soundRecord
     steps = rw (q, p) (simp and-assoc)
 
     pub bad-objects : not b ≡ true → false ≡ soundRecord gets sets features r
     bad-objects h = rw (← steps, not-true b h) (search ladder)
 
-    pub sound-rest : getD r 0 0 ≤ 1 → not b ≡ false → (x : Bool) → x ≡ same (part valuesAt 16 r) features → x ≡ soundRecord gets sets features r
+    pub sound-rest : getD r 0 0 ≤ 1 → not b ≡ false → (x : Bool) → x ≡ same (bytesAt valuesAt 16 r) features → x ≡ soundRecord gets sets features r
     sound-rest l h x e = rw (← steps, not-false b h) (search ladder)

@@ -3,7 +3,7 @@
 use mathlib.Core.List.{List, _++_}
 use Prim.Native.Nat.{ℕ}
 use lib.ListN.{replicate}
-use Rattle.theory.specs.Bytes.{part}
+use Rattle.theory.specs.Bytes.{bytesAt}
 use Rattle.protocol.specs.declared.Mode.{Mode}
 use Rattle.protocol.specs.declared.Mode.the-variants.{Running}
 use Rattle.values.specs.Apply.{stored}
@@ -15,7 +15,7 @@ unfoldable pub freshOf : List ℕ → Member
 freshOf features = record { mode = Running; objects = replicate 16 free; values = features ++ replicate 189 0 }
 
 abbrev pub featuresIn : Member → List ℕ
-featuresIn m = part 0 16 (m .values)
+featuresIn m = bytesAt 0 16 (m .values)
 
 abbrev pub withMode : Member → Mode → Member
 withMode m mode = record { mode = mode; objects = m .objects; values = m .values }

@@ -2,7 +2,7 @@
 use mathlib.Core.List.{List, _∷_, _++_, map}
 use Prim.Native.Nat.{ℕ}
 use lib.ListN.{getD}
-use Rattle.theory.specs.Bytes.{part}
+use Rattle.theory.specs.Bytes.{bytesAt}
 use Rattle.inventory.specs.Inventory.{valuesSize}
 use Rattle.protocol.specs.declared.Mode.{Mode}
 use Rattle.protocol.specs.declared.Mode.the-variants.{Running, Stopped}
@@ -25,12 +25,12 @@ modeByte Running = 0
 modeByte Stopped = 1
 
 abbrev pub objectBytes : List ℕ → List ℕ
-objectBytes r = part objectsAt objectsSize r
+objectBytes r = bytesAt objectsAt objectsSize r
 
 -- the member that a record holds, and the record that holds a member
 unfoldable pub memberOf : List ℕ → Member
 memberOf r =
-    record { mode = modeOf (getD r 0 0); objects = map objectOf (objectBytes r); values = part valuesAt valuesSize r }
+    record { mode = modeOf (getD r 0 0); objects = map objectOf (objectBytes r); values = bytesAt valuesAt valuesSize r }
 
 unfoldable pub recordOf : Member → List ℕ
 recordOf m = modeByte (m .mode) ∷ (map objectByte (m .objects) ++ m .values)

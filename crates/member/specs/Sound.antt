@@ -5,7 +5,7 @@ use Prim.Native.Nat.{ℕ, _+_}
 use lib.Dec.{leb}
 use lib.ListN.{getD, drop}
 use Rattle.theory.specs.Logic.{_and_}
-use Rattle.theory.specs.Bytes.{part, same}
+use Rattle.theory.specs.Bytes.{bytesAt, same}
 use Rattle.objects.specs.Objects.{allUpTo, withinLimits}
 use Rattle.member.specs.Record.{objectBytes, valuesAt}
 
@@ -17,4 +17,4 @@ soundRecord gets sets features r =
     and allUpTo 2 (objectBytes r)
     and allUpTo 0 (drop (gets + sets) (objectBytes r))
     and withinLimits gets sets (objectBytes r)
-    and same (part valuesAt 16 r) features
+    and same (bytesAt valuesAt 16 r) features

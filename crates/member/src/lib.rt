@@ -1,7 +1,7 @@
 // A member of the card: its record as a struct by value, its bytes, and its resource objects.
 ghost use mathlib.Core.Path.{_≡_};
 ghost use lib.ListN.{length};
-ghost use Rattle.theory.specs.Bytes.{part};
+ghost use Rattle.theory.specs.Bytes.{bytesAt};
 ghost use Rattle.inventory.specs.Inventory.{valuesSize};
 ghost use Rattle.parts.specs.declared.ListForm.the-variants.{Parts};
 ghost use Rattle.parts.specs.List.{partsOf};
@@ -127,7 +127,7 @@ fn object_bytes_in(rec: &[u8]) -> [u8; IDS]
 
 fn values_in(rec: &[u8]) -> [u8; VALUES_SIZE]
     requires { ⌜ length (now rec) ≡ recordSize ⌝ }
-    ensures { λ r. ⌜ r ≡ part valuesAt valuesSize (now (rec .entry)) ⌝ }
+    ensures { λ r. ⌜ r ≡ bytesAt valuesAt valuesSize (now (rec .entry)) ⌝ }
 {
     let mut values = [0u8; VALUES_SIZE];
     wire::copy(&mut values, 0, &rec[VALUES_AT..RECORD_SIZE]);

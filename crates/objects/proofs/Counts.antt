@@ -10,8 +10,8 @@ use native.Mathlib.Numerals.{add-one}
 use lib.ListN.{length, getD, drop-of-length-le, drop, set, replicate}
 use lib.Seq.{drop-cons, drop-set-lt, drop-set-add}
 use borrow.Author.Tests.{leb-true, le-leb, ne-eqb, not-false}
-use Rattle.theory.specs.Logic.{_and_, one}
-use Rattle.theory.proofs.Tests.{by-cases, both, and-i, and-true, and-assoc, one-false, one-le, tests}
+use Rattle.theory.specs.Logic.{_and_, indicator}
+use Rattle.theory.proofs.Tests.{by-cases, both, and-i, and-true, and-assoc, indicator-false, indicator-le, tests}
 use Rattle.objects.specs.Objects.{objectsSize}
 use Rattle.objects.specs.Objects.{count, allUpTo, withinLimits}
 
@@ -26,7 +26,7 @@ map-set f (y ∷ l) (suc i) x = ap (f y ∷_) (map-set f l i x)
 pub count-set : (v : ℕ) (bs : List ℕ) (i b : ℕ) → (b ≡ v → ⊥) → count v (set bs i b) ≤ count v bs
 unfolding count
 count-set v [] i b n = omega arith
-count-set v (a ∷ bs) zero b n = omega (arith, one-false _ (ne-eqb b v n))
+count-set v (a ∷ bs) zero b n = omega (arith, indicator-false _ (ne-eqb b v n))
 count-set v (a ∷ bs) (suc i) b n = omega (arith, count-set v bs i b n)
 
 pub all-set : (n : ℕ) (bs : List ℕ) (i b : ℕ) → leb b n ≡ true → allUpTo n bs ≡ true → allUpTo n (set bs i b) ≡ true
@@ -63,14 +63,14 @@ unfolding allUpTo _and_
 none-live = refl
 
 pub none-counted : (gets sets : ℕ) → withinLimits gets sets (replicate objectsSize 0) ≡ true
-unfolding withinLimits count one
+unfolding withinLimits count indicator
 none-counted gets sets = and-i _ _ (le-leb 0 gets (omega arith)) (le-leb 0 sets (omega arith))
 
 -- ---- a loop that counts ----
 
 -- n of the first i bytes are v
 module _ (v : ℕ) (bs : List ℕ) (i n : ℕ) (e : count v bs ≡ n + count v (drop i bs)) where
-  pub count-on : (h : ℕ) → h ≡ one (eqb (getD bs i 0) v) → i < length bs → count v bs ≡ (n + h) + count v (drop (i + 1) bs)
+  pub count-on : (h : ℕ) → h ≡ indicator (eqb (getD bs i 0) v) → i < length bs → count v bs ≡ (n + h) + count v (drop (i + 1) bs)
   unfolding count
   count-on h q a =
       let x : count v (drop i bs) ≡ h + count v (drop (i + 1) bs) = rw (drop-cons bs i 0 a, add-one i, q) in
@@ -83,15 +83,15 @@ module _ (v : ℕ) (bs : List ℕ) (i n : ℕ) (e : count v bs ≡ n + count v (
       omega arith
 
 -- of the bytes up to 2, the odd one is 1, and the one with a half is 2
-pub odd-hit : (b : ℕ) → b ≤ 2 → b % 2 ≡ one (eqb b 1)
-unfolding one
+pub odd-hit : (b : ℕ) → b ≤ 2 → b % 2 ≡ indicator (eqb b 1)
+unfolding indicator
 odd-hit zero h = refl
 odd-hit (suc zero) h = refl
 odd-hit (suc (suc zero)) h = refl
 odd-hit (suc (suc (suc b))) h = omega arith
 
-pub half-hit : (b : ℕ) → b ≤ 2 → b / 2 ≡ one (eqb b 2)
-unfolding one
+pub half-hit : (b : ℕ) → b ≤ 2 → b / 2 ≡ indicator (eqb b 2)
+unfolding indicator
 half-hit zero h = refl
 half-hit (suc zero) h = refl
 half-hit (suc (suc zero)) h = refl
@@ -107,8 +107,8 @@ all-at n [] i e = omega arith
 all-at n (b ∷ bs) zero e = leb-true b n (both _ _ e .0)
 all-at n (b ∷ bs) (suc i) e = all-at n bs i (both _ _ e .1)
 
-pub hit-le : (t : Bool) (h : ℕ) → h ≡ one t → h ≤ 1
-hit-le t h e = rw e (one-le t)
+pub hit-le : (t : Bool) (h : ℕ) → h ≡ indicator t → h ≤ 1
+hit-le t h e = rw e (indicator-le t)
 
 -- ---- a loop that tests each byte from a place on ----
 

@@ -4,7 +4,7 @@ use mathlib.Core.Bool.{Bool, true}
 use mathlib.Core.List.{List, [], _∷_}
 use Prim.Native.Nat.{ℕ, zero, suc, _+_}
 use lib.Dec.{leb, eqb}
-use Rattle.theory.specs.Logic.{_and_, one}
+use Rattle.theory.specs.Logic.{_and_, indicator}
 use Rattle.protocol.specs.declared.ObjectKind.{ObjectKind}
 use Rattle.protocol.specs.declared.ObjectKind.the-variants as kind
 use Rattle.objects.specs.declared.Slot.{Slot}
@@ -53,7 +53,7 @@ onFound Nothing f a = a
 -- how many of the object bytes are v, and whether each is at most n
 unfoldable pub count : ℕ → List ℕ → ℕ
 count v [] = 0
-count v (b ∷ bs) = one (eqb b v) + count v bs
+count v (b ∷ bs) = indicator (eqb b v) + count v bs
 
 unfoldable pub allUpTo : ℕ → List ℕ → Bool
 allUpTo n [] = true

@@ -5,7 +5,7 @@ ghost use mathlib.Core.List.{map};
 ghost use Prim.Native.Nat.{_+_, _≤_, _<_};
 ghost use lib.Dec.{leb, eqb};
 ghost use lib.ListN.{length, drop, set};
-ghost use Rattle.theory.specs.Logic.{_and_, one};
+ghost use Rattle.theory.specs.Logic.{_and_, indicator};
 ghost use Rattle.objects.specs.Objects.{objectsSize, objectOf, objectByte, free, slotFor, foundIn, count, allUpTo, withinLimits};
 use protocol::ObjectKind;
 
@@ -84,7 +84,7 @@ pub fn object_bytes(objects: [ObjectRecord; IDS]) -> [u8; IDS]
 // few vector additions; of the answers to a test it would be many more steps.
 fn hit(b: u8, v: u8) -> u8
     requires { ⌜ (b ≤ 2) × (1 ≤ v) × (v ≤ 2) ⌝ }
-    ensures { λ r. ⌜ r ≡ one (eqb b v) ⌝ }
+    ensures { λ r. ⌜ r ≡ indicator (eqb b v) ⌝ }
 {
     if v == 1 { b % 2 } else { b / 2 }
 }

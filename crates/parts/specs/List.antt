@@ -5,7 +5,7 @@ use Prim.Native.Nat.{ℕ, zero, suc, _+_, _-_}
 use lib.Dec.{leb, ltb, eqb}
 use lib.ListN.{length, getD}
 use Rattle.theory.specs.Logic.{unless_answer_then_, _and_, _or_}
-use Rattle.theory.specs.Bytes.{part as bytesAt}
+use Rattle.theory.specs.Bytes.{bytesAt}
 use Rattle.wire.specs.Le.{number}
 use Rattle.inventory.specs.Inventory.{selectorOf}
 use Rattle.parts.specs.declared.ListForm.{ListForm}

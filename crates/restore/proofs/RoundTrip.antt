@@ -9,9 +9,9 @@ use borrow.Author.Tests.{eq-eqb, eqb-true, ltb-true, ltb-false}
 use lib.Dec.{eqb, ltb}
 use lib.ListN.{length}
 use Rattle.theory.specs.Logic.{unless_answer_then_, _and_}
-use Rattle.theory.specs.Bytes.{part as bytesAt, put}
+use Rattle.theory.specs.Bytes.{bytesAt, put}
 use Rattle.theory.proofs.Tests.{by-cases, both, and-false, and-i, true-or, or-true, or-i, eq-same}
-use Rattle.theory.proofs.Bytes.{part-before, part-put-as, length-part}
+use Rattle.theory.proofs.Bytes.{bytesAt-before, bytesAt-put-as, length-bytesAt}
 use Rattle.inventory.specs.Inventory.{rowAt, rowCount, deviceFeatures, present, offsetOf, valuesSize, placeOf}
 use Rattle.inventory.proofs.Rules.{row-within, rows-apart, features-row, row-zero, offset-zero}
 use Rattle.inventory.proofs.Find.{own-place, rows-distinct}
@@ -40,7 +40,7 @@ module _ (q : ℕ) (v : List ℕ) (few : q < 5) (long : length v ≡ valuesSize)
   -- ---- one part ----
 
   value-long : (i : ℕ) → i < rowCount → length (valueOf v i) ≡ rowAt i .size
-  value-long i h = length-part (offsetOf i) (rowAt i .size) v (omega (arith, row-within i h))
+  value-long i h = length-bytesAt (offsetOf i) (rowAt i .size) v (omega (arith, row-within i h))
 
   module _ (i : ℕ) (h : i < rowCount) (y : present q (rowAt i) ≡ true) where
     place : placeOf q (rowAt i .partType) (rowAt i .selector) ≡ At i
@@ -129,12 +129,12 @@ module _ (q : ℕ) (v : List ℕ) (few : q < 5) (long : length v ≡ valuesSize)
     after-here : length w ≡ valuesSize → valueOf after i ≡ valueOf v i
     after-here e =
         rw after-is
-        (part-put-as (offsetOf i) (rowAt i .size) (valueOf v i) w (value-long i h) (omega (arith, row-within i h)))
+        (bytesAt-put-as (offsetOf i) (rowAt i .size) (valueOf v i) w (value-long i h) (omega (arith, row-within i h)))
 
     after-before : (j : ℕ) → j < i → valueOf after j ≡ valueOf w j
     after-before j l =
         rw after-is
-        (part-before (offsetOf j) (rowAt j .size) (offsetOf i) (valueOf v i) w (rows-apart j (omega arith) i h l))
+        (bytesAt-before (offsetOf j) (rowAt j .size) (offsetOf i) (valueOf v i) w (rows-apart j (omega arith) i h l))
 
   -- the parts ps of the rows from the i-th on set the values of these rows, but for the first, to those of v
   record Restores (i : ℕ) (ps : PartList) : Type 0 where

@@ -8,10 +8,10 @@ use native.Mathlib.Omega.{arith}
 use lib.ListN.{length, getD, length-append}
 use lib.Seq.{drop-append-add, take-at, drop-at, getD-append-add}
 use Rattle.theory.specs.Logic.{if_then_else_}
-use Rattle.theory.specs.Bytes.{part as bytesAt}
+use Rattle.theory.specs.Bytes.{bytesAt}
 use Rattle.theory.specs.Items.{itemsFrom}
 use Rattle.theory.proofs.Tests.{by-cases}
-use Rattle.theory.proofs.Bytes.{length-part}
+use Rattle.theory.proofs.Bytes.{length-bytesAt}
 use Rattle.wire.specs.Le.{number}
 use Rattle.inventory.specs.Inventory.{rowAt, rowCount, present, offsetOf, valuesSize}
 use Rattle.inventory.specs.Header.{headerOf, headerSize, flagsOf}
@@ -101,7 +101,7 @@ module _ (q : ℕ) (v : List ℕ) where
       (λ y.
       let long = part-length v i h e in
       let len : length (pre ++ partAt v i) ≡ length pre + headerSize + rowAt i .size = rw (length-append, long) (omega arith) in
-      let here = part-stands pre i h (bytesAt (offsetOf i) (rowAt i .size) v) rest (length-part (offsetOf i) (rowAt i .size) v (omega arith)) in
+      let here = part-stands pre i h (bytesAt (offsetOf i) (rowAt i .size) v) rest (length-bytesAt (offsetOf i) (rowAt i .size) v (omega arith)) in
       let after = rw (append-assoc, split i rest, len) at (read-back e k (i + 1) (pre ++ partAt v i) (omega arith)) in
       rw (item-there i y, y, split i rest) (here ∙ ap (part (rowPart v i)) after))
       (λ y. rw (item-absent i y, y) (read-back e k (i + 1) pre (omega arith)))

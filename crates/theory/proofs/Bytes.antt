@@ -7,7 +7,7 @@ use native.Mathlib.Nat.{zero-add, add-zero, suc-add}
 use native.Mathlib.Omega.{arith}
 use lib.ListN.{length, getD, take, drop, set, length-append, length-take, length-drop, drop-of-length-le}
 use lib.Seq.{length-take-le, take-at, drop-at, take-nil, drop-append-add, drop-drop, take-take, getD-drop, getD-take}
-use Rattle.theory.specs.Bytes.{part, put, repeat}
+use Rattle.theory.specs.Bytes.{bytesAt, put, repeat}
 
 -- ---- put ----
 
@@ -44,7 +44,7 @@ put-comm (suc i) x zero y (b ∷ l) h = absurd (omega arith)
 put-comm (suc i) x (suc j) y (b ∷ l) h = ap (b ∷_) (put-comm i x j y l (omega arith))
 
 -- to put back what was there undoes a put
-pub put-undo : (at n : ℕ) (x l : List ℕ) → length x ≤ n → put at (part at n l) (put at x l) ≡ l
+pub put-undo : (at n : ℕ) (x l : List ℕ) → length x ≤ n → put at (bytesAt at n l) (put at x l) ≡ l
 unfolding put
 put-undo at n x [] h = refl
 put-undo zero zero [] (b ∷ l) h = refl
@@ -54,8 +54,8 @@ put-undo zero (suc n) (v ∷ x) (b ∷ l) h = ap (b ∷_) (put-undo zero n x l (
 put-undo (suc at) n x (b ∷ l) h = ap (b ∷_) (put-undo at n x l h)
 
 -- to put what is there changes nothing
-pub put-part : (at n : ℕ) (l : List ℕ) → put at (part at n l) l ≡ l
-put-part at n l = rw put-nil at (put-undo at n [] l (omega arith))
+pub put-bytesAt : (at n : ℕ) (l : List ℕ) → put at (bytesAt at n l) l ≡ l
+put-bytesAt at n l = rw put-nil at (put-undo at n [] l (omega arith))
 
 -- past the end nothing is put
 pub put-out : (at : ℕ) (x l : List ℕ) → length l ≤ at → put at x l ≡ l
@@ -132,25 +132,25 @@ take-put (suc n) zero (v ∷ x) (b ∷ l) = ap (v ∷_) (take-put n zero x l)
 take-put (suc n) (suc i) x (b ∷ l) = ap (b ∷_) (take-put n i x l)
 
 -- a part that lies before, and one that lies after, is as it was
-pub part-before : (at n i : ℕ) (x l : List ℕ) → at + n ≤ i → part at n (put i x l) ≡ part at n l
-part-before at n i x l h =
+pub bytesAt-before : (at n i : ℕ) (x l : List ℕ) → at + n ≤ i → bytesAt at n (put i x l) ≡ bytesAt at n l
+bytesAt-before at n i x l h =
     let e : i ≡ at + (i - at) = omega arith in
-    ap (λ k. part at n (put k x l)) e
+    ap (λ k. bytesAt at n (put k x l)) e
     ∙ rw drop-put (take-before n (i - at) x (drop at l) (omega arith))
 
-pub part-after : (at n i : ℕ) (x l : List ℕ) → i + length x ≤ at → part at n (put i x l) ≡ part at n l
-part-after at n i x l h = ap (take n) (drop-after at i x l h)
+pub bytesAt-after : (at n i : ℕ) (x l : List ℕ) → i + length x ≤ at → bytesAt at n (put i x l) ≡ bytesAt at n l
+bytesAt-after at n i x l h = ap (take n) (drop-after at i x l h)
 
 -- what was put
-pub part-put : (at : ℕ) (x l : List ℕ) → at + length x ≤ length l → part at (length x) (put at x l) ≡ x
-part-put at x l h =
-    ap (part at (length x)) (put-eq at x l h)
+pub bytesAt-put : (at : ℕ) (x l : List ℕ) → at + length x ≤ length l → bytesAt at (length x) (put at x l) ≡ x
+bytesAt-put at x l h =
+    ap (bytesAt at (length x)) (put-eq at x l h)
     ∙ ap (take (length x)) (drop-at (take at l) _ at (length-take-le at l (omega arith)))
     ∙ take-at x _ (length x) refl
 
 -- the same, at a length that is known
-pub part-put-as : (at n : ℕ) (x l : List ℕ) → length x ≡ n → at + n ≤ length l → part at n (put at x l) ≡ x
-part-put-as at n x l e h = rw (← e) (part-put at x l (rw e h))
+pub bytesAt-put-as : (at n : ℕ) (x l : List ℕ) → length x ≡ n → at + n ≤ length l → bytesAt at n (put at x l) ≡ x
+bytesAt-put-as at n x l e h = rw (← e) (bytesAt-put at x l (rw e h))
 
 -- ---- a part ----
 
@@ -159,21 +159,21 @@ drop-take zero m l = rw zero-add
 drop-take (suc n) m [] = rw (suc-add, take-nil)
 drop-take (suc n) m (x ∷ l) = rw suc-add (drop-take n m l)
 
-pub length-part : (at n : ℕ) (l : List ℕ) → at + n ≤ length l → length (part at n l) ≡ n
-length-part at n l h = length-take-le n (drop at l) (rw length-drop (omega arith))
+pub length-bytesAt : (at n : ℕ) (l : List ℕ) → at + n ≤ length l → length (bytesAt at n l) ≡ n
+length-bytesAt at n l h = length-take-le n (drop at l) (rw length-drop (omega arith))
 
-pub length-part-le : (at n : ℕ) (l : List ℕ) → length (part at n l) ≤ n
-length-part-le at n l = rw length-take (omega arith)
+pub length-bytesAt-le : (at n : ℕ) (l : List ℕ) → length (bytesAt at n l) ≤ n
+length-bytesAt-le at n l = rw length-take (omega arith)
 
-pub getD-part : (at n i : ℕ) (l : List ℕ) → i < n → getD (part at n l) i 0 ≡ getD l (at + i) 0
-getD-part at n i l h = rw (getD-take, getD-drop)
+pub getD-bytesAt : (at n i : ℕ) (l : List ℕ) → i < n → getD (bytesAt at n l) i 0 ≡ getD l (at + i) 0
+getD-bytesAt at n i l h = rw (getD-take, getD-drop)
 
 -- a part of a part
-pub part-part : (at n b m : ℕ) (l : List ℕ) → at + n ≤ m → part at n (part b m l) ≡ part (b + at) n l
-part-part at n b m l h =
+pub bytesAt-bytesAt : (at n b m : ℕ) (l : List ℕ) → at + n ≤ m → bytesAt at n (bytesAt b m l) ≡ bytesAt (b + at) n l
+bytesAt-bytesAt at n b m l h =
     let k : n ≤ m - at = omega arith in
     let e : m ≡ at + (m - at) = omega arith in
-    ap (λ j. part at n (part b j l)) e
+    ap (λ j. bytesAt at n (bytesAt b j l)) e
     ∙ rw (drop-take at (m - at) (drop b l), drop-drop) (take-take n (m - at) (drop (b + at) l) k)
 
 -- ---- repeat ----
@@ -192,12 +192,12 @@ unfolding repeat
 length-repeat zero k x e = omega arith
 length-repeat (suc n) k x e = rw (length-append, e, length-repeat n k x e) (omega arith)
 
-pub part-repeat : (n k j : ℕ) (x : List ℕ) → length x ≡ k → j < n → part (k * j) k (repeat n x) ≡ x
+pub bytesAt-repeat : (n k j : ℕ) (x : List ℕ) → length x ≡ k → j < n → bytesAt (k * j) k (repeat n x) ≡ x
 unfolding repeat
-part-repeat zero k j x e h = absurd (omega arith)
-part-repeat (suc n) k zero x e h =
+bytesAt-repeat zero k j x e h = absurd (omega arith)
+bytesAt-repeat (suc n) k zero x e h =
     let z : k * zero ≡ 0 = omega arith in
     rw z (take-at x (repeat n x) k e)
-part-repeat (suc n) k (suc j) x e h =
+bytesAt-repeat (suc n) k (suc j) x e h =
     let a : k * suc j ≡ length x + k * j = omega arith in
-    rw (a, drop-append-add) (part-repeat n k j x e (omega arith))
+    rw (a, drop-append-add) (bytesAt-repeat n k j x e (omega arith))

@@ -5,11 +5,12 @@ use mathlib.Core.List.{List, [], _∷_}
 use Prim.Native.Nat.{ℕ, _+_, _≤_, _<_}
 use native.Mathlib.Numerals.{add-one}
 use native.Mathlib.Omega.{arith}
+use mir.Val.{boolByte}
 use lib.Dec.{eqb}
 use lib.ListN.{length, getD, drop, drop-of-length-le}
 use lib.Seq.{drop-cons}
 use borrow.Author.Tests.{ltb-true, ltb-false, leb-true, leb-false, eqb-true, eqb-false, lt-ltb, le-ltb, le-leb, lt-leb, eq-eqb, ne-eqb}
-use Rattle.theory.specs.Logic.{if_then_else_, unless_answer_then_, _and_, _or_, within, one}
+use Rattle.theory.specs.Logic.{if_then_else_, unless_answer_then_, _and_, _or_, within, indicator}
 use Rattle.theory.specs.Bytes.{same}
 
 -- ---- cases ----
@@ -125,14 +126,23 @@ unfolding within
 outside a b n e f g = not-both _ _ e (λ q. f (leb-false a n q)) (λ q. g (leb-false n b q))
 
 -- what a count adds
-pub one-false : (t : Bool) → t ≡ false → one t ≡ 0
-unfolding one
-one-false t e = rw e
+pub indicator-false : (t : Bool) → t ≡ false → indicator t ≡ 0
+unfolding indicator
+indicator-false t e = rw e
 
-pub one-le : (t : Bool) → one t ≤ 1
-unfolding one
-one-le true = omega arith
-one-le false = omega arith
+-- the code's indicator: a bool as a byte
+pub bool-byte : (b : Bool) → boolByte b ≡ indicator b
+unfolding indicator
+bool-byte true = refl
+bool-byte false = refl
+
+pub bool-byte-is : (b d : Bool) → b ≡ d → boolByte b ≡ indicator d
+bool-byte-is b d e = rw (bool-byte b) (ap indicator e)
+
+pub indicator-le : (t : Bool) → indicator t ≤ 1
+unfolding indicator
+indicator-le true = omega arith
+indicator-le false = omega arith
 
 -- `omega tests` reads `leb a b ≡ true`, `within a b n ≡ true` and the like as facts, and proves goals of the first form
 pub ruleset tests = (arith, ltb-true, ltb-false, leb-true, leb-false, eqb-true, eqb-false, lt-ltb, le-ltb, le-leb, lt-leb, eq-eqb, ne-eqb, within-low, within-high)

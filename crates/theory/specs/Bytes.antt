@@ -7,8 +7,8 @@ use lib.ListN.{take, drop}
 use Rattle.theory.specs.Logic.{_and_}
 
 -- n bytes from a place
-abbrev pub part : ℕ → ℕ → List ℕ → List ℕ
-part at n l = take n (drop at l)
+abbrev pub bytesAt : ℕ → ℕ → List ℕ → List ℕ
+bytesAt at n l = take n (drop at l)
 
 -- the list with x written from a place; what would lie past the end is not written
 unfoldable pub put : ℕ → List ℕ → List ℕ → List ℕ

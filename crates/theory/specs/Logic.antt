@@ -30,6 +30,6 @@ unfoldable pub within : ℕ → ℕ → ℕ → Bool
 within a b n = leb a n and leb n b
 
 -- 1 where the test holds: what a count adds
-unfoldable pub one : Bool → ℕ
-one true = 1
-one false = 0
+unfoldable pub indicator : Bool → ℕ
+indicator true = 1
+indicator false = 0

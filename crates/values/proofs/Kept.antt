@@ -7,9 +7,9 @@ use borrow.Author.Tests.{lt-ltb, ltb-true, eq-eqb, eqb-true}
 use lib.Dec.{ltb, eqb}
 use lib.ListN.{length}
 use Rattle.theory.specs.Logic.{if_then_else_, _and_}
-use Rattle.theory.specs.Bytes.{part as bytesAt, put}
+use Rattle.theory.specs.Bytes.{bytesAt, put}
 use Rattle.theory.proofs.Tests.{if-cases, both, and-i}
-use Rattle.theory.proofs.Bytes.{length-put, part-before}
+use Rattle.theory.proofs.Bytes.{length-put, bytesAt-before}
 use Rattle.inventory.specs.Inventory.{rowAt, offsetOf, placeOf, onPlace}
 use Rattle.inventory.specs.declared.Place.{Place}
 use Rattle.inventory.specs.declared.Place.the-variants.{At, Absent}
@@ -45,7 +45,7 @@ module _ (q t s : ℕ) (x v : List ℕ) where
   pub stored-features : bytesAt 0 16 (stored q t s x v) ≡ bytesAt 0 16 v
   stored-features =
       stored-cases (λ w. bytesAt 0 16 w ≡ bytesAt 0 16 v) refl
-      (λ i f h l. part-before 0 16 (offsetOf i) x v (rw (offset-zero, row-zero) at (rows-apart 0 (omega arith) i (f .below) h)))
+      (λ i f h l. bytesAt-before 0 16 (offsetOf i) x v (rw (offset-zero, row-zero) at (rows-apart 0 (omega arith) i (f .below) h)))
 
 -- what no store changes no list does
 applied-keeps : {A : Type 0} (look : List ℕ → A) (q : ℕ)

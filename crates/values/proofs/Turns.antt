@@ -7,7 +7,7 @@ use native.Mathlib.Nat.{add-sub-cancel-left}
 use types.Run.{OneOf}
 use denote.Enum.Declared.{tagOf}
 use lib.ListN.{take, drop}
-use Rattle.theory.specs.Bytes.{part as bytesAt}
+use Rattle.theory.specs.Bytes.{bytesAt}
 use Rattle.parts.specs.declared.ListForm.{ListForm}
 use Rattle.parts.specs.declared.Step.{Step}
 use Rattle.parts.specs.declared.Step.the-variants as step

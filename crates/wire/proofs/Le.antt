@@ -7,8 +7,8 @@ use native.Mathlib.Numerals.{add-one}
 use native.Mathlib.Omega.{arith}
 use lib.ListN.{length, getD, take}
 use lib.Seq.{take-nil, drop-nil, drop-cons}
-use Rattle.theory.specs.Bytes.{part, put}
-use Rattle.theory.proofs.Bytes.{part-before, part-put-as}
+use Rattle.theory.specs.Bytes.{bytesAt, put}
+use Rattle.theory.proofs.Bytes.{bytesAt-before, bytesAt-put-as}
 use Rattle.wire.specs.Le.{le, bytes, number}
 
 -- ---- the bytes of a number ----
@@ -63,7 +63,7 @@ module _ (l : List ℕ) (small : (i : ℕ) → getD l i 0 < 256) where
   number-below zero at = rw number-none (omega arith)
   number-below (suc n) at = rw (number-step, pow-succ') (omega (arith, small at, number-below n (at + 1)))
 
-  pub bytes-number : (n at : ℕ) → at + n ≤ length l → bytes n (number at n l) ≡ part at n l
+  pub bytes-number : (n at : ℕ) → at + n ≤ length l → bytes n (number at n l) ≡ bytesAt at n l
   unfolding bytes
   bytes-number zero at h = refl
   bytes-number (suc n) at h =
@@ -76,8 +76,8 @@ module _ (l : List ℕ) (small : (i : ℕ) → getD l i 0 < 256) where
 
 pub number-before : (at n i : ℕ) (x l : List ℕ) → at + n ≤ i → number at n (put i x l) ≡ number at n l
 unfolding number
-number-before at n i x l h = ap le (part-before at n i x l h)
+number-before at n i x l h = ap le (bytesAt-before at n i x l h)
 
 pub number-put : (at n x : ℕ) (l : List ℕ) → at + n ≤ length l → x < 256 ^ n → number at n (put at (bytes n x) l) ≡ x
 unfolding number
-number-put at n x l h k = ap le (part-put-as at n (bytes n x) l (length-bytes n x) h) ∙ le-bytes n x k
+number-put at n x l h k = ap le (bytesAt-put-as at n (bytes n x) l (length-bytes n x) h) ∙ le-bytes n x k

@@ -1,7 +1,7 @@
 -- Little-endian numbers: document 01, "The frame", "All numbers are little-endian". Assumes nothing.
 use mathlib.Core.List.{List, [], _∷_}
 use Prim.Native.Nat.{ℕ, zero, suc, _+_, _*_, _/_, _%_}
-use Rattle.theory.specs.Bytes.{part}
+use Rattle.theory.specs.Bytes.{bytesAt}
 
 -- the number that bytes are, the lowest first
 unfoldable pub le : List ℕ → ℕ
@@ -15,4 +15,4 @@ bytes (suc n) x = x % 256 ∷ bytes n (x / 256)
 
 -- the number in n bytes from a place
 unfoldable pub number : ℕ → ℕ → List ℕ → ℕ
-number at n l = le (part at n l)
+number at n l = le (bytesAt at n l)
