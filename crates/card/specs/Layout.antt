@@ -5,13 +5,17 @@ use mathlib.Core.List.{List, _∷_, _++_}
 use Prim.Native.Nat.{ℕ, _+_, _*_, _-_, _≤_}
 use lib.ListN.{length, getD, take, drop}
 use Rattle.theory.specs.Logic.{if_then_else_, within}
-use Rattle.theory.specs.Bytes.{part, put, repeat}
+use Rattle.theory.specs.Bytes.{bytesAt, put, repeat}
 use Rattle.wire.specs.Le.{bytes, number}
 use Rattle.protocol.specs.Opcodes.{freshMask}
 use Rattle.member.specs.declared.Member.{Member}
 use Rattle.member.specs.Record.{recordSize, memberOf, recordOf}
 use Rattle.member.specs.Member.{freshOf}
 use Rattle.card.specs.declared.Setup.{Setup}
+
+-- raised whenever a card's bytes change their meaning
+abbrev pub version : ℕ
+version = 1
 
 -- header: N, Q, G, S 1 byte each, device features 16, list in use 8
 abbrev pub featuresAt : ℕ
@@ -35,7 +39,7 @@ setupIn h =
     record { members = getD h 0 0; queues = getD h 1 0; gets = getD h 2 0; sets = getD h 3 0; features = drop featuresAt h }
 
 unfoldable pub setupOf : List ℕ → Setup
-setupOf c = setupIn (part 0 inUseAt c)
+setupOf c = setupIn (bytesAt 0 inUseAt c)
 
 -- the list of commands in use
 unfoldable pub inUseOf : List ℕ → ℕ
@@ -58,7 +62,7 @@ pub record HasRecord (c : List ℕ) (m : ℕ) : Type 0 where
 
 -- the record of member m; one that is put there is cut to its place
 unfoldable pub recordIn : List ℕ → ℕ → List ℕ
-recordIn c m = part (recordAt m) recordSize c
+recordIn c m = bytesAt (recordAt m) recordSize c
 
 unfoldable pub withRecord : List ℕ → ℕ → List ℕ → List ℕ
 withRecord c m r = put (recordAt m) (take recordSize r) c

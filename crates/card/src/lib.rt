@@ -3,7 +3,7 @@ ghost use mathlib.Core.Path.{_≡_};
 ghost use Prim.Native.Nat.{_+_, _^_, _≤_, _<_};
 ghost use lib.Dec.{eqb};
 ghost use lib.ListN.{length};
-ghost use Rattle.theory.specs.Bytes.{part};
+ghost use Rattle.theory.specs.Bytes.{bytesAt};
 ghost use Rattle.protocol.specs.Opcodes.{supportedOnly};
 ghost use Rattle.member.specs.Record.{recordSize};
 ghost use Rattle.card.specs.Layout.{headSize, cardSize, cardBytes, setupOf, inUseOf, withInUse, isMember, recordAt, recordIn, HasRecord, memberIn, withMember};
@@ -20,6 +20,9 @@ pub struct Setup {
     pub sets: u8,
     pub features: [u8; FEATURES_SIZE],
 }
+
+// Raised whenever a card's bytes change their meaning.
+pub const VERSION: u32 = 1;
 
 // Header: N, Q, G, S 1 byte each, device features 16, list in use 8; then a record for each member.
 const MEMBERS_AT: usize = 0;
@@ -174,7 +177,7 @@ fn is_setup_sound(card: &[u8]) -> bool
 // Whether the record at a place is sound.
 fn is_sound_at(card: &[u8], at: usize) -> bool
     requires { ⌜ (headSize ≤ length (now card)) × (at + recordSize ≤ length (now card)) ⌝ }
-    ensures { λ r. ⌜ r ≡ soundFor (setupOf (now (card .entry))) (part at recordSize (now (card .entry))) ⌝ }
+    ensures { λ r. ⌜ r ≡ soundFor (setupOf (now (card .entry))) (bytesAt at recordSize (now (card .entry))) ⌝ }
 {
     member::is_sound_record(
         &card[at..at + RECORD_SIZE],

@@ -1,9 +1,27 @@
 // The exported functions. A card is a buffer that the caller lends; each function is a thin call, and each contract is
 // the definition of a lower crate.
 ghost use mathlib.Core.Path.{_≡_};
-ghost use Rattle.card.specs.Layout.{cardBytes};
+ghost use Rattle.theory.specs.Logic.{indicator};
+ghost use Rattle.card.specs.Layout.{version, cardBytes};
+ghost use Rattle.card.specs.Sound.{isSound};
 ghost use Rattle.events.specs.Events.{numbered, setUp, resetMember, resetCard, store};
 ghost use Rattle.admin.specs.Command.{commandOf};
+
+// Raised whenever a card's bytes change their meaning: a card that was kept is for the same version.
+#[no_mangle]
+pub extern "C" fn kajurnat_version() -> u32
+    ensures { λ r. ⌜ r ≡ version ⌝ }
+{
+    card::VERSION
+}
+
+// Whether the bytes are a sound card: 1, or 0.
+#[no_mangle]
+pub extern "C" fn kajurnat_is_sound(card: &[u8]) -> u8
+    ensures { λ r. ⌜ r ≡ indicator (isSound (now (card .entry))) ⌝ }
+{
+    card::is_sound(card) as u8
+}
 
 // The exact length of a card, 0 if members is not 1 to 16.
 #[no_mangle]
