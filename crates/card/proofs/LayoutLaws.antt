@@ -1,114 +1,109 @@
 -- The laws of the card's accessors and updaters: what is read after something was written. All above cites these and
 -- never the layout. Assumes nothing.
-use mathlib.Core.Path.{_≡_, ap, sym, _∙_}
+use mathlib.Core.Path.{_≡_, refl, ap, sym, _∙_}
 use mathlib.Core.Logic.{_≢_}
 use mathlib.Core.List.{List, _∷_, _++_, append-assoc}
 use Prim.Native.Nat.{ℕ, _+_, _*_, _-_, _^_, _≤_, _<_}
+use native.Mathlib.Nat.{add-zero}
 use native.Mathlib.Omega.{arith}
 use lib.Dec.{leb}
 use lib.ListN.{length, getD, take, drop, length-append}
-use lib.Seq.{take-take, take-all, take-at, take-add, drop-at, drop-append-add, drop-drop, length-take-le, getD-take}
+use lib.Seq.{take-all, take-at, take-add, drop-at, drop-append-add, drop-drop, length-take-le, getD-take}
 use borrow.Rule.Slice.PartMut.{putMid}
 use Rattle.theory.specs.Bytes.{bytesAt, put, repeat}
 use Rattle.theory.proofs.Tests.{by-cases, tests}
-use Rattle.theory.proofs.Bytes.{length-put, put-put, put-comm, put-bytesAt, put-out, put-eq, bytesAt-before, bytesAt-after, bytesAt-put-as, length-bytesAt, length-bytesAt-le, bytesAt-bytesAt, length-repeat, bytesAt-repeat}
+use Rattle.theory.proofs.Bytes.{length-put, put-over, put-comm, put-out, put-eq, bytesAt-before, bytesAt-after, bytesAt-put-as, length-bytesAt, length-bytesAt-le, bytesAt-bytesAt, length-repeat, bytesAt-repeat}
 use Rattle.wire.specs.Le.{le, bytes, number}
 use Rattle.wire.proofs.Le.{length-bytes, le-bytes, number-before, number-put}
 use Rattle.protocol.specs.Opcodes.{freshMask}
 use Rattle.member.specs.declared.Member.{Member}
-use Rattle.member.specs.Record.{recordSize, memberOf, recordOf}
-use Rattle.member.specs.Member.{freshOf}
-use Rattle.member.proofs.Record.{Shaped, length-record, member-back}
+use Rattle.member.specs.Record.{memberSize, memberOf, memberBytes}
+use Rattle.member.specs.Member.{featuresSize, freshOf}
+use Rattle.member.proofs.Record.{Shaped, length-member, member-back}
 use Rattle.member.proofs.Sound.{sound-fresh}
 use Rattle.card.specs.declared.Setup.{Setup}
-use Rattle.card.specs.Layout.{featuresAt, inUseAt, headSize, cardSize, setupIn, setupOf, inUseOf, withInUse, recordAt, HasRecord, recordIn, withRecord, memberIn, withMember, freshHead, freshCard}
+use Rattle.card.specs.Layout.{featuresAt, inUseAt, headerSize, memberAt, recordSize, cardSize, setupIn, setupOf, inUseOf, withInUse, recordAt, HasRecord, recordBytes, withRecordBytes, memberBytesIn, memberIn, withMember, freshRecord, withFresh, freshHeader, freshCard}
 
--- a record's bytes are as many as its place has
-uncut : (r : List ℕ) → length r ≡ recordSize → take recordSize r ≡ r
-uncut r e = take-all recordSize r (omega arith)
+-- ---- bytes of a record ----
 
-cut : (r : List ℕ) → length (take recordSize r) ≤ recordSize
-cut r = length-bytesAt-le 0 recordSize r
+-- bytes that are as many as their place has are not cut
+uncut : (n : ℕ) (x : List ℕ) → length x ≡ n → take n x ≡ x
+uncut n x e = take-all n x (omega arith)
 
--- ---- a member's record ----
+cut : (n : ℕ) (x : List ℕ) → length (take n x) ≤ n
+cut n x = length-bytesAt-le 0 n x
 
 -- members 1 to N of a card of the right length
 pub has-record : (c : List ℕ) (m : ℕ) → length c ≡ cardSize (setupOf c .members) → 1 ≤ m → m ≤ setupOf c .members → HasRecord c m
 has-record c m e l h = record { low = l; high = omega arith }
 
-pub has-head : (c : List ℕ) (m : ℕ) → HasRecord c m → headSize ≤ length c
-has-head c m h = omega (arith, h .high)
+pub has-header : (c : List ℕ) (m : ℕ) → HasRecord c m → headerSize ≤ length c
+has-header c m h = omega (arith, h .high)
 
-pub record-long : (c : List ℕ) (m : ℕ) → HasRecord c m → length (recordIn c m) ≡ recordSize
-unfolding recordIn
-record-long c m h = length-bytesAt (recordAt m) recordSize c (h .high)
+pub bytes-long : (c : List ℕ) (m at n : ℕ) → HasRecord c m → at + n ≤ recordSize → length (recordBytes c m at n) ≡ n
+unfolding recordBytes
+bytes-long c m at n h i = length-bytesAt (recordAt m + at) n c (omega (arith, h .high))
 
--- to put what is there changes nothing
-pub record-back : (c : List ℕ) (m : ℕ) → withRecord c m (recordIn c m) ≡ c
-unfolding withRecord recordIn
-record-back c m = rw (take-take recordSize recordSize (drop (recordAt m) c) (omega arith)) (put-bytesAt (recordAt m) recordSize c)
+module _ (c : List ℕ) (m at n : ℕ) (x : List ℕ) where
+  pub length-with-bytes : length (withRecordBytes c m at n x) ≡ length c
+  unfolding withRecordBytes
+  length-with-bytes = length-put (recordAt m + at) (take n x) c
 
-module _ (c : List ℕ) (m : ℕ) (r : List ℕ) where
-  pub length-with-record : length (withRecord c m r) ≡ length c
-  unfolding withRecord
-  length-with-record = length-put (recordAt m) (take recordSize r) c
+  pub setup-with-bytes : setupOf (withRecordBytes c m at n x) ≡ setupOf c
+  unfolding withRecordBytes setupOf
+  setup-with-bytes = ap setupIn (bytesAt-before 0 inUseAt (recordAt m + at) (take n x) c (omega arith))
 
-  pub setup-with-record : setupOf (withRecord c m r) ≡ setupOf c
-  unfolding withRecord setupOf
-  setup-with-record = ap setupIn (bytesAt-before 0 inUseAt (recordAt m) (take recordSize r) c (omega arith))
-
-  pub use-with-record : inUseOf (withRecord c m r) ≡ inUseOf c
-  unfolding withRecord inUseOf
-  use-with-record = number-before inUseAt 8 (recordAt m) (take recordSize r) c (omega arith)
+  pub use-with-bytes : inUseOf (withRecordBytes c m at n x) ≡ inUseOf c
+  unfolding withRecordBytes inUseOf
+  use-with-bytes = number-before inUseAt 8 (recordAt m + at) (take n x) c (omega arith)
 
   -- what is put there is there
-  pub record-same : HasRecord c m → length r ≡ recordSize → recordIn (withRecord c m r) m ≡ r
-  unfolding withRecord recordIn
-  record-same h e = rw (uncut r e) (bytesAt-put-as (recordAt m) recordSize r c e (h .high))
+  pub bytes-same : HasRecord c m → at + n ≤ recordSize → length x ≡ n → recordBytes (withRecordBytes c m at n x) m at n ≡ x
+  unfolding withRecordBytes recordBytes
+  bytes-same h i e = rw (uncut n x e) (bytesAt-put-as (recordAt m + at) n x c e (omega (arith, h .high)))
 
-  -- no other member's record is touched
-  pub record-other : (k : ℕ) → 1 ≤ m → 1 ≤ k → k ≢ m → recordIn (withRecord c m r) k ≡ recordIn c k
-  unfolding withRecord recordIn
-  record-other k l h n =
-      let w = cut r in
-      by-cases (leb k m)
-      (λ e. bytesAt-before (recordAt k) recordSize (recordAt m) (take recordSize r) c (omega tests))
-      (λ e. bytesAt-after (recordAt k) recordSize (recordAt m) (take recordSize r) c (omega tests))
-
-  -- the last record that is put stands
-  pub record-over : (q : List ℕ) → length q ≡ recordSize → withRecord (withRecord c m r) m q ≡ withRecord c m q
-  unfolding withRecord
-  record-over q e = let w = cut r in rw (uncut q e) (put-put (recordAt m) (take recordSize r) q c (omega arith))
-
-  -- records of two members, in either order
-  pub record-swap : (k : ℕ) (q : List ℕ) → 1 ≤ m → 1 ≤ k → k ≢ m → withRecord (withRecord c m r) k q ≡ withRecord (withRecord c k q) m r
-  unfolding withRecord
-  record-swap k q l h n =
-      let w = cut r in
-      let v = cut q in
-      by-cases (leb k m)
-      (λ e. put-comm (recordAt k) (take recordSize q) (recordAt m) (take recordSize r) c (omega tests))
-      (λ e. sym (put-comm (recordAt m) (take recordSize r) (recordAt k) (take recordSize q) c (omega tests)))
+  -- and is covered by what is put over it
+  pub bytes-over : (p k : ℕ) (y : List ℕ) → p ≤ at → at + n ≤ p + k → length y ≡ k
+      → withRecordBytes (withRecordBytes c m at n x) m p k y ≡ withRecordBytes c m p k y
+  unfolding withRecordBytes
+  bytes-over p k y h i e = let w = cut n x in rw (uncut k y e) (put-over (recordAt m + p) (recordAt m + at) (take n x) y c (omega arith) (omega arith))
 
   -- there is no member m
-  pub record-none : length c ≡ cardSize (setupOf c .members) → setupOf c .members < m → withRecord c m r ≡ c
-  unfolding withRecord
-  record-none e h = put-out (recordAt m) (take recordSize r) c (omega arith)
+  pub bytes-none : length c ≡ cardSize (setupOf c .members) → setupOf c .members < m → withRecordBytes c m at n x ≡ c
+  unfolding withRecordBytes
+  bytes-none e h = put-out (recordAt m + at) (take n x) c (omega arith)
+
+  module _ (fits : at + n ≤ recordSize) (low : 1 ≤ m) where
+    -- no other member's record is touched
+    pub bytes-other : (k p j : ℕ) → p + j ≤ recordSize → 1 ≤ k → k ≢ m → recordBytes (withRecordBytes c m at n x) k p j ≡ recordBytes c k p j
+    unfolding withRecordBytes recordBytes
+    bytes-other k p j i h e =
+        let w = cut n x in
+        by-cases (leb k m)
+        (λ t. bytesAt-before (recordAt k + p) j (recordAt m + at) (take n x) c (omega tests))
+        (λ t. bytesAt-after (recordAt k + p) j (recordAt m + at) (take n x) c (omega tests))
+
+    -- bytes of two members' records, in either order
+    pub bytes-swap : (k p j : ℕ) (y : List ℕ) → p + j ≤ recordSize → 1 ≤ k → k ≢ m
+        → withRecordBytes (withRecordBytes c m at n x) k p j y ≡ withRecordBytes (withRecordBytes c k p j y) m at n x
+    unfolding withRecordBytes
+    bytes-swap k p j y i h e =
+        let w = cut n x in
+        let v = cut j y in
+        by-cases (leb k m)
+        (λ t. put-comm (recordAt k + p) (take j y) (recordAt m + at) (take n x) c (omega tests))
+        (λ t. sym (put-comm (recordAt m + at) (take n x) (recordAt k + p) (take j y) c (omega tests)))
 
   -- byte by byte
-  pub record-eq : HasRecord c m → length r ≡ recordSize → withRecord c m r ≡ take (recordAt m) c ++ (r ++ drop (recordAt m + recordSize) c)
-  unfolding withRecord
-  record-eq h e = rw (uncut r e) (rw e at (put-eq (recordAt m) r c (omega arith)))
+  pub bytes-eq : HasRecord c m → at + n ≤ recordSize → length x ≡ n
+      → withRecordBytes c m at n x ≡ take (recordAt m + at) c ++ (x ++ drop (recordAt m + at + n) c)
+  unfolding withRecordBytes
+  bytes-eq h i e = rw (uncut n x e) (rw e at (put-eq (recordAt m + at) x c (omega (arith, h .high))))
 
-  -- as code leaves it that stores r from the record's place on
-  pub record-put : length r ≡ recordSize → put (recordAt m) r c ≡ withRecord c m r
-  unfolding withRecord
-  record-put e = rw (uncut r e)
-
-  -- as code leaves it that lends the record's place, n bytes, and gets r back
-  pub record-lent : (n : ℕ) (last : List ℕ) → n ≡ recordSize → last ≡ r → length r ≡ recordSize → HasRecord c m
-      → putMid (recordAt m) n c last ≡ withRecord c m r
-  record-lent n last k q e h = rw (k, q, drop-drop recordSize (recordAt m) c) (sym (record-eq h e))
+  -- as code leaves it that lends k bytes there and gets x back
+  pub bytes-lent : (p k : ℕ) (last : List ℕ) → p ≡ recordAt m + at → k ≡ n → last ≡ x → length x ≡ n → at + n ≤ recordSize → HasRecord c m
+      → putMid p k c last ≡ withRecordBytes c m at n x
+  bytes-lent p k last d j q e i h = rw (d, j, q, drop-drop n (recordAt m + at) c) (sym (bytes-eq h i e))
 
 -- ---- the list in use ----
 
@@ -121,21 +116,21 @@ module _ (c : List ℕ) (mask : ℕ) where
   unfolding withInUse setupOf
   setup-with-use = ap setupIn (bytesAt-before 0 inUseAt inUseAt (bytes 8 mask) c (omega arith))
 
-  pub record-with-use : (m : ℕ) → recordIn (withInUse c mask) m ≡ recordIn c m
-  unfolding withInUse recordIn
-  record-with-use m =
-      let n = length-bytes 8 mask in
-      bytesAt-after (recordAt m) recordSize inUseAt (bytes 8 mask) c (omega arith)
+  pub bytes-with-use : (m at n : ℕ) → recordBytes (withInUse c mask) m at n ≡ recordBytes c m at n
+  unfolding withInUse recordBytes
+  bytes-with-use m at n =
+      let l = length-bytes 8 mask in
+      bytesAt-after (recordAt m + at) n inUseAt (bytes 8 mask) c (omega arith)
 
-  pub use-same : headSize ≤ length c → mask < 256 ^ 8 → inUseOf (withInUse c mask) ≡ mask
+  pub use-same : headerSize ≤ length c → mask < 256 ^ 8 → inUseOf (withInUse c mask) ≡ mask
   unfolding withInUse inUseOf
   use-same h l = number-put inUseAt 8 mask c h l
 
-  pub use-swap : (m : ℕ) (r : List ℕ) → withInUse (withRecord c m r) mask ≡ withRecord (withInUse c mask) m r
-  unfolding withInUse withRecord
-  use-swap m r =
-      let n = length-bytes 8 mask in
-      put-comm inUseAt (bytes 8 mask) (recordAt m) (take recordSize r) c (omega arith)
+  pub use-swap : (m at n : ℕ) (x : List ℕ) → withInUse (withRecordBytes c m at n x) mask ≡ withRecordBytes (withInUse c mask) m at n x
+  unfolding withInUse withRecordBytes
+  use-swap m at n x =
+      let l = length-bytes 8 mask in
+      put-comm inUseAt (bytes 8 mask) (recordAt m + at) (take n x) c (omega arith)
 
 -- ---- the setup ----
 
@@ -160,18 +155,18 @@ module _ (c : List ℕ) where
   unfolding setupOf setupIn
   sets-read = number-read 3 (omega arith)
 
-  pub features-read : inUseAt ≤ length c → bytesAt featuresAt 16 c ≡ setupOf c .features
+  pub features-read : inUseAt ≤ length c → bytesAt featuresAt featuresSize c ≡ setupOf c .features
   unfolding setupOf setupIn
   features-read h =
-      sym (ap (drop featuresAt) (take-add featuresAt 16 c)
-      ∙ drop-at (take featuresAt c) (bytesAt featuresAt 16 c) featuresAt (length-take-le featuresAt c (omega arith)))
+      sym (ap (drop featuresAt) (take-add featuresAt featuresSize c)
+      ∙ drop-at (take featuresAt c) (bytesAt featuresAt featuresSize c) featuresAt (length-take-le featuresAt c (omega arith)))
 
   pub setup-read : inUseAt ≤ length c
-      → record { members = getD c 0 0; queues = getD c 1 0; gets = getD c 2 0; sets = getD c 3 0; features = bytesAt featuresAt 16 c } ≡ setupOf c
+      → record { members = getD c 0 0; queues = getD c 1 0; gets = getD c 2 0; sets = getD c 3 0; features = bytesAt featuresAt featuresSize c } ≡ setupOf c
   setup-read h = rw (members-read, queues-read, gets-read, sets-read, features-read h)
 
-pub features-long : (c : List ℕ) → inUseAt ≤ length c → length (setupOf c .features) ≡ 16
-features-long c h = rw (← features-read c h) (length-bytesAt featuresAt 16 c h)
+pub features-long : (c : List ℕ) → inUseAt ≤ length c → length (setupOf c .features) ≡ featuresSize
+features-long c h = rw (← features-read c h) (length-bytesAt featuresAt featuresSize c h)
 
 -- the same bytes before a record hold the same setup
 pub same-setup : (c d : List ℕ) (m : ℕ) → take (recordAt m) c ≡ take (recordAt m) d → setupOf c ≡ setupOf d
@@ -190,79 +185,140 @@ module _ (h : List ℕ) (mask : ℕ) (q : List ℕ) (e : length h ≡ inUseAt) w
   use-laid : bytesAt inUseAt 8 (h ++ (bytes 8 mask ++ q)) ≡ bytes 8 mask
   use-laid = rw (drop-at h (bytes 8 mask ++ q) inUseAt e) (take-at (bytes 8 mask) q 8 (length-bytes 8 mask))
 
-  records-laid : (j n : ℕ) → bytesAt (headSize + j) n (h ++ (bytes 8 mask ++ q)) ≡ bytesAt j n q
+  records-laid : (j n : ℕ) → bytesAt (headerSize + j) n (h ++ (bytes 8 mask ++ q)) ≡ bytesAt j n q
   records-laid j n =
       let f = length-bytes 8 mask in
-      let k : headSize + j ≡ length h + (length (bytes 8 mask) + j) = omega arith in
+      let k : headerSize + j ≡ length h + (length (bytes 8 mask) + j) = omega arith in
       rw (k, drop-append-add h (bytes 8 mask ++ q) (length (bytes 8 mask) + j), drop-append-add (bytes 8 mask) q j)
 
-unfoldable headOf : Setup → List ℕ
-headOf s = s .members ∷ s .queues ∷ s .gets ∷ s .sets ∷ s .features
+unfoldable numbersOf : Setup → List ℕ
+numbersOf s = s .members ∷ s .queues ∷ s .gets ∷ s .sets ∷ s .features
 
 unfoldable recordsOf : Setup → List ℕ
-recordsOf s = repeat (s .members) (recordOf (freshOf (s .features)))
+recordsOf s = repeat (s .members) (freshRecord (s .features))
 
-fresh-laid : (s : Setup) → freshCard s ≡ headOf s ++ (bytes 8 freshMask ++ recordsOf s)
-unfolding freshCard freshHead headOf recordsOf
-fresh-laid s = append-assoc (headOf s) (bytes 8 freshMask) (recordsOf s)
+fresh-laid : (s : Setup) → freshCard s ≡ numbersOf s ++ (bytes 8 freshMask ++ recordsOf s)
+unfolding freshCard freshHeader numbersOf recordsOf
+fresh-laid s = append-assoc (numbersOf s) (bytes 8 freshMask) (recordsOf s)
 
-module _ (s : Setup) (e : length (s .features) ≡ 16) where
-  pub fresh-long : length (recordOf (freshOf (s .features))) ≡ recordSize
-  fresh-long = length-record _ (sound-fresh 0 0 (s .features) e .shaped)
+-- f is the device features
+module _ (f : List ℕ) (e : length f ≡ featuresSize) where
+  pub fresh-shaped : Shaped (freshOf f)
+  fresh-shaped = sound-fresh 0 0 f e .shaped
 
-  head-long : length (headOf s) ≡ inUseAt
-  unfolding headOf
-  head-long = rw e
+  pub fresh-record-long : length (freshRecord f) ≡ recordSize
+  unfolding freshRecord
+  fresh-record-long = length-member _ fresh-shaped
+
+  -- its front is the member's
+  fresh-front : bytesAt memberAt memberSize (freshRecord f) ≡ memberBytes (freshOf f)
+  unfolding freshRecord
+  fresh-front = take-all memberSize _ (omega (arith, length-member _ fresh-shaped))
+
+module _ (s : Setup) (e : length (s .features) ≡ featuresSize) where
+  numbers-long : length (numbersOf s) ≡ inUseAt
+  unfolding numbersOf
+  numbers-long = rw e
 
   pub length-fresh : length (freshCard s) ≡ cardSize (s .members)
-  unfolding headOf recordsOf
+  unfolding recordsOf
   length-fresh =
       let n = length-bytes 8 freshMask in
-      let f = length-repeat (s .members) recordSize (recordOf (freshOf (s .features))) fresh-long in
-      rw (fresh-laid s, length-append, length-append) (omega arith)
+      let f = length-repeat (s .members) recordSize (freshRecord (s .features)) (fresh-record-long (s .features) e) in
+      rw (fresh-laid s, length-append, length-append) (omega (arith, numbers-long))
 
   pub setup-fresh : setupOf (freshCard s) ≡ s
-  unfolding setupOf setupIn headOf
-  setup-fresh = rw (fresh-laid s) (ap setupIn (setup-laid (headOf s) freshMask (recordsOf s) head-long))
+  unfolding setupOf setupIn numbersOf
+  setup-fresh = rw (fresh-laid s) (ap setupIn (setup-laid (numbersOf s) freshMask (recordsOf s) numbers-long))
 
   pub use-fresh : inUseOf (freshCard s) ≡ freshMask
   unfolding inUseOf number
-  use-fresh = rw (fresh-laid s) (ap le (use-laid (headOf s) freshMask (recordsOf s) head-long) ∙ le-bytes 8 freshMask (omega arith))
+  use-fresh = rw (fresh-laid s) (ap le (use-laid (numbersOf s) freshMask (recordsOf s) numbers-long) ∙ le-bytes 8 freshMask (omega arith))
 
-  pub record-fresh : (m : ℕ) → 1 ≤ m → m ≤ s .members → recordIn (freshCard s) m ≡ recordOf (freshOf (s .features))
-  unfolding recordIn recordsOf
+  record-fresh : (m : ℕ) → 1 ≤ m → m ≤ s .members → bytesAt (recordAt m) recordSize (freshCard s) ≡ freshRecord (s .features)
+  unfolding recordsOf
   record-fresh m l h =
       rw (fresh-laid s)
-      (records-laid (headOf s) freshMask (recordsOf s) head-long (recordSize * (m - 1)) recordSize
-      ∙ bytesAt-repeat (s .members) recordSize (m - 1) (recordOf (freshOf (s .features))) fresh-long (omega arith))
+      (records-laid (numbersOf s) freshMask (recordsOf s) numbers-long (recordSize * (m - 1)) recordSize
+      ∙ bytesAt-repeat (s .members) recordSize (m - 1) (freshRecord (s .features)) (fresh-record-long (s .features) e) (omega arith))
+
+  pub member-bytes-fresh : (m : ℕ) → 1 ≤ m → m ≤ s .members → memberBytesIn (freshCard s) m ≡ memberBytes (freshOf (s .features))
+  unfolding recordBytes
+  member-bytes-fresh m l h =
+      sym (bytesAt-bytesAt memberAt memberSize (recordAt m) recordSize (freshCard s) (omega arith))
+      ∙ ap (bytesAt memberAt memberSize) (record-fresh m l h)
+      ∙ fresh-front (s .features) e
 
 -- ---- a member ----
 
 module _ (c : List ℕ) (m : ℕ) (x : Member) where
   pub length-with-member : length (withMember c m x) ≡ length c
   unfolding withMember
-  length-with-member = length-with-record c m (recordOf x)
+  length-with-member = length-with-bytes c m memberAt memberSize (memberBytes x)
 
   pub setup-with-member : setupOf (withMember c m x) ≡ setupOf c
   unfolding withMember
-  setup-with-member = setup-with-record c m (recordOf x)
+  setup-with-member = setup-with-bytes c m memberAt memberSize (memberBytes x)
 
   pub use-with-member : inUseOf (withMember c m x) ≡ inUseOf c
   unfolding withMember
-  use-with-member = use-with-record c m (recordOf x)
-
-  pub member-other : (k : ℕ) → 1 ≤ m → 1 ≤ k → k ≢ m → memberIn (withMember c m x) k ≡ memberIn c k
-  unfolding withMember memberIn
-  member-other k l h n = ap memberOf (record-other c m (recordOf x) k l h n)
+  use-with-member = use-with-bytes c m memberAt memberSize (memberBytes x)
 
   pub member-same : HasRecord c m → Shaped x → memberIn (withMember c m x) m ≡ x
   unfolding withMember memberIn
-  member-same h s = ap memberOf (record-same c m (recordOf x) h (length-record x s)) ∙ member-back x s
+  member-same h s = ap memberOf (bytes-same c m memberAt memberSize (memberBytes x) h (omega arith) (length-member x s)) ∙ member-back x s
 
-  pub member-over : (y : Member) → Shaped y → withMember (withMember c m x) m y ≡ withMember c m y
-  unfolding withMember
-  member-over y s = record-over c m (recordOf x) (recordOf y) (length-record y s)
+-- ---- a fresh record ----
 
-  pub member-swap : (k : ℕ) (y : Member) → 1 ≤ m → 1 ≤ k → k ≢ m → withMember (withMember c m x) k y ≡ withMember (withMember c k y) m x
-  unfolding withMember
-  member-swap k y l h n = record-swap c m (recordOf x) k (recordOf y) l h n
+module _ (c : List ℕ) (m : ℕ) (f : List ℕ) where
+  pub length-with-fresh : length (withFresh c m f) ≡ length c
+  unfolding withFresh
+  length-with-fresh = length-with-bytes c m 0 recordSize (freshRecord f)
+
+  pub setup-with-fresh : setupOf (withFresh c m f) ≡ setupOf c
+  unfolding withFresh
+  setup-with-fresh = setup-with-bytes c m 0 recordSize (freshRecord f)
+
+  pub use-with-fresh : inUseOf (withFresh c m f) ≡ inUseOf c
+  unfolding withFresh
+  use-with-fresh = use-with-bytes c m 0 recordSize (freshRecord f)
+
+  -- another member is as it was
+  pub fresh-other : (k : ℕ) → 1 ≤ m → 1 ≤ k → k ≢ m → memberIn (withFresh c m f) k ≡ memberIn c k
+  unfolding withFresh memberIn
+  fresh-other k l h n = ap memberOf (bytes-other c m 0 recordSize (freshRecord f) (omega arith) l k memberAt memberSize (omega arith) h n)
+
+  -- bytes of another record, and the list in use, are put in either order
+  pub fresh-swap : (k at n : ℕ) (x : List ℕ) → 1 ≤ m → at + n ≤ recordSize → 1 ≤ k → k ≢ m
+      → withRecordBytes (withFresh c m f) k at n x ≡ withFresh (withRecordBytes c k at n x) m f
+  unfolding withFresh
+  fresh-swap k at n x l i h e = bytes-swap c m 0 recordSize (freshRecord f) (omega arith) l k at n x i h e
+
+  pub fresh-use : (mask : ℕ) → withInUse (withFresh c m f) mask ≡ withFresh (withInUse c mask) m f
+  unfolding withFresh
+  fresh-use mask = use-swap c mask m 0 recordSize (freshRecord f)
+
+  pub fresh-none : length c ≡ cardSize (setupOf c .members) → setupOf c .members < m → withFresh c m f ≡ c
+  unfolding withFresh
+  fresh-none e h = bytes-none c m 0 recordSize (freshRecord f) e h
+
+  module _ (e : length f ≡ featuresSize) where
+    -- whatever was put in the record is covered
+    pub fresh-over : (at n : ℕ) (x : List ℕ) → at + n ≤ recordSize → withFresh (withRecordBytes c m at n x) m f ≡ withFresh c m f
+    unfolding withFresh
+    fresh-over at n x i = bytes-over c m at n x 0 recordSize (freshRecord f) (omega arith) (omega arith) (fresh-record-long f e)
+
+    -- byte by byte
+    pub fresh-eq : HasRecord c m → withFresh c m f ≡ take (recordAt m) c ++ (freshRecord f ++ drop (recordAt m + recordSize) c)
+    unfolding withFresh
+    fresh-eq h = rw add-zero at (bytes-eq c m 0 recordSize (freshRecord f) h (omega arith) (fresh-record-long f e))
+
+    -- as code leaves it that stores a fresh record from its place on
+    pub fresh-put : put (recordAt m) (freshRecord f) c ≡ withFresh c m f
+    unfolding withFresh withRecordBytes
+    fresh-put = rw (uncut recordSize (freshRecord f) (fresh-record-long f e), add-zero)
+
+-- as code leaves it that saves a fresh member
+pub fresh-is-member : (c : List ℕ) (m : ℕ) (f : List ℕ) → withFresh c m f ≡ withMember c m (freshOf f)
+unfolding withFresh withMember freshRecord
+fresh-is-member c m f = refl

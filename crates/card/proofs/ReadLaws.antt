@@ -4,7 +4,7 @@ use mathlib.Core.Path.{_≡_, refl, sym, _∙_}
 use mathlib.Core.Bool.{Bool, true, false, not}
 use mathlib.Core.List.{List}
 use Prim.Native.Nat.{ℕ, zero, suc, _+_, _*_, _-_, _≤_, _<_}
-use native.Mathlib.Nat.{add-sub-cancel-left}
+use native.Mathlib.Nat.{add-sub-cancel-left, add-zero}
 use native.Mathlib.Omega.{arith}
 use borrow.Author.Tests.{not-true, not-false, eqb-true, ne-eqb}
 use lib.Dec.{leb, eqb}
@@ -15,20 +15,21 @@ use Rattle.theory.proofs.Tests.{true-and, false-and}
 use Rattle.theory.proofs.Bytes.{length-bytesAt, put-all}
 use Rattle.theory.proofs.Ladder.{last-end}
 use Rattle.member.specs.declared.Member.{Member}
-use Rattle.member.specs.Record.{recordSize, memberOf}
+use Rattle.member.specs.Record.{memberSize, memberOf}
+use Rattle.member.specs.Member.{featuresSize}
 use Rattle.member.specs.Sound.{soundRecord}
 use Rattle.card.specs.declared.Setup.{Setup}
-use Rattle.card.specs.Layout.{featuresAt, headSize, cardSize, setupOf, isMember, recordAt, HasRecord, recordIn, memberIn}
+use Rattle.card.specs.Layout.{featuresAt, headerSize, memberAt, recordSize, cardSize, setupOf, isMember, recordAt, HasRecord, recordBytes, memberBytesIn, memberIn}
 use Rattle.card.specs.Sound.{inNumbers, soundSetup, soundFor, soundUpTo}
-use Rattle.card.proofs.LayoutLaws.{record-long, setup-read, members-read, queues-read, gets-read, sets-read, features-read}
+use Rattle.card.proofs.LayoutLaws.{bytes-long, setup-read, members-read, queues-read, gets-read, sets-read, features-read}
 
 -- ---- the header ----
 
 -- the features were copied into l
-pub setup-copied : (c f l : List ℕ) → headSize ≤ length c → length l ≡ 16 → f ≡ put 0 (bytesAt featuresAt 16 c) l
+pub setup-copied : (c f l : List ℕ) → headerSize ≤ length c → length l ≡ featuresSize → f ≡ put 0 (bytesAt featuresAt featuresSize c) l
     → record { members = getD c 0 0; queues = getD c 1 0; gets = getD c 2 0; sets = getD c 3 0; features = f } ≡ setupOf c
 setup-copied c f l h n e =
-    rw (e, put-all (bytesAt featuresAt 16 c) l (length-bytesAt featuresAt 16 c (omega arith) ∙ sym n)) (setup-read c (omega arith))
+    rw (e, put-all (bytesAt featuresAt featuresSize c) l (length-bytesAt featuresAt featuresSize c (omega arith) ∙ sym n)) (setup-read c (omega arith))
 
 -- n is the card's first byte
 module _ (c : List ℕ) (n : ℕ) (e : n ≡ getD c 0 0) where
@@ -39,11 +40,11 @@ module _ (c : List ℕ) (n : ℕ) (e : n ≡ getD c 0 0) where
   pub member-high : (m : ℕ) → 1 ≤ m → leb m n ≡ isMember c m
   member-high m h = rw is-members (last-end 1 (setupOf c .members) m h)
 
-  pub length-tested : eqb (length c) (headSize + recordSize * n) ≡ eqb (length c) (cardSize (setupOf c .members))
+  pub length-tested : eqb (length c) (headerSize + recordSize * n) ≡ eqb (length c) (cardSize (setupOf c .members))
   length-tested = rw is-members
 
 -- a card without a header is too short
-pub length-short : (c : List ℕ) → length c < headSize → false ≡ eqb (length c) (cardSize (setupOf c .members))
+pub length-short : (c : List ℕ) → length c < headerSize → false ≡ eqb (length c) (cardSize (setupOf c .members))
 length-short c h = sym (ne-eqb (length c) (cardSize (setupOf c .members)) (λ e. omega arith))
 
 pub numbers-tested : (c : List ℕ) (n q g s : ℕ) (t : Bool) → n ≡ getD c 0 0 → q ≡ getD c 1 0 → g ≡ getD c 2 0 → s ≡ getD c 3 0
@@ -51,33 +52,33 @@ pub numbers-tested : (c : List ℕ) (n q g s : ℕ) (t : Bool) → n ≡ getD c 
 unfolding soundSetup
 numbers-tested c n q g s t a b d e f = f ∙ rw (a, b, d, e, members-read c, queues-read c, gets-read c, sets-read c)
 
--- ---- a member's record, from its place ----
+-- ---- a member's bytes, from the place of its record ----
 
 module _ (c : List ℕ) (m : ℕ) where
-  pub record-lent : (at : ℕ) → at ≡ recordAt m → bytesAt at (at + recordSize - at) c ≡ recordIn c m
-  unfolding recordIn
-  record-lent at e = rw (e, add-sub-cancel-left (recordAt m) recordSize)
+  pub member-lent : (at : ℕ) → at ≡ recordAt m → bytesAt at (at + memberSize - at) c ≡ memberBytesIn c m
+  unfolding recordBytes
+  member-lent at e = rw (e, add-sub-cancel-left (recordAt m) memberSize, add-zero)
 
-  module _ (r : List ℕ) (e : r ≡ recordIn c m) where
-    pub lent-long : HasRecord c m → length r ≡ recordSize
-    lent-long h = rw e (record-long c m h)
+  module _ (r : List ℕ) (e : r ≡ memberBytesIn c m) where
+    pub lent-long : HasRecord c m → length r ≡ memberSize
+    lent-long h = rw e (bytes-long c m memberAt memberSize h (omega arith))
 
     pub member-loaded : (x : Member) → x ≡ memberOf r → x ≡ memberIn c m
     unfolding memberIn
     member-loaded x q = q ∙ rw e
 
--- a record from any place
+-- from any place
 module _ (c : List ℕ) (at : ℕ) where
-  pub place-long : at + recordSize ≤ length c → length (bytesAt at (at + recordSize - at) c) ≡ recordSize
-  place-long h = rw add-sub-cancel-left (length-bytesAt at recordSize c h)
+  pub place-long : at + memberSize ≤ length c → length (bytesAt at (at + memberSize - at) c) ≡ memberSize
+  place-long h = rw add-sub-cancel-left (length-bytesAt at memberSize c h)
 
-  pub place-tested : (t : Bool) → headSize ≤ length c
-      → t ≡ soundRecord (getD c 2 0) (getD c 3 0) (bytesAt featuresAt 16 c) (bytesAt at (at + recordSize - at) c) → t ≡ soundFor (setupOf c) (bytesAt at recordSize c)
-  place-tested t h q = q ∙ rw (add-sub-cancel-left at recordSize, gets-read c, sets-read c, features-read c (omega arith))
+  pub place-tested : (t : Bool) → headerSize ≤ length c
+      → t ≡ soundRecord (getD c 2 0) (getD c 3 0) (bytesAt featuresAt featuresSize c) (bytesAt at (at + memberSize - at) c) → t ≡ soundFor (setupOf c) (bytesAt at memberSize c)
+  place-tested t h q = q ∙ rw (add-sub-cancel-left at memberSize, gets-read c, sets-read c, features-read c (omega arith))
 
 -- ---- the pass over the members ----
 
-sound-step : (s : Setup) (c : List ℕ) (m : ℕ) → 0 < m → soundUpTo s c m ≡ soundFor s (recordIn c m) and soundUpTo s c (m - 1)
+sound-step : (s : Setup) (c : List ℕ) (m : ℕ) → 0 < m → soundUpTo s c m ≡ soundFor s (memberBytesIn c m) and soundUpTo s c (m - 1)
 unfolding soundUpTo
 sound-step s c zero h = absurd (omega arith)
 sound-step s c (suc m) h = let e : suc m - 1 ≡ m = omega arith in rw e
@@ -86,7 +87,7 @@ sound-step s c (suc m) h = let e : suc m - 1 ≡ m = omega arith in rw e
 pub record Checked (c : List ℕ) (m at : ℕ) : Type 0 where
   pub long : length c ≡ cardSize (setupOf c .members)
   pub high : m ≤ setupOf c .members
-  pub place : at ≡ headSize + recordSize * m
+  pub place : at ≡ headerSize + recordSize * m
   pub whole : soundUpTo (setupOf c) c (setupOf c .members) ≡ soundUpTo (setupOf c) c m
 
 pub checked-start : (c : List ℕ) (m : ℕ) → length c ≡ cardSize (setupOf c .members) → m ≡ getD c 0 0 → Checked c m (length c)
@@ -97,16 +98,16 @@ module _ (c : List ℕ) (m at : ℕ) (k : Checked c m at) where
     pub step-back : recordSize ≤ at
     step-back = let p = k .place in omega arith
 
-    pub step-head : headSize ≤ length c
+    pub step-head : headerSize ≤ length c
     step-head = let l = k .long in omega arith
 
-    pub step-fits : at - recordSize + recordSize ≤ length c
+    pub step-fits : at - recordSize + memberSize ≤ length c
     step-fits = let p = k .place in let l = k .long in let b = k .high in omega arith
 
-    module _ (t : Bool) (e : t ≡ soundFor (setupOf c) (bytesAt (at - recordSize) recordSize c)) where
-      is-member : t ≡ soundFor (setupOf c) (recordIn c m)
-      unfolding recordIn
-      is-member = let p : at - recordSize ≡ recordAt m = (let q = k .place in omega arith) in e ∙ rw p
+    module _ (t : Bool) (e : t ≡ soundFor (setupOf c) (bytesAt (at - recordSize) memberSize c)) where
+      is-member : t ≡ soundFor (setupOf c) (memberBytesIn c m)
+      unfolding recordBytes
+      is-member = let p : at - recordSize ≡ recordAt m = (let q = k .place in omega arith) in e ∙ rw (p, add-zero)
 
       pub checked-stop : not t ≡ true → false ≡ soundUpTo (setupOf c) c (setupOf c .members)
       checked-stop n = sym (k .whole ∙ sound-step _ c m h ∙ rw (sym is-member ∙ not-true t n) (false-and _))
@@ -128,5 +129,5 @@ module _ (c : List ℕ) (t : Bool) (n : not t ≡ false) (e : t ≡ eqb (length 
   pub long-as-said : length c ≡ cardSize (setupOf c .members)
   long-as-said = eqb-true _ _ (sym e ∙ not-false t n)
 
-  pub long-enough : headSize ≤ length c
+  pub long-enough : headerSize ≤ length c
   long-enough = let l = long-as-said in omega arith

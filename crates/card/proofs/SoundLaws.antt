@@ -2,7 +2,7 @@
 use mathlib.Core.Path.{_≡_, refl}
 use mathlib.Core.Bool.{true}
 use mathlib.Core.List.{List}
-use Prim.Native.Nat.{ℕ, zero, suc, _≤_}
+use Prim.Native.Nat.{ℕ, zero, suc, _+_, _≤_}
 use native.Mathlib.Omega.{arith}
 use lib.Dec.{eqb}
 use lib.ListN.{length}
@@ -11,13 +11,14 @@ use Rattle.theory.proofs.Tests.{by-cases, both, and-i, inside, within-low, with
 use Rattle.protocol.specs.Opcodes.{supportedOnly}
 use Rattle.protocol.proofs.Masks.{mask-fits, fresh-only}
 use Rattle.member.specs.declared.Member.{Member}
-use Rattle.member.specs.Record.{recordSize, recordOf}
-use Rattle.member.proofs.Record.{length-record}
-use Rattle.member.proofs.Sound.{SoundMember, sound-record, sound-back, sound-member, sound-fresh}
+use Rattle.member.specs.Record.{memberSize, memberBytes}
+use Rattle.member.specs.Member.{featuresSize}
+use Rattle.member.proofs.Record.{length-member}
+use Rattle.member.proofs.Sound.{SoundMember, sound-record, sound-member, sound-fresh}
 use Rattle.card.specs.declared.Setup.{Setup}
-use Rattle.card.specs.Layout.{headSize, cardSize, setupOf, inUseOf, isMember, HasRecord, recordIn, withInUse, withRecord, memberIn, withMember, freshCard}
+use Rattle.card.specs.Layout.{headerSize, memberAt, recordSize, cardSize, setupOf, inUseOf, isMember, HasRecord, withRecordBytes, memberBytesIn, withInUse, memberIn, withMember, withFresh, freshCard}
 use Rattle.card.specs.Sound.{inNumbers, soundSetup, soundFor, soundUpTo, isSound}
-use Rattle.card.proofs.LayoutLaws.{has-record, record-long, record-back, length-with-record, setup-with-record, use-with-record, record-same, record-other, length-with-use, setup-with-use, record-with-use, use-same, length-fresh, setup-fresh, use-fresh, record-fresh}
+use Rattle.card.proofs.LayoutLaws.{has-record, bytes-long, length-with-bytes, setup-with-bytes, use-with-bytes, bytes-same, bytes-other, length-with-use, setup-with-use, bytes-with-use, use-same, features-long, length-fresh, setup-fresh, use-fresh, member-bytes-fresh, fresh-is-member}
 
 -- ---- the test, as facts, and back ----
 
@@ -55,14 +56,14 @@ pub record Sound (c : List ℕ) : Type 0 where
   pub long : length c ≡ cardSize (setupOf c .members)
   pub numbers : Numbers (setupOf c)
   pub supported : supportedOnly (inUseOf c) ≡ true
-  pub each : (m : ℕ) → 1 ≤ m → m ≤ setupOf c .members → soundFor (setupOf c) (recordIn c m) ≡ true
+  pub each : (m : ℕ) → 1 ≤ m → m ≤ setupOf c .members → soundFor (setupOf c) (memberBytesIn c m) ≡ true
 
-up-to-sound : (s : Setup) (c : List ℕ) (n : ℕ) → ((m : ℕ) → 1 ≤ m → m ≤ n → soundFor s (recordIn c m) ≡ true) → soundUpTo s c n ≡ true
+up-to-sound : (s : Setup) (c : List ℕ) (n : ℕ) → ((m : ℕ) → 1 ≤ m → m ≤ n → soundFor s (memberBytesIn c m) ≡ true) → soundUpTo s c n ≡ true
 unfolding soundUpTo
 up-to-sound s c zero h = refl
 up-to-sound s c (suc n) h = and-i _ _ (h (suc n) (omega arith) (omega arith)) (up-to-sound s c n (λ m l i. h m l (omega arith)))
 
-sound-up-to : (s : Setup) (c : List ℕ) (n : ℕ) → soundUpTo s c n ≡ true → (m : ℕ) → 1 ≤ m → m ≤ n → soundFor s (recordIn c m) ≡ true
+sound-up-to : (s : Setup) (c : List ℕ) (n : ℕ) → soundUpTo s c n ≡ true → (m : ℕ) → 1 ≤ m → m ≤ n → soundFor s (memberBytesIn c m) ≡ true
 unfolding soundUpTo
 sound-up-to s c zero e m l h = absurd (omega arith)
 sound-up-to s c (suc n) e m l h = by-cases (eqb m (suc n))
@@ -89,50 +90,55 @@ abbrev pub SoundIn : List ℕ → Member → Type 0
 SoundIn c x = SoundMember (setupOf c .gets) (setupOf c .sets) (setupOf c .features) x
 
 module _ (c : List ℕ) (s : Sound c) where
-  pub sound-long : headSize ≤ length c
+  pub sound-long : headerSize ≤ length c
   sound-long = let e = s .long in omega arith
 
   pub sound-has : (m : ℕ) → isMember c m ≡ true → HasRecord c m
   sound-has m e = has-record c m (s .long) (within-low _ _ m e) (within-high _ _ m e)
 
-  pub sound-at : (m : ℕ) → isMember c m ≡ true → soundFor (setupOf c) (recordIn c m) ≡ true
+  pub sound-at : (m : ℕ) → isMember c m ≡ true → soundFor (setupOf c) (memberBytesIn c m) ≡ true
   sound-at m e = s .each m (within-low _ _ m e) (within-high _ _ m e)
 
   pub sound-member-in : (m : ℕ) → isMember c m ≡ true → SoundIn c (memberIn c m)
   unfolding memberIn
-  sound-member-in m e = sound-member _ _ _ (recordIn c m) (record-long c m (sound-has m e)) (sound-at m e)
-
-  -- to put the member that is there changes nothing
-  pub member-back : (m : ℕ) → isMember c m ≡ true → withMember c m (memberIn c m) ≡ c
-  unfolding withMember memberIn
-  member-back m e = rw (sound-back _ _ _ (recordIn c m) (record-long c m (sound-has m e)) (sound-at m e)) (record-back c m)
+  sound-member-in m e = sound-member _ _ _ (memberBytesIn c m) (bytes-long c m memberAt memberSize (sound-has m e) (omega arith)) (sound-at m e)
 
 -- ---- what keeps a card sound ----
 
 kept : (c d : List ℕ) → Sound c → length d ≡ length c → setupOf d ≡ setupOf c → supportedOnly (inUseOf d) ≡ true
-    → ((m : ℕ) → 1 ≤ m → m ≤ setupOf c .members → soundFor (setupOf c) (recordIn d m) ≡ true) → Sound d
+    → ((m : ℕ) → 1 ≤ m → m ≤ setupOf c .members → soundFor (setupOf c) (memberBytesIn d m) ≡ true) → Sound d
 kept c d s n e u h = record { long = rw (n, e) (s .long); numbers = rw e (s .numbers); supported = u; each = rw e h }
 
--- a sound record is put
-pub sound-with-record : (c : List ℕ) (m : ℕ) (r : List ℕ) → Sound c → 1 ≤ m → length r ≡ recordSize → soundFor (setupOf c) r ≡ true → Sound (withRecord c m r)
-sound-with-record c m r s low n g = kept c _ s (length-with-record c m r) (setup-with-record c m r) (rw use-with-record (s .supported)) λ k l h.
+-- bytes of member m's record are put, and then its member is sound
+with-bytes : (c : List ℕ) (m at n : ℕ) (x : List ℕ) → Sound c → 1 ≤ m → at + n ≤ recordSize
+    → (HasRecord c m → soundFor (setupOf c) (memberBytesIn (withRecordBytes c m at n x) m) ≡ true) → Sound (withRecordBytes c m at n x)
+with-bytes c m at n x s low i g =
+    kept c _ s (length-with-bytes c m at n x) (setup-with-bytes c m at n x) (rw use-with-bytes (s .supported)) λ k l h.
     by-cases (eqb k m)
-    (λ q. let i : m ≤ setupOf c .members = omega tests in rw (eqb-true k m q, record-same c m r (has-record c m (s .long) low i) n) g)
-    (λ q. rw (record-other c m r k low l (eqb-false k m q)) (s .each k l h))
+    (λ q. let j : m ≤ setupOf c .members = omega tests in rw (eqb-true k m q) (g (has-record c m (s .long) low j)))
+    (λ q. rw (bytes-other c m at n x i low k memberAt memberSize (omega arith) l (eqb-false k m q)) (s .each k l h))
 
--- a sound member is put
+-- a sound member
 pub sound-with-member : (c : List ℕ) (m : ℕ) (x : Member) → Sound c → 1 ≤ m → SoundIn c x → Sound (withMember c m x)
 unfolding withMember
-sound-with-member c m x s low h = sound-with-record c m (recordOf x) s low (length-record x (h .shaped)) (sound-record _ _ _ x h)
+sound-with-member c m x s low y = with-bytes c m memberAt memberSize (memberBytes x) s low (omega arith) λ h.
+    rw (bytes-same c m memberAt memberSize (memberBytes x) h (omega arith) (length-member x (y .shaped))) (sound-record _ _ _ x y)
+
+-- a fresh member
+pub sound-with-fresh : (c : List ℕ) (m : ℕ) → Sound c → 1 ≤ m → Sound (withFresh c m (setupOf c .features))
+sound-with-fresh c m s low =
+    let e = features-long c (omega (arith, sound-long c s)) in
+    rw (fresh-is-member c m (setupOf c .features))
+    (sound-with-member c m _ s low (sound-fresh _ _ (setupOf c .features) e))
 
 -- another list with supported bits only is in use
 pub sound-with-use : (c : List ℕ) (mask : ℕ) → Sound c → supportedOnly mask ≡ true → Sound (withInUse c mask)
 sound-with-use c mask s u =
     kept c _ s (length-with-use c mask) (setup-with-use c mask) (rw (use-same c mask (sound-long c s) (mask-fits mask u)) u)
-    (λ k l h. rw (record-with-use c mask k) (s .each k l h))
+    (λ k l h. rw (bytes-with-use c mask k memberAt memberSize) (s .each k l h))
 
 -- a fresh card
-pub sound-fresh-card : (s : Setup) → soundSetup s ≡ true → length (s .features) ≡ 16 → Sound (freshCard s)
+pub sound-fresh-card : (s : Setup) → soundSetup s ≡ true → length (s .features) ≡ featuresSize → Sound (freshCard s)
 sound-fresh-card s e n =
     let f = setup-fresh s n in
     let g = sound-record (s .gets) (s .sets) (s .features) _ (sound-fresh (s .gets) (s .sets) (s .features) n) in
@@ -140,5 +146,5 @@ sound-fresh-card s e n =
       long = rw f (length-fresh s n);
       numbers = rw f (numbers-of s e);
       supported = rw (use-fresh s n) fresh-only;
-      each = rw f (λ m l h. rw (record-fresh s n m l h) g);
+      each = rw f (λ m l h. rw (member-bytes-fresh s n m l h) g);
     }

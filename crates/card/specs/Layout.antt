@@ -9,7 +9,7 @@ use Rattle.theory.specs.Bytes.{bytesAt, put, repeat}
 use Rattle.wire.specs.Le.{bytes, number}
 use Rattle.protocol.specs.Opcodes.{freshMask}
 use Rattle.member.specs.declared.Member.{Member}
-use Rattle.member.specs.Record.{recordSize, memberOf, recordOf}
+use Rattle.member.specs.Record.{memberSize, memberOf, memberBytes}
 use Rattle.member.specs.Member.{freshOf}
 use Rattle.card.specs.declared.Setup.{Setup}
 
@@ -24,11 +24,18 @@ featuresAt = 4
 abbrev pub inUseAt : ℕ
 inUseAt = 20
 
-abbrev pub headSize : ℕ
-headSize = 28
+abbrev pub headerSize : ℕ
+headerSize = 28
+
+-- a record: the bytes of its member
+abbrev pub memberAt : ℕ
+memberAt = 0
+
+abbrev pub recordSize : ℕ
+recordSize = memberAt + memberSize
 
 abbrev pub cardSize : ℕ → ℕ
-cardSize members = headSize + recordSize * members
+cardSize members = headerSize + recordSize * members
 
 -- the exact length of a card's buffer; 0 where there is no such card
 unfoldable pub cardBytes : ℕ → ℕ
@@ -53,29 +60,40 @@ abbrev pub isMember : List ℕ → ℕ → Bool
 isMember c m = within 1 (setupOf c .members) m
 
 abbrev pub recordAt : ℕ → ℕ
-recordAt m = headSize + recordSize * (m - 1)
+recordAt m = headerSize + recordSize * (m - 1)
 
 -- the bytes of member m's record are all there
 pub record HasRecord (c : List ℕ) (m : ℕ) : Type 0 where
   pub low : 1 ≤ m
   pub high : recordAt m + recordSize ≤ length c
 
--- the record of member m; one that is put there is cut to its place
-unfoldable pub recordIn : List ℕ → ℕ → List ℕ
-recordIn c m = bytesAt (recordAt m) recordSize c
+-- n bytes of member m's record, from an offset; what is put there is cut to their number
+unfoldable pub recordBytes : List ℕ → ℕ → ℕ → ℕ → List ℕ
+recordBytes c m at n = bytesAt (recordAt m + at) n c
 
-unfoldable pub withRecord : List ℕ → ℕ → List ℕ → List ℕ
-withRecord c m r = put (recordAt m) (take recordSize r) c
+unfoldable pub withRecordBytes : List ℕ → ℕ → ℕ → ℕ → List ℕ → List ℕ
+withRecordBytes c m at n x = put (recordAt m + at) (take n x) c
+
+-- member m
+abbrev pub memberBytesIn : List ℕ → ℕ → List ℕ
+memberBytesIn c m = recordBytes c m memberAt memberSize
 
 unfoldable pub memberIn : List ℕ → ℕ → Member
-memberIn c m = memberOf (recordIn c m)
+memberIn c m = memberOf (memberBytesIn c m)
 
 unfoldable pub withMember : List ℕ → ℕ → Member → List ℕ
-withMember c m x = withRecord c m (recordOf x)
+withMember c m x = withRecordBytes c m memberAt memberSize (memberBytes x)
+
+-- the record of a fresh member
+unfoldable pub freshRecord : List ℕ → List ℕ
+freshRecord features = memberBytes (freshOf features)
+
+unfoldable pub withFresh : List ℕ → ℕ → List ℕ → List ℕ
+withFresh c m features = withRecordBytes c m 0 recordSize (freshRecord features)
 
 -- "Fresh, or after reset of the whole card: commands 0x0 and 0x1 in use, every member fresh"
-unfoldable pub freshHead : Setup → List ℕ
-freshHead s = (s .members ∷ s .queues ∷ s .gets ∷ s .sets ∷ s .features) ++ bytes 8 freshMask
+unfoldable pub freshHeader : Setup → List ℕ
+freshHeader s = (s .members ∷ s .queues ∷ s .gets ∷ s .sets ∷ s .features) ++ bytes 8 freshMask
 
 unfoldable pub freshCard : Setup → List ℕ
-freshCard s = freshHead s ++ repeat (s .members) (recordOf (freshOf (s .features)))
+freshCard s = freshHeader s ++ repeat (s .members) (freshRecord (s .features))

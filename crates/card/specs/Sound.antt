@@ -8,7 +8,7 @@ use Rattle.theory.specs.Logic.{_and_, within}
 use Rattle.protocol.specs.Opcodes.{supportedOnly}
 use Rattle.member.specs.Sound.{soundRecord}
 use Rattle.card.specs.declared.Setup.{Setup}
-use Rattle.card.specs.Layout.{cardSize, setupOf, inUseOf, recordIn}
+use Rattle.card.specs.Layout.{cardSize, setupOf, inUseOf, memberBytesIn}
 
 -- "N members (1 to 16), Q queues for each member (1 to 4), G get objects and S set objects for each member (0 to 8 each)"
 unfoldable pub inNumbers : ℕ → ℕ → ℕ → ℕ → Bool
@@ -24,7 +24,7 @@ soundFor s r = soundRecord (s .gets) (s .sets) (s .features) r
 -- members 1 to k
 unfoldable pub soundUpTo : Setup → List ℕ → ℕ → Bool
 soundUpTo s c zero = true
-soundUpTo s c (suc k) = soundFor s (recordIn c (suc k)) and soundUpTo s c k
+soundUpTo s c (suc k) = soundFor s (memberBytesIn c (suc k)) and soundUpTo s c k
 
 -- "its setup is in these numbers, its list in use has supported bits only, and each member" is sound; and it is as long
 -- as its header and N records

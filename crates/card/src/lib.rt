@@ -5,12 +5,12 @@ ghost use lib.Dec.{eqb};
 ghost use lib.ListN.{length};
 ghost use Rattle.theory.specs.Bytes.{bytesAt};
 ghost use Rattle.protocol.specs.Opcodes.{supportedOnly};
-ghost use Rattle.member.specs.Record.{recordSize};
-ghost use Rattle.card.specs.Layout.{headSize, cardSize, cardBytes, setupOf, inUseOf, withInUse, isMember, recordAt, recordIn, HasRecord, memberIn, withMember};
+ghost use Rattle.member.specs.Record.{memberSize};
+ghost use Rattle.card.specs.Layout.{headerSize, cardSize, cardBytes, setupOf, inUseOf, withInUse, isMember, recordAt, HasRecord, memberBytesIn, memberIn, withMember, withFresh};
 ghost use Rattle.card.specs.Sound.{inNumbers, soundSetup, soundFor, soundUpTo, isSound};
 use member::FEATURES_SIZE;
+use member::MEMBER_SIZE;
 use member::Member;
-use member::RECORD_SIZE;
 
 // A card's setup, from its header.
 pub struct Setup {
@@ -37,7 +37,10 @@ pub const FEATURES_AT: usize = 4;
 
 pub const IN_USE_AT: usize = 20;
 
-const HEAD_SIZE: usize = 28;
+const HEADER_SIZE: usize = 28;
+
+// A record: the bytes of its member.
+const RECORD_SIZE: usize = MEMBER_SIZE;
 
 const MOST_MEMBERS: u64 = 16;
 
@@ -58,14 +61,14 @@ pub fn card_bytes(members: u64) -> usize
         return 0;
     }
     if members <= MOST_MEMBERS {
-        return HEAD_SIZE + RECORD_SIZE * (members as usize);
+        return HEADER_SIZE + RECORD_SIZE * (members as usize);
     }
     0
 }
 
 // The setup that a card's header holds.
 pub fn setup_of(card: &[u8]) -> Setup
-    requires { ⌜ headSize ≤ length (now card) ⌝ }
+    requires { ⌜ headerSize ≤ length (now card) ⌝ }
     ensures { λ r. ⌜ r ≡ setupOf (now (card .entry)) ⌝ }
 {
     let mut features = [0u8; FEATURES_SIZE];
@@ -81,14 +84,14 @@ pub fn setup_of(card: &[u8]) -> Setup
 
 // The list of commands in use.
 pub fn in_use(card: &[u8]) -> u64
-    requires { ⌜ headSize ≤ length (now card) ⌝ }
+    requires { ⌜ headerSize ≤ length (now card) ⌝ }
     ensures { λ r. ⌜ r ≡ inUseOf (now (card .entry)) ⌝ }
 {
     wire::read_u64(card, IN_USE_AT)
 }
 
 pub fn set_in_use(card: &mut [u8], mask: u64)
-    requires { ⌜ headSize ≤ length (now card) ⌝ }
+    requires { ⌜ headerSize ≤ length (now card) ⌝ }
     ensures { λ _. ⌜ now (card .exit) ≡ withInUse (now (card .entry)) mask ⌝ }
 {
     wire::write(card, IN_USE_AT, 8, mask);
@@ -96,7 +99,7 @@ pub fn set_in_use(card: &mut [u8], mask: u64)
 
 // Members are identified 1 to N.
 pub fn is_member(card: &[u8], m: u64) -> bool
-    requires { ⌜ headSize ≤ length (now card) ⌝ }
+    requires { ⌜ headerSize ≤ length (now card) ⌝ }
     ensures { λ r. ⌜ r ≡ isMember (now (card .entry)) m ⌝ }
 {
     if m < 1 {
@@ -110,16 +113,16 @@ fn record_at(m: u64) -> usize
     requires { ⌜ (1 ≤ m) × (recordAt m < 2 ^ 64) ⌝ }
     ensures { λ r. ⌜ r ≡ recordAt m ⌝ }
 {
-    HEAD_SIZE + RECORD_SIZE * (m as usize - 1)
+    HEADER_SIZE + RECORD_SIZE * (m as usize - 1)
 }
 
-// The record of member m.
-pub fn record_of(card: &[u8], m: u64) -> &[u8]
+// The bytes of member m, where they stand.
+pub fn member_bytes(card: &[u8], m: u64) -> &[u8]
     requires { ⌜ HasRecord (now card) m ⌝ }
-    ensures { λ r. ⌜ now r ≡ recordIn (now (card .entry)) m ⌝ }
+    ensures { λ r. ⌜ now r ≡ memberBytesIn (now (card .entry)) m ⌝ }
 {
     let at = record_at(m);
-    &card[at..at + RECORD_SIZE]
+    &card[at..at + MEMBER_SIZE]
 }
 
 // Member m by value, and the card with another member m.
@@ -127,7 +130,7 @@ pub fn load_member(card: &[u8], m: u64) -> Member
     requires { ⌜ HasRecord (now card) m ⌝ }
     ensures { λ r. ⌜ r ≡ memberIn (now (card .entry)) m ⌝ }
 {
-    member::load(record_of(card, m))
+    member::load(member_bytes(card, m))
 }
 
 pub fn save_member(card: &mut [u8], m: u64, x: Member)
@@ -135,7 +138,16 @@ pub fn save_member(card: &mut [u8], m: u64, x: Member)
     ensures { λ _. ⌜ now (card .exit) ≡ withMember (now (card .entry)) m x ⌝ }
 {
     let at = record_at(m);
-    member::save(x, &mut card[at..at + RECORD_SIZE]);
+    member::save(x, &mut card[at..at + MEMBER_SIZE]);
+}
+
+// The record of member m becomes a fresh member's, whatever it holds.
+pub fn reset_record(card: &mut [u8], m: u64, features: [u8; FEATURES_SIZE])
+    requires { ⌜ HasRecord (now card) m ⌝ }
+    ensures { λ _. ⌜ now (card .exit) ≡ withFresh (now (card .entry)) m features ⌝ }
+{
+    let x = load_member(card, m).reset(features);
+    save_member(card, m, x);
 }
 
 // ---- soundness ----
@@ -163,7 +175,7 @@ pub fn in_numbers(members: u64, queues: u64, gets: u64, sets: u64) -> bool
 }
 
 fn is_setup_sound(card: &[u8]) -> bool
-    requires { ⌜ headSize ≤ length (now card) ⌝ }
+    requires { ⌜ headerSize ≤ length (now card) ⌝ }
     ensures { λ r. ⌜ r ≡ soundSetup (setupOf (now (card .entry))) ⌝ }
 {
     in_numbers(
@@ -174,13 +186,13 @@ fn is_setup_sound(card: &[u8]) -> bool
     )
 }
 
-// Whether the record at a place is sound.
+// Whether the member whose bytes stand at a place is sound.
 fn is_sound_at(card: &[u8], at: usize) -> bool
-    requires { ⌜ (headSize ≤ length (now card)) × (at + recordSize ≤ length (now card)) ⌝ }
-    ensures { λ r. ⌜ r ≡ soundFor (setupOf (now (card .entry))) (bytesAt at recordSize (now (card .entry))) ⌝ }
+    requires { ⌜ (headerSize ≤ length (now card)) × (at + memberSize ≤ length (now card)) ⌝ }
+    ensures { λ r. ⌜ r ≡ soundFor (setupOf (now (card .entry))) (bytesAt at memberSize (now (card .entry))) ⌝ }
 {
     member::is_sound_record(
-        &card[at..at + RECORD_SIZE],
+        &card[at..at + MEMBER_SIZE],
         card[GETS_AT],
         card[SETS_AT],
         &card[FEATURES_AT..IN_USE_AT],
@@ -208,14 +220,14 @@ fn are_members_sound(card: &[u8]) -> bool
 fn is_length_right(card: &[u8]) -> bool
     ensures { λ r. ⌜ r ≡ eqb (length (now (card .entry))) (cardSize (setupOf (now (card .entry)) .members)) ⌝ }
 {
-    if card.len() < HEAD_SIZE {
+    if card.len() < HEADER_SIZE {
         return false;
     }
-    card.len() == HEAD_SIZE + RECORD_SIZE * (wide(card[MEMBERS_AT]) as usize)
+    card.len() == HEADER_SIZE + RECORD_SIZE * (wide(card[MEMBERS_AT]) as usize)
 }
 
 fn is_use_supported(card: &[u8]) -> bool
-    requires { ⌜ headSize ≤ length (now card) ⌝ }
+    requires { ⌜ headerSize ≤ length (now card) ⌝ }
     ensures { λ r. ⌜ r ≡ supportedOnly (inUseOf (now (card .entry))) ⌝ }
 {
     protocol::supported_only(in_use(card))

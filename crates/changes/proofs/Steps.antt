@@ -3,6 +3,7 @@
 use mathlib.Core.Path.{_≡_, _∙_}
 use Prim.Native.Nat.{ℕ}
 use Rattle.theory.proofs.Ladder.{ladder}
+use Rattle.protocol.proofs.Operations.{kind-set, kind-not-set, mode-stops, mode-runs}
 use Rattle.objects.specs.declared.Slot.{Slot}
 use Rattle.member.specs.declared.Member.{Member}
 use Rattle.member.specs.Objects.{withObject}
@@ -18,4 +19,4 @@ pub limited-to : (gets sets : ℕ) (m n : Member) (id : ℕ) (s t : Slot) (o : C
     → o ≡ limited gets sets m n → o ≡ limited gets sets m (withObject m id t)
 limited-to gets sets m n id s t o q e h = h ∙ rw (e, q)
 
-pub ruleset steps = (ladder, on-live, on-nothing, changed-to, limited-to)
+pub ruleset steps = (ladder, on-live, on-nothing, kind-set, kind-not-set, mode-stops, mode-runs, changed-to, limited-to)

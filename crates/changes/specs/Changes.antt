@@ -1,14 +1,13 @@
 -- The commands that change a member: document 01, "What each command does", steps 8 to 10. Assumes nothing.
 use mathlib.Core.List.{List}
 use Prim.Native.Nat.{ℕ}
-use lib.Dec.{eqb}
 use Rattle.theory.specs.Logic.{unless_answer_then_}
 use Rattle.protocol.specs.declared.Answer.{Answer}
 use Rattle.protocol.specs.declared.Answer.the-variants.{Done, Exists, NotLive, NoRoom, WrongKind, Running, BadList}
 use Rattle.protocol.specs.declared.ObjectKind.{ObjectKind}
 use Rattle.protocol.specs.declared.ChangeOp.{ChangeOp}
 use Rattle.protocol.specs.declared.ChangeOp.the-variants.{Create, Modify, Destroy, SetParts, SetMode}
-use Rattle.protocol.specs.Answers.{kindNumber}
+use Rattle.protocol.specs.Answers.{isStopped, isSet}
 use Rattle.parts.specs.declared.ListForm.the-variants.{Parts}
 use Rattle.parts.specs.List.{partsOf}
 use Rattle.rules.specs.Rules.{causeOf, isAccepted}
@@ -16,7 +15,6 @@ use Rattle.values.specs.Apply.{applied}
 use Rattle.objects.specs.declared.Slot.the-variants.{Free}
 use Rattle.objects.specs.Objects.{slotFor, onFound}
 use Rattle.member.specs.declared.Member.{Member}
-use Rattle.member.specs.Record.{modeByte}
 use Rattle.member.specs.Objects.{lookupOf, withObject, roomIn}
 use Rattle.member.specs.Member.{featuresIn, withMode, withValues}
 use Rattle.changes.specs.declared.Changed.{Changed}
@@ -54,8 +52,8 @@ unfoldable pub setPartsOf : ℕ → ℕ → List ℕ → Member → Changed
 setPartsOf queues id list m =
     onFound (lookupOf m id)
     (λ k.
-    unless eqb (kindNumber k) 1 answer refuse m WrongKind then  -- 8
-    unless eqb (modeByte (m .mode)) 1 answer refuse m Running then  -- 9
+    unless isSet k answer refuse m WrongKind then  -- 8
+    unless isStopped (m .mode) answer refuse m Running then  -- 9
     unless isAccepted (causeOf queues (featuresIn m) list) answer refuse m BadList then  -- 10
     done (withValues m (applied queues (partsOf Parts list) (m .values))))
     (refuse m NotLive)

@@ -4,6 +4,7 @@ ghost use Rattle.member.specs.Member.{featuresIn, withMode};
 ghost use Rattle.rules.specs.Rules.{causeOf, isAccepted};
 ghost use Rattle.changes.specs.Changes.{limited, createOf, modifyOf, destroyOf, setPartsOf, changeOf};
 ghost use Rattle.changes.specs.Changes.{refuse as refused, done as accepted};
+use member::FEATURES_SIZE;
 use member::Member;
 use objects::Found;
 use protocol::Answer;
@@ -36,7 +37,7 @@ fn done(m: Member) -> Changed
 fn if_room(m: Member, n: Member, gets: u8, sets: u8) -> Changed
     ensures { λ r. ⌜ r ≡ limited gets sets m n ⌝ }
 {
-    if !member::has_room(n, gets, sets) {
+    if !n.has_room(gets, sets) {
         return refuse(m, Answer::NoRoom);
     }
     done(n)
@@ -45,30 +46,30 @@ fn if_room(m: Member, n: Member, gets: u8, sets: u8) -> Changed
 fn create(m: Member, id: usize, kind: ObjectKind, gets: u8, sets: u8) -> Changed
     ensures { λ r. ⌜ r ≡ createOf gets sets id kind m ⌝ }
 {
-    let Found::Nothing = member::lookup(m, id) else {
+    let Found::Nothing = m.lookup(id) else {
         return refuse(m, Answer::Exists);
     };
-    let n = member::put_object(m, id, objects::slot_for(kind));
+    let n = m.with_object(id, objects::slot_for(kind));
     if_room(m, n, gets, sets)
 }
 
 fn modify(m: Member, id: usize, kind: ObjectKind, gets: u8, sets: u8) -> Changed
     ensures { λ r. ⌜ r ≡ modifyOf gets sets id kind m ⌝ }
 {
-    let Found::Live(_) = member::lookup(m, id) else {
+    let Found::Live(_) = m.lookup(id) else {
         return refuse(m, Answer::NotLive);
     };
-    let n = member::put_object(m, id, objects::slot_for(kind));
+    let n = m.with_object(id, objects::slot_for(kind));
     if_room(m, n, gets, sets)
 }
 
 fn destroy(m: Member, id: usize) -> Changed
     ensures { λ r. ⌜ r ≡ destroyOf id m ⌝ }
 {
-    let Found::Live(_) = member::lookup(m, id) else {
+    let Found::Live(_) = m.lookup(id) else {
         return refuse(m, Answer::NotLive);
     };
-    done(member::without(m, id))
+    done(m.without_object(id))
 }
 
 fn set_mode(m: Member, mode: Mode) -> Changed
@@ -85,7 +86,7 @@ fn accepts(m: Member, queues: u8, list: &[u8]) -> bool
     ensures { λ r. ⌜ r ≡ isAccepted (causeOf queues (featuresIn m) (now (list .entry))) ⌝ }
 {
     let values = m.values;
-    let cause = rules::check_list(queues, &values[0..16], list);
+    let cause = rules::check_list(queues, &values[0..FEATURES_SIZE], list);
     rules::is_accepted(cause)
 }
 
@@ -93,16 +94,16 @@ fn accepts(m: Member, queues: u8, list: &[u8]) -> bool
 fn set_parts(m: Member, id: usize, queues: u8, list: &[u8]) -> Changed
     ensures { λ r. ⌜ r ≡ setPartsOf queues id (now (list .entry)) m ⌝ }
 {
-    let Found::Live(kind) = member::lookup(m, id) else {
+    let Found::Live(kind) = m.lookup(id) else {
         return refuse(m, Answer::NotLive);
     };
-    if protocol::kind_number(kind) != 1 {
+    let ObjectKind::Set = kind else {
         return refuse(m, Answer::WrongKind);
-    }
+    };
     let mode = m.mode;
-    if member::mode_byte(mode) != 1 {
+    let Mode::Stopped = mode else {
         return refuse(m, Answer::Running);
-    }
+    };
     if !accepts(m, queues, list) {
         return refuse(m, Answer::BadList);
     }

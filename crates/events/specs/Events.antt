@@ -4,15 +4,15 @@ use mathlib.Core.List.{List}
 use Prim.Native.Nat.{ℕ, _≤_}
 use lib.Dec.{eqb}
 use lib.ListN.{length, replicate}
-use Rattle.theory.specs.Logic.{if_then_else_, unless_answer_then_, _and_}
+use Rattle.theory.specs.Logic.{unless_answer_then_, _and_}
 use Rattle.protocol.specs.declared.EventAnswer.{EventAnswer}
 use Rattle.protocol.specs.declared.EventAnswer.the-variants.{Done, NotSound, NoMember, BadSetup}
-use Rattle.protocol.specs.Answers.{eventNumber}
+use Rattle.protocol.specs.Answers.{eventNumber, isEventDone}
 use Rattle.inventory.specs.Inventory.{selectorOf}
 use Rattle.values.specs.Apply.{storable}
-use Rattle.member.specs.Member.{freshOf, withPart}
+use Rattle.member.specs.Member.{featuresSize, withPart}
 use Rattle.card.specs.declared.Setup.{Setup}
-use Rattle.card.specs.Layout.{cardSize, setupOf, isMember, memberIn, withMember, freshCard}
+use Rattle.card.specs.Layout.{cardSize, setupOf, isMember, memberIn, withMember, withFresh, freshCard}
 use Rattle.card.specs.Sound.{inNumbers, isSound}
 
 abbrev pub setupWith : ℕ → ℕ → ℕ → ℕ → List ℕ → Setup
@@ -30,38 +30,42 @@ pub record InBounds (members queues gets sets : ℕ) : Type 0 where
 -- refused too where the features are not 16 bytes or the buffer is not one card long
 unfoldable pub setUp : List ℕ → ℕ → ℕ → ℕ → ℕ → List ℕ → EventAnswer × List ℕ
 setUp c members queues gets sets features =
-    unless inNumbers members queues gets sets and eqb (length features) 16 and eqb (length c) (cardSize members)
+    unless inNumbers members queues gets sets and eqb (length features) featuresSize and eqb (length c) (cardSize members)
     answer (BadSetup, replicate (length c) 0) then
     (Done, freshCard (setupWith members queues gets sets features))
 
+-- an event for one member: refused on a card that is not sound, and for a member that it has not got
+unfoldable pub memberAnswer : List ℕ → ℕ → EventAnswer
+memberAnswer c m =
+    unless isSound c answer NotSound then
+    unless isMember c m answer NoMember then
+    Done
+
+-- what is next stands only where the answer is that it is done
+unfoldable pub ifDone : EventAnswer → EventAnswer × List ℕ → List ℕ → EventAnswer × List ℕ
+ifDone a next c = unless isEventDone a answer (a, c) then next
+
+unfoldable pub onMember : List ℕ → ℕ → EventAnswer × List ℕ → EventAnswer × List ℕ
+onMember c m next = ifDone (memberAnswer c m) next c
+
 -- "Member reset makes that member fresh and changes nothing else"
 unfoldable pub resetMember : List ℕ → ℕ → EventAnswer × List ℕ
-resetMember c m =
-    unless isSound c answer (NotSound, c) then
-    unless isMember c m answer (NoMember, c) then
-    (Done, withMember c m (freshOf (setupOf c .features)))
+resetMember c m = onMember c m (Done, withFresh c m (setupOf c .features))
 
 unfoldable pub resetCard : List ℕ → EventAnswer × List ℕ
 resetCard c =
     unless isSound c answer (NotSound, c) then
     (Done, freshCard (setupOf c))
 
--- what is next stands only where the answer is that it is done
-unfoldable pub ifDone : EventAnswer → List ℕ → List ℕ → EventAnswer × List ℕ
-ifDone a next c = (a, if eqb (eventNumber a) 0 then next else c)
-
 -- a card store (01's term): the data path sets one part of one member, in either mode; s is the 8 selector bytes as a
 -- number
 unfoldable pub storeIn : List ℕ → ℕ → ℕ → ℕ → List ℕ → EventAnswer × List ℕ
 storeIn c m t s value =
     ifDone (storable (setupOf c .queues) t s (length value))
-    (withMember c m (withPart (setupOf c .queues) (memberIn c m) t s value)) c
+    (Done, withMember c m (withPart (setupOf c .queues) (memberIn c m) t s value)) c
 
 unfoldable pub store : List ℕ → ℕ → ℕ → ℕ → List ℕ → EventAnswer × List ℕ
-store c m t s value =
-    unless isSound c answer (NotSound, c) then
-    unless isMember c m answer (NoMember, c) then
-    storeIn c m t (selectorOf t s) value
+store c m t s value = onMember c m (storeIn c m t (selectorOf t s) value)
 
 -- the answer as document 01's number
 abbrev pub numbered : EventAnswer × List ℕ → ℕ × List ℕ

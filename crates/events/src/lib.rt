@@ -5,16 +5,14 @@ ghost use lib.Dec.{eqb};
 ghost use lib.ListN.{length, replicate};
 ghost use Rattle.theory.specs.Logic.{_and_};
 ghost use Rattle.theory.specs.Bytes.{put, repeat};
-ghost use Rattle.member.specs.Record.{recordOf};
-ghost use Rattle.member.specs.Member.{freshOf};
-ghost use Rattle.card.specs.Layout.{headSize, cardSize, HasRecord, freshCard, freshHead};
+ghost use Rattle.member.specs.Member.{featuresSize};
+ghost use Rattle.card.specs.Layout.{headerSize, cardSize, HasRecord, freshRecord, freshHeader, freshCard};
 ghost use Rattle.card.specs.Sound.{inNumbers};
-ghost use Rattle.events.specs.Events.{InBounds, setupWith, setUp, resetMember, resetCard, storeIn, store};
+ghost use Rattle.events.specs.Events.{InBounds, setupWith, setUp, memberAnswer, resetMember, resetCard, storeIn, store};
 use card::FEATURES_AT;
 use card::IN_USE_AT;
 use card::Setup;
 use member::FEATURES_SIZE;
-use member::Member;
 use protocol::EventAnswer;
 use protocol::FRESH_MASK;
 
@@ -32,9 +30,9 @@ fn clear(card: &mut [u8])
 }
 
 // The header of a fresh card.
-fn write_head(card: &mut [u8], s: Setup)
-    requires { ⌜ headSize ≤ length (now card) ⌝ }
-    ensures { λ _. ⌜ now (card .exit) ≡ put 0 (freshHead s) (now (card .entry)) ⌝ }
+fn write_header(card: &mut [u8], s: Setup)
+    requires { ⌜ headerSize ≤ length (now card) ⌝ }
+    ensures { λ _. ⌜ now (card .exit) ≡ put 0 (freshHeader s) (now (card .entry)) ⌝ }
 {
     let numbers = [s.members, s.queues, s.gets, s.sets];
     let features = s.features;
@@ -46,13 +44,12 @@ fn write_head(card: &mut [u8], s: Setup)
 // The records of n fresh members.
 fn write_members(card: &mut [u8], n: u64, features: [u8; FEATURES_SIZE])
     requires { ⌜ length (now card) ≡ cardSize n ⌝ }
-    ensures { λ _. ⌜ now (card .exit) ≡ put headSize (repeat n (recordOf (freshOf features))) (now (card .entry)) ⌝ }
+    ensures { λ _. ⌜ now (card .exit) ≡ put headerSize (repeat n (freshRecord features)) (now (card .entry)) ⌝ }
 {
-    let fresh = Member::fresh(features);
     let mut m: u64 = 0;
     while m < n {
         m += 1;
-        card::save_member(card, m, fresh);
+        card::reset_record(card, m, features);
     }
 }
 
@@ -61,14 +58,14 @@ fn write_fresh(card: &mut [u8], s: Setup)
     requires { ⌜ length (now card) ≡ cardSize (s .members) ⌝ }
     ensures { λ _. ⌜ now (card .exit) ≡ freshCard s ⌝ }
 {
-    write_head(card, s);
+    write_header(card, s);
     let features = s.features;
     write_members(card, s.members as u64, features);
 }
 
 // Whether a setup is in document 01's numbers, its features are 16 bytes, and the buffer is one card long.
 fn is_setup(members: u64, queues: u64, gets: u64, sets: u64, features: usize, buffer: usize) -> bool
-    ensures { λ r. ⌜ r ≡ inNumbers members queues gets sets and eqb features 16 and eqb buffer (cardSize members) ⌝ }
+    ensures { λ r. ⌜ r ≡ inNumbers members queues gets sets and eqb features featuresSize and eqb buffer (cardSize members) ⌝ }
 {
     if !card::in_numbers(members, queues, gets, sets) {
         return false;
@@ -81,7 +78,7 @@ fn is_setup(members: u64, queues: u64, gets: u64, sets: u64, features: usize, bu
 
 // The setup with these numbers, which fit its bytes.
 fn setup_from(members: u64, queues: u64, gets: u64, sets: u64, features: &[u8]) -> Setup
-    requires { ⌜ InBounds members queues gets sets × (length (now features) ≡ 16) ⌝ }
+    requires { ⌜ InBounds members queues gets sets × (length (now features) ≡ featuresSize) ⌝ }
     ensures { λ r. ⌜ r ≡ setupWith members queues gets sets (now (features .entry)) ⌝ }
 {
     let mut own = [0u8; FEATURES_SIZE];
@@ -117,9 +114,9 @@ pub fn set_up(
 
 // ---- events ----
 
-// Reset of one member: it is fresh, and nothing else changes.
-pub fn reset_member(card: &mut [u8], m: u64) -> EventAnswer
-    ensures { λ r. ⌜ (r, now (card .exit)) ≡ resetMember (now (card .entry)) m ⌝ }
+// An event for one member: the first refusal that applies.
+fn member_answer(card: &[u8], m: u64) -> EventAnswer
+    ensures { λ r. ⌜ r ≡ memberAnswer (now (card .entry)) m ⌝ }
 {
     if !card::is_sound(card) {
         return EventAnswer::NotSound;
@@ -127,10 +124,20 @@ pub fn reset_member(card: &mut [u8], m: u64) -> EventAnswer
     if !card::is_member(card, m) {
         return EventAnswer::NoMember;
     }
+    EventAnswer::Done
+}
+
+// Reset of one member: it is fresh, and nothing else changes.
+pub fn reset_member(card: &mut [u8], m: u64) -> EventAnswer
+    ensures { λ r. ⌜ (r, now (card .exit)) ≡ resetMember (now (card .entry)) m ⌝ }
+{
+    let a = member_answer(card, m);
+    if !protocol::is_event_done(a) {
+        return a;
+    }
     let s = card::setup_of(card);
     let features = s.features;
-    let x = card::load_member(card, m).reset(features);
-    card::save_member(card, m, x);
+    card::reset_record(card, m, features);
     EventAnswer::Done
 }
 
@@ -154,23 +161,21 @@ fn store_in(card: &mut [u8], m: u64, t: u16, selector: u64, value: &[u8]) -> Eve
     let s = card::setup_of(card);
     let queues = s.queues;
     let a = values::store_answer(queues, t, selector, value.len());
-    if protocol::event_number(a) != 0 {
+    if !protocol::is_event_done(a) {
         return a;
     }
     let changed = card::load_member(card, m).store(queues, t, selector, value);
     card::save_member(card, m, changed);
-    a
+    EventAnswer::Done
 }
 
 // A card store (01's term): the data path sets one part of one member, in either mode.
 pub fn store(card: &mut [u8], m: u64, t: u16, selector: u64, value: &[u8]) -> EventAnswer
     ensures { λ r. ⌜ (r, now (card .exit)) ≡ store (now (card .entry)) m t selector (now (value .entry)) ⌝ }
 {
-    if !card::is_sound(card) {
-        return EventAnswer::NotSound;
-    }
-    if !card::is_member(card, m) {
-        return EventAnswer::NoMember;
+    let a = member_answer(card, m);
+    if !protocol::is_event_done(a) {
+        return a;
     }
     store_in(card, m, t, inventory::selector_of(t, selector), value)
 }

@@ -1,4 +1,4 @@
--- Each return of the functions on one object, in the shape in which it is asked, and what a caller made
+-- Each return of the methods of a member, in the shape in which it is asked, and what a caller made
 -- of a lookup. Assumes nothing.
 use mathlib.Core.Path.{_≡_, sym, _∙_}
 use native.Mathlib.Omega.{arith}
@@ -14,6 +14,10 @@ use Rattle.objects.specs.declared.Found.the-variants.{Live, Nothing}
 use Rattle.objects.specs.Objects.{free, foundIn, onFound}
 use Rattle.member.specs.declared.Member.{Member}
 use Rattle.member.specs.Objects.{lookupOf, withObject}
+use Rattle.member.specs.Member.{withValues}
+
+pub values-in : (m : Member) (v w : List ℕ) → v ≡ w → withValues m v ≡ withValues m w
+values-in m v w e = rw e
 
 module _ (m : Member) (id : ℕ) where
   pub lookup-in : (f : Found) → f ≡ foundIn (getD (m .objects) id free .slot) → f ≡ lookupOf m id

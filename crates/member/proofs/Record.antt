@@ -2,14 +2,14 @@
 use mathlib.Core.Path.{_≡_, refl, ap, sym, _∙_}
 use mathlib.Core.Bool.{true}
 use mathlib.Core.List.{List, [], _∷_, _++_, map}
-use Prim.Native.Nat.{ℕ, zero, suc, _+_, _≤_, _<_}
+use Prim.Native.Nat.{ℕ, zero, suc, _+_, _-_, _≤_, _<_}
 use native.Mathlib.Omega.{arith}
 use borrow.Author.Tests.{leb-true}
 use lib.Dec.{leb}
 use lib.ListN.{length, getD, take, drop, set, replicate, length-append, length-map, length-set, length-drop, take-append-drop, List·getD-map}
 use lib.Seq.{take-at, drop-at, take-all}
 use Rattle.theory.specs.Bytes.{bytesAt, put}
-use Rattle.theory.proofs.Bytes.{length-put, length-bytesAt, put-all, put-cons, put-append, put-front, getD-bytesAt}
+use Rattle.theory.proofs.Bytes.{length-put, length-bytesAt, put-all, put-cons, put-nil, put-append, put-front, getD-bytesAt}
 use Rattle.inventory.specs.Inventory.{valuesSize}
 use Rattle.protocol.specs.Answers.{modeOf}
 use Rattle.protocol.specs.declared.Mode.{Mode}
@@ -21,9 +21,9 @@ use Rattle.objects.specs.declared.Found.the-variants.{Nothing}
 use Rattle.objects.specs.Objects.{objectsSize, objectOf, objectByte, foundIn, allUpTo}
 use Rattle.objects.proofs.Objects.{objects-back, bytes-of-objects}
 use Rattle.member.specs.declared.Member.{Member}
-use Rattle.member.specs.Record.{objectsAt, valuesAt, recordSize, modeByte, objectBytes, memberOf, recordOf}
+use Rattle.member.specs.Record.{modeAt, objectsAt, valuesAt, memberSize, modeByte, objectBytes, memberOf, memberBytes}
 use Rattle.member.specs.Objects.{lookupOf, withObject}
-use Rattle.member.specs.Member.{withMode, withValues}
+use Rattle.member.specs.Member.{featuresSize, withMode, withValues}
 use Rattle.member.proofs.Objects.{lookup-out}
 
 -- its arrays are as long as its type says
@@ -47,10 +47,6 @@ mode-back : (m : Mode) → modeOf (modeByte m) ≡ m
 mode-back Running = refl
 mode-back Stopped = refl
 
-byte-of-mode : (b : ℕ) → b ≤ 1 → modeByte (modeOf b) ≡ b
-byte-of-mode zero h = refl
-byte-of-mode (suc b) h = omega arith
-
 pub mode-low : (m : Mode) → leb (modeByte m) 1 ≡ true
 mode-low Running = refl
 mode-low Stopped = refl
@@ -61,32 +57,32 @@ module _ (m : Member) (s : Shaped m) where
   bytes-long : length (map objectByte (m .objects)) ≡ objectsSize
   bytes-long = length-map (m .objects) objectByte ∙ s .ids
 
-  pub length-record : length (recordOf m) ≡ recordSize
-  unfolding recordOf
-  length-record = rw length-append (omega (arith, bytes-long))
+  pub length-member : length (memberBytes m) ≡ memberSize
+  unfolding memberBytes
+  length-member = rw (length-append (map objectByte (m .objects)) (m .values)) (omega (arith, bytes-long))
 
-  pub record-objects : objectBytes (recordOf m) ≡ map objectByte (m .objects)
-  unfolding recordOf
+  pub record-objects : objectBytes (memberBytes m) ≡ map objectByte (m .objects)
+  unfolding memberBytes
   record-objects = take-at _ (m .values) objectsSize bytes-long
 
   -- the values stand last, so each part of them is a part of the record
-  pub record-values : (n : ℕ) → bytesAt valuesAt n (recordOf m) ≡ take n (m .values)
-  unfolding recordOf
+  pub record-values : (n : ℕ) → bytesAt valuesAt n (memberBytes m) ≡ take n (m .values)
+  unfolding memberBytes
   record-values n = rw (drop-at (map objectByte (m .objects)) (m .values) objectsSize bytes-long)
 
-  pub record-mode : getD (recordOf m) 0 0 ≡ modeByte (m .mode)
-  unfolding recordOf
+  pub record-mode : getD (memberBytes m) modeAt 0 ≡ modeByte (m .mode)
+  unfolding memberBytes
   record-mode = refl
 
-  pub member-back : memberOf (recordOf m) ≡ m
+  pub member-back : memberOf (memberBytes m) ≡ m
   unfolding memberOf
   member-back =
-      let v : bytesAt valuesAt valuesSize (recordOf m) ≡ m .values = record-values valuesSize ∙ take-all valuesSize (m .values) (omega arith) in
+      let v : bytesAt valuesAt valuesSize (memberBytes m) ≡ m .values = record-values valuesSize ∙ take-all valuesSize (m .values) (omega arith) in
       rw (record-mode, mode-back (m .mode), record-objects, objects-back (m .objects), v)
 
 -- ---- the member of a record ----
 
-module _ (r : List ℕ) (e : length r ≡ recordSize) where
+module _ (r : List ℕ) (e : length r ≡ memberSize) where
   pub member-shaped : Shaped (memberOf r)
   unfolding memberOf
   member-shaped = record {
@@ -94,42 +90,36 @@ module _ (r : List ℕ) (e : length r ≡ recordSize) where
     long = length-bytesAt valuesAt valuesSize r (omega arith);
   }
 
--- what the record of a member leaves out is nothing, where its bytes say something
-pub record-back : (r : List ℕ) → length r ≡ recordSize → leb (getD r 0 0) 1 ≡ true → allUpTo 2 (objectBytes r) ≡ true → recordOf (memberOf r) ≡ r
-unfolding memberOf recordOf
-record-back [] e h a = cc
-record-back (b ∷ r) e h a =
-    let v : bytesAt objectsSize valuesSize r ≡ drop objectsSize r = take-all valuesSize (drop objectsSize r) (rw length-drop (omega arith)) in
-    rw (byte-of-mode b (leb-true b 1 h), bytes-of-objects (take objectsSize r) a, v, take-append-drop objectsSize r)
-
 -- ---- load and save ----
 
 -- a part of a list, stored over an array of its size
 pub part-loaded : (at n : ℕ) (s l : List ℕ) → at + n ≤ length s → length l ≡ n → put 0 (bytesAt at n s) l ≡ bytesAt at n s
 part-loaded at n s l h e = put-all (bytesAt at n s) l (length-bytesAt at n s h ∙ sym e)
 
+pub mode-saved : (r : List ℕ) (b n : ℕ) → b ≡ n → set r modeAt b ≡ put modeAt (n ∷ []) r
+mode-saved r b n e = rw e (sym (put-cons modeAt n [] r ∙ put-nil _ _))
+
 -- mode, objects and values, stored one after the other
-module _ (m : Member) (s : Shaped m) (r : List ℕ) (e : length r ≡ recordSize) (b : ℕ) (os : List ℕ) (q : os ≡ map objectByte (m .objects)) where
-  pub objects-fit : objectsAt + length os ≤ length (set r 0 b)
-  objects-fit = rw (q, length-set r 0 b) (omega (arith, bytes-long m s))
+module _ (m : Member) (s : Shaped m) (r r₁ r₂ : List ℕ) (e : length r ≡ memberSize) (p : r₁ ≡ put modeAt (modeByte (m .mode) ∷ []) r)
+    (q : r₂ ≡ put objectsAt (map objectByte (m .objects)) r₁) where
+  pub values-fit : valuesAt + length (m .values) ≤ length r₂
+  values-fit = rw (q, p, length-put, length-put) (omega (arith, s .long))
 
-  module _ (r₁ : List ℕ) (p : r₁ ≡ put objectsAt os (set r 0 b)) where
-    pub values-fit : valuesAt + length (m .values) ≤ length r₁
-    values-fit = rw (p, length-put, length-set r 0 b) (omega (arith, s .long))
+  pub member-saved : (r₃ : List ℕ) → r₃ ≡ put valuesAt (m .values) r₂ → r₃ ≡ memberBytes m
+  unfolding memberBytes
+  member-saved r₃ h =
+      let os = map objectByte (m .objects) in
+      let k : objectsAt + length os ≡ valuesAt = omega (arith, bytes-long m s) in
+      let w : put modeAt (memberBytes m) r ≡ r₃ =
+      put-append modeAt (modeByte (m .mode) ∷ []) (os ++ m .values) r ∙ put-append objectsAt os (m .values) _ ∙ rw (k, h, q, p) in
+      sym w ∙ put-all (memberBytes m) r (length-member m s ∙ sym e)
 
-    pub member-saved : b ≡ modeByte (m .mode) → (r₂ : List ℕ) → r₂ ≡ put valuesAt (m .values) r₁ → r₂ ≡ recordOf m
-    unfolding recordOf
-    member-saved h r₂ p₂ =
-        let k : objectsAt + length os ≡ valuesAt = rw q (omega (arith, bytes-long m s)) in
-        let w : put 0 (b ∷ (os ++ m .values)) r ≡ r₂ = put-cons 0 b (os ++ m .values) r ∙ put-append 1 os (m .values) _ ∙ rw (k, p₂, p) in
-        sym w ∙ rw (h, q) (put-all (recordOf m) r (length-record m s ∙ sym e))
-
-pub fresh-values : (f : List ℕ) → length f ≡ 16 → put 0 f (replicate valuesSize 0) ≡ f ++ replicate 189 0
+pub fresh-values : (f : List ℕ) → length f ≡ featuresSize → put 0 f (replicate valuesSize 0) ≡ f ++ replicate (valuesSize - featuresSize) 0
 fresh-values f e = put-front f (replicate valuesSize 0) (omega arith) ∙ rw e
 
 -- ---- a record read where it stands ----
 
-module _ (r : List ℕ) (n : length r ≡ recordSize) (id : ℕ) where
+module _ (r : List ℕ) (n : length r ≡ memberSize) (id : ℕ) where
   pub record-lookup : (f : Found) (o : ObjectRecord) → id < objectsSize → o ≡ objectOf (getD r (objectsAt + id) 0)
       → f ≡ foundIn (o .slot) → f ≡ lookupOf (memberOf r) id
   unfolding memberOf lookupOf

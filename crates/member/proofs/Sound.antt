@@ -3,7 +3,7 @@
 use mathlib.Core.Path.{_≡_, refl, _∙_}
 use mathlib.Core.Bool.{Bool, true, false, not}
 use mathlib.Core.List.{List, map}
-use Prim.Native.Nat.{ℕ, _+_, _≤_, _<_}
+use Prim.Native.Nat.{ℕ, _+_, _-_, _≤_, _<_}
 use native.Mathlib.Omega.{arith}
 use lib.Dec.{leb}
 use lib.ListN.{length, getD, drop, replicate, length-append}
@@ -12,6 +12,7 @@ use borrow.Author.Tests.{not-true, not-false}
 use Rattle.theory.specs.Logic.{_and_}
 use Rattle.theory.specs.Bytes.{bytesAt, same}
 use Rattle.theory.proofs.Tests.{both, and-i, and-assoc, same-true, eq-same}
+use Rattle.theory.proofs.Bytes.{bytesAt-bytesAt}
 use Rattle.theory.proofs.Ladder.{ladder}
 use Rattle.inventory.specs.Inventory.{valuesSize}
 use Rattle.parts.specs.List.{PartList}
@@ -20,15 +21,15 @@ use Rattle.values.proofs.Kept.{stored-length, stored-features, applied-length, 
 use Rattle.protocol.specs.declared.Mode.{Mode}
 use Rattle.objects.specs.declared.Slot.{Slot}
 use Rattle.objects.specs.declared.Slot.the-variants.{Free}
-use Rattle.objects.specs.Objects.{objectsSize, objectByte, allUpTo, withinLimits}
-use Rattle.objects.proofs.Objects.{objects-low}
+use Rattle.objects.specs.Objects.{objectsSize, objectOf, objectByte, allUpTo, withinLimits}
+use Rattle.objects.proofs.Objects.{objects-low, bytes-of-objects}
 use Rattle.objects.proofs.Counts.{map-set, all-drop-set, all-drop, limits-set, none-live, none-counted}
 use Rattle.member.specs.declared.Member.{Member}
-use Rattle.member.specs.Record.{valuesAt, recordSize, objectBytes, memberOf, recordOf}
+use Rattle.member.specs.Record.{modeAt, valuesAt, memberSize, objectBytes, memberOf, memberBytes}
 use Rattle.member.specs.Objects.{roomIn, withObject}
-use Rattle.member.specs.Member.{freshOf, featuresIn, withMode, withValues, withPart}
+use Rattle.member.specs.Member.{featuresSize, freshOf, featuresIn, withMode, withValues, withPart}
 use Rattle.member.specs.Sound.{soundRecord}
-use Rattle.member.proofs.Record.{Shaped, mode-low, record-mode, record-objects, record-values, record-back, member-shaped, shaped-mode, shaped-values, shaped-object}
+use Rattle.member.proofs.Record.{Shaped, mode-low, record-mode, record-objects, record-values, member-shaped, shaped-mode, shaped-values, shaped-object}
 
 module _ (gets sets : ℕ) (features : List ℕ) where
   pub record SoundMember (m : Member) : Type 0 where
@@ -37,40 +38,40 @@ module _ (gets sets : ℕ) (features : List ℕ) where
     pub room : roomIn gets sets m ≡ true
     pub kept : featuresIn m ≡ features
 
-  -- ---- the record of a sound member is sound, and back ----
+  -- ---- the bytes of a sound member are sound, and back ----
 
-  pub sound-record : (m : Member) → SoundMember m → soundRecord gets sets features (recordOf m) ≡ true
+  pub sound-record : (m : Member) → SoundMember m → soundRecord gets sets features (memberBytes m) ≡ true
   unfolding soundRecord
   sound-record m s =
       let h = s .shaped in
-      rw (record-mode m h, record-objects m h, record-values m h 16)
+      rw (record-mode m h, record-objects m h, record-values m h featuresSize)
       (and-i _ _ (and-i _ _ (and-i _ _ (and-i _ _ (mode-low (m .mode)) (objects-low (m .objects))) (s .below)) (s .room))
       (eq-same _ _ (s .kept)))
 
-  pub record-sound : (m : Member) → Shaped m → soundRecord gets sets features (recordOf m) ≡ true → SoundMember m
-  unfolding soundRecord
-  record-sound m h e =
-      let p = both _ _ (rw (record-mode m h, record-objects m h, record-values m h 16) at e) in
+  -- of bytes that are sound
+  pub sound-member : (r : List ℕ) → length r ≡ memberSize → soundRecord gets sets features r ≡ true → SoundMember (memberOf r)
+  unfolding soundRecord memberOf
+  sound-member r n e =
+      let p = both _ _ e in
       let q = both _ _ (p .0) in
-      record { shaped = h; below = both _ _ (q .0) .1; room = q .1; kept = same-true _ _ (p .1) }
-
-  pub sound-back : (r : List ℕ) → length r ≡ recordSize → soundRecord gets sets features r ≡ true → recordOf (memberOf r) ≡ r
-  unfolding soundRecord
-  sound-back r n e = let p = both _ _ (both _ _ (both _ _ (both _ _ e .0) .0) .0) in record-back r n (p .0) (p .1)
-
-  -- of a record that is sound
-  pub sound-member : (r : List ℕ) → length r ≡ recordSize → soundRecord gets sets features r ≡ true → SoundMember (memberOf r)
-  sound-member r n e = record-sound (memberOf r) (member-shaped r n) (rw (sound-back r n e) e)
+      let w = both _ _ (q .0) in
+      let os : map objectByte (map objectOf (objectBytes r)) ≡ objectBytes r = bytes-of-objects (objectBytes r) (both _ _ (w .0) .1) in
+      record {
+        shaped = member-shaped r n;
+        below = rw os (w .1);
+        room = rw os (q .1);
+        kept = bytesAt-bytesAt 0 featuresSize valuesAt valuesSize r (omega arith) ∙ same-true _ _ (p .1);
+      }
 
   -- ---- what leaves a member sound ----
 
-  pub sound-fresh : length features ≡ 16 → SoundMember (freshOf features)
+  pub sound-fresh : length features ≡ featuresSize → SoundMember (freshOf features)
   unfolding freshOf
   sound-fresh n = record {
     shaped = record { ids = refl; long = rw length-append (omega arith) };
     below = all-drop 0 (gets + sets) (replicate objectsSize 0) none-live;
     room = none-counted gets sets;
-    kept = take-at features (replicate 189 0) 16 n;
+    kept = take-at features (replicate (valuesSize - featuresSize) 0) featuresSize n;
   }
 
   module _ (m : Member) (s : SoundMember m) where
@@ -78,7 +79,7 @@ module _ (gets sets : ℕ) (features : List ℕ) where
     sound-mode mode = record { shaped = shaped-mode m (s .shaped) mode; below = s .below; room = s .room; kept = s .kept }
 
     -- other values, with the same device features
-    pub sound-values : (values : List ℕ) → length values ≡ valuesSize → bytesAt 0 16 values ≡ featuresIn m → SoundMember (withValues m values)
+    pub sound-values : (values : List ℕ) → length values ≡ valuesSize → bytesAt 0 featuresSize values ≡ featuresIn m → SoundMember (withValues m values)
     sound-values values n e = record { shaped = shaped-values m (s .shaped) values n; below = s .below; room = s .room; kept = e ∙ s .kept }
 
     -- an object that the limits allow, at an id that is valid
@@ -113,17 +114,17 @@ module _ (gets sets : ℕ) (features : List ℕ) where
 -- ---- the test, one step after the other ----
 
 module _ (gets sets : ℕ) (features r : List ℕ) where
-  pub bad-mode : 1 < getD r 0 0 → false ≡ soundRecord gets sets features r
+  pub bad-mode : 1 < getD r modeAt 0 → false ≡ soundRecord gets sets features r
   unfolding soundRecord
   bad-mode h = search ladder
 
   module _ (bs : List ℕ) (b : Bool) (p : bs ≡ objectBytes r) (q : b ≡ allUpTo 2 bs and allUpTo 0 (drop (gets + sets) bs) and withinLimits gets sets bs) where
-    steps : leb (getD r 0 0) 1 and (b and same (bytesAt valuesAt 16 r) features) ≡ soundRecord gets sets features r
+    steps : leb (getD r modeAt 0) 1 and (b and same (bytesAt valuesAt featuresSize r) features) ≡ soundRecord gets sets features r
     unfolding soundRecord
     steps = rw (q, p) (simp and-assoc)
 
     pub bad-objects : not b ≡ true → false ≡ soundRecord gets sets features r
     bad-objects h = rw (← steps, not-true b h) (search ladder)
 
-    pub sound-rest : getD r 0 0 ≤ 1 → not b ≡ false → (x : Bool) → x ≡ same (bytesAt valuesAt 16 r) features → x ≡ soundRecord gets sets features r
+    pub sound-rest : getD r modeAt 0 ≤ 1 → not b ≡ false → (x : Bool) → x ≡ same (bytesAt valuesAt featuresSize r) features → x ≡ soundRecord gets sets features r
     sound-rest l h x e = rw (← steps, not-false b h) (search ladder)

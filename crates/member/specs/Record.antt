@@ -1,6 +1,6 @@
--- A member's record as bytes: mode 1, object records 16, values 205. Assumes nothing.
-use mathlib.Core.List.{List, _∷_, _++_, map}
-use Prim.Native.Nat.{ℕ}
+-- A member's bytes, which stand at the front of its record: mode 1, object records 16, values 205. Assumes nothing.
+use mathlib.Core.List.{List, [], _∷_, _++_, map}
+use Prim.Native.Nat.{ℕ, _+_}
 use lib.ListN.{getD}
 use Rattle.theory.specs.Bytes.{bytesAt}
 use Rattle.inventory.specs.Inventory.{valuesSize}
@@ -10,14 +10,17 @@ use Rattle.protocol.specs.Answers.{modeOf}
 use Rattle.objects.specs.Objects.{objectsSize, objectOf, objectByte}
 use Rattle.member.specs.declared.Member.{Member}
 
+abbrev pub modeAt : ℕ
+modeAt = 0
+
 abbrev pub objectsAt : ℕ
-objectsAt = 1
+objectsAt = modeAt + 1
 
 abbrev pub valuesAt : ℕ
-valuesAt = 17
+valuesAt = objectsAt + objectsSize
 
-abbrev pub recordSize : ℕ
-recordSize = 222
+abbrev pub memberSize : ℕ
+memberSize = valuesAt + valuesSize
 
 -- 0 running, 1 stopped
 abbrev pub modeByte : Mode → ℕ
@@ -27,10 +30,10 @@ modeByte Stopped = 1
 abbrev pub objectBytes : List ℕ → List ℕ
 objectBytes r = bytesAt objectsAt objectsSize r
 
--- the member that a record holds, and the record that holds a member
+-- the member that bytes hold, and the bytes that hold a member
 unfoldable pub memberOf : List ℕ → Member
 memberOf r =
-    record { mode = modeOf (getD r 0 0); objects = map objectOf (objectBytes r); values = bytesAt valuesAt valuesSize r }
+    record { mode = modeOf (getD r modeAt 0); objects = map objectOf (objectBytes r); values = bytesAt valuesAt valuesSize r }
 
-unfoldable pub recordOf : Member → List ℕ
-recordOf m = modeByte (m .mode) ∷ (map objectByte (m .objects) ++ m .values)
+unfoldable pub memberBytes : Member → List ℕ
+memberBytes m = (modeByte (m .mode) ∷ []) ++ (map objectByte (m .objects) ++ m .values)

@@ -7,14 +7,15 @@ use lib.ListN.{getD, drop}
 use Rattle.theory.specs.Logic.{_and_}
 use Rattle.theory.specs.Bytes.{bytesAt, same}
 use Rattle.objects.specs.Objects.{allUpTo, withinLimits}
-use Rattle.member.specs.Record.{objectBytes, valuesAt}
+use Rattle.member.specs.Record.{modeAt, objectBytes, valuesAt}
+use Rattle.member.specs.Member.{featuresSize}
 
 -- its bytes say something: a mode and object records; "live ids below G + S, at most G get and S set objects, and the
 -- setup's device features"
 unfoldable pub soundRecord : ℕ → ℕ → List ℕ → List ℕ → Bool
 soundRecord gets sets features r =
-    leb (getD r 0 0) 1
+    leb (getD r modeAt 0) 1
     and allUpTo 2 (objectBytes r)
     and allUpTo 0 (drop (gets + sets) (objectBytes r))
     and withinLimits gets sets (objectBytes r)
-    and same (bytesAt valuesAt 16 r) features
+    and same (bytesAt valuesAt featuresSize r) features

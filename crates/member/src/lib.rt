@@ -1,12 +1,15 @@
-// A member of the card: its record as a struct by value, its bytes, and its resource objects.
+// A member of the card: a struct by value, its bytes at the front of its record, and its resource objects.
 ghost use mathlib.Core.Path.{_≡_};
+ghost use Prim.Native.Nat.{_+_, _≤_};
+ghost use mathlib.Core.List.{[], _∷_, map};
 ghost use lib.ListN.{length};
-ghost use Rattle.theory.specs.Bytes.{bytesAt};
+ghost use Rattle.theory.specs.Bytes.{bytesAt, put};
 ghost use Rattle.inventory.specs.Inventory.{valuesSize};
 ghost use Rattle.parts.specs.declared.ListForm.the-variants.{Parts};
 ghost use Rattle.parts.specs.List.{partsOf};
 ghost use Rattle.values.specs.Apply.{applied};
-ghost use Rattle.member.specs.Record.{valuesAt, recordSize, modeByte, objectBytes, memberOf, recordOf};
+ghost use Rattle.objects.specs.Objects.{objectByte, objectsSize};
+ghost use Rattle.member.specs.Record.{modeAt, objectsAt, valuesAt, memberSize, modeByte, objectBytes, memberOf, memberBytes};
 ghost use Rattle.member.specs.Objects.{lookupOf, withObject, roomIn};
 ghost use Rattle.member.specs.Member.{freshOf, withMode, withValues, withPart};
 ghost use Rattle.member.specs.Sound.{soundRecord};
@@ -16,19 +19,21 @@ use objects::ObjectRecord;
 use objects::Slot;
 use protocol::Mode;
 
-// The record: mode 1 byte, one object record for each id, then the values.
-pub const RECORD_SIZE: usize = 222;
-
-const OBJECTS_AT: usize = 1;
-
-const VALUES_AT: usize = 17;
+// The device features, which stand first among the values.
+pub const FEATURES_SIZE: usize = 16;
 
 const VALUES_SIZE: usize = 205;
 
-// The device features, which stand first.
-pub const FEATURES_SIZE: usize = 16;
+// The bytes of a member: its mode, an object record for each id, its values.
+const MODE_AT: usize = 0;
+
+const OBJECTS_AT: usize = MODE_AT + 1;
+
+const VALUES_AT: usize = OBJECTS_AT + IDS;
 
 const FEATURES_END: usize = VALUES_AT + FEATURES_SIZE;
+
+pub const MEMBER_SIZE: usize = VALUES_AT + VALUES_SIZE;
 
 // A member's mode, its resource objects by id, and the values of its parts.
 pub struct Member {
@@ -37,150 +42,7 @@ pub struct Member {
     pub values: [u8; VALUES_SIZE],
 }
 
-// ---- a byte and what it stands for ----
-
-pub fn mode_byte(mode: Mode) -> u8
-    ensures { λ r. ⌜ r ≡ modeByte mode ⌝ }
-{
-    match mode {
-        Mode::Running => 0,
-        Mode::Stopped => 1,
-    }
-}
-
-// ---- resource objects ----
-
-// The live object of an id.
-pub fn lookup(m: Member, id: usize) -> Found
-    ensures { λ r. ⌜ r ≡ lookupOf m id ⌝ }
-{
-    if IDS <= id {
-        return Found::Nothing;
-    }
-    let o = m.objects[id];
-    let slot = o.slot;
-    objects::found_in(slot)
-}
-
-// The live object of an id, from a member's record. A command that reads has no need of the member by value.
-pub fn lookup_in(rec: &[u8], id: usize) -> Found
-    requires { ⌜ length (now rec) ≡ recordSize ⌝ }
-    ensures { λ r. ⌜ r ≡ lookupOf (memberOf (now (rec .entry))) id ⌝ }
-{
-    if IDS <= id {
-        return Found::Nothing;
-    }
-    let o = objects::object_in(rec[OBJECTS_AT + id]);
-    let slot = o.slot;
-    objects::found_in(slot)
-}
-
-// The member with this at the id; an id that no record has changes nothing.
-pub fn put_object(m: Member, id: usize, slot: Slot) -> Member
-    ensures { λ r. ⌜ r ≡ withObject m id slot ⌝ }
-{
-    if IDS <= id {
-        return m;
-    }
-    let mut n = m;
-    n.objects[id] = ObjectRecord { slot };
-    n
-}
-
-// The member without the object of the id, whose id and room are free again; an id that no record has changes nothing.
-pub fn without(m: Member, id: usize) -> Member
-    ensures { λ r. ⌜ r ≡ withObject m id Slot.Free ⌝ }
-{
-    if IDS <= id {
-        return m;
-    }
-    let mode = m.mode;
-    let objects = m.objects;
-    let left = objects::cleared(objects, id);
-    let values = m.values;
-    Member {
-        mode,
-        objects: left,
-        values,
-    }
-}
-
-// Whether the member has at most so many get and set objects.
-pub fn has_room(m: Member, gets: u8, sets: u8) -> bool
-    ensures { λ r. ⌜ r ≡ roomIn gets sets m ⌝ }
-{
-    let objects = m.objects;
-    let bytes = objects::object_bytes(objects);
-    objects::is_within_limits(&bytes, gets, sets)
-}
-
-// ---- the record ----
-
-fn object_bytes_in(rec: &[u8]) -> [u8; IDS]
-    requires { ⌜ length (now rec) ≡ recordSize ⌝ }
-    ensures { λ r. ⌜ r ≡ objectBytes (now (rec .entry)) ⌝ }
-{
-    let mut bytes = [0u8; IDS];
-    wire::copy(&mut bytes, 0, &rec[OBJECTS_AT..VALUES_AT]);
-    bytes
-}
-
-fn values_in(rec: &[u8]) -> [u8; VALUES_SIZE]
-    requires { ⌜ length (now rec) ≡ recordSize ⌝ }
-    ensures { λ r. ⌜ r ≡ bytesAt valuesAt valuesSize (now (rec .entry)) ⌝ }
-{
-    let mut values = [0u8; VALUES_SIZE];
-    wire::copy(&mut values, 0, &rec[VALUES_AT..RECORD_SIZE]);
-    values
-}
-
-// The values of a member, within its record.
-pub fn values_of(rec: &[u8]) -> &[u8]
-    requires { ⌜ length (now rec) ≡ recordSize ⌝ }
-    ensures { λ r. ⌜ now r ≡ memberOf (now (rec .entry)) .values ⌝ }
-{
-    &rec[VALUES_AT..RECORD_SIZE]
-}
-
-pub fn load(rec: &[u8]) -> Member
-    requires { ⌜ length (now rec) ≡ recordSize ⌝ }
-    ensures { λ r. ⌜ r ≡ memberOf (now (rec .entry)) ⌝ }
-{
-    let mode = protocol::mode_of(rec[0]);
-    let objects = objects::objects_in(object_bytes_in(rec));
-    let values = values_in(rec);
-    Member {
-        mode,
-        objects,
-        values,
-    }
-}
-
-pub fn save(m: Member, rec: &mut [u8])
-    requires { ⌜ length (now rec) ≡ recordSize ⌝ }
-    ensures { λ _. ⌜ now (rec .exit) ≡ recordOf m ⌝ }
-{
-    let mode = m.mode;
-    rec[0] = mode_byte(mode);
-    let objects = m.objects;
-    let bytes = objects::object_bytes(objects);
-    wire::copy(rec, OBJECTS_AT, &bytes);
-    let values = m.values;
-    wire::copy(rec, VALUES_AT, &values);
-}
-
-pub fn is_sound_record(rec: &[u8], gets: u8, sets: u8, features: &[u8]) -> bool
-    requires { ⌜ length (now rec) ≡ recordSize ⌝ }
-    ensures { λ r. ⌜ r ≡ soundRecord gets sets (now (features .entry)) (now (rec .entry)) ⌝ }
-{
-    if 1 < rec[0] {
-        return false;
-    }
-    if !objects::are_objects_sound(&rec[OBJECTS_AT..VALUES_AT], gets, sets) {
-        return false;
-    }
-    wire::equal(&rec[VALUES_AT..FEATURES_END], features)
-}
+// ---- a member, made anew and changed ----
 
 impl Member {
     pub fn fresh(features: [u8; FEATURES_SIZE]) -> Member
@@ -202,23 +64,12 @@ impl Member {
         Member::fresh(features)
     }
 
+    // A field that is an enum cannot be stored to, so the struct is made anew.
     fn with_mode(self, mode: Mode) -> Member
         ensures { λ r. ⌜ r ≡ withMode self mode ⌝ }
     {
         let objects = self.objects;
         let values = self.values;
-        Member {
-            mode,
-            objects,
-            values,
-        }
-    }
-
-    fn with_values(self, values: [u8; VALUES_SIZE]) -> Member
-        ensures { λ r. ⌜ r ≡ withValues self values ⌝ }
-    {
-        let mode = self.mode;
-        let objects = self.objects;
         Member {
             mode,
             objects,
@@ -239,20 +90,176 @@ impl Member {
     }
 
     // A card store: one part of the member, where it can be stored.
-    pub fn store(self, queues: u8, t: u16, selector: u64, value: &[u8]) -> Member
+    pub fn store(mut self, queues: u8, t: u16, selector: u64, value: &[u8]) -> Member
         ensures { λ r. ⌜ r ≡ withPart queues self t selector (now (value .entry)) ⌝ }
     {
         let mut values = self.values;
         values::store_part(&mut values, queues, t, selector, value);
-        self.with_values(values)
+        self.values = values;
+        self
     }
 
     // The parts of an accepted list.
-    pub fn set_parts(self, queues: u8, list: &[u8]) -> Member
+    pub fn set_parts(mut self, queues: u8, list: &[u8]) -> Member
         ensures { λ r. ⌜ r ≡ withValues self (applied queues (partsOf Parts (now (list .entry))) (self .values)) ⌝ }
     {
         let mut values = self.values;
         values::apply(&mut values, queues, list);
-        self.with_values(values)
+        self.values = values;
+        self
     }
+
+    // ---- resource objects ----
+
+    // The live object of an id.
+    pub fn lookup(self, id: usize) -> Found
+        ensures { λ r. ⌜ r ≡ lookupOf self id ⌝ }
+    {
+        if IDS <= id {
+            return Found::Nothing;
+        }
+        let o = self.objects[id];
+        let slot = o.slot;
+        objects::found_in(slot)
+    }
+
+    // The member with this at the id; an id that no record has changes nothing.
+    pub fn with_object(mut self, id: usize, slot: Slot) -> Member
+        ensures { λ r. ⌜ r ≡ withObject self id slot ⌝ }
+    {
+        if IDS <= id {
+            return self;
+        }
+        self.objects[id] = ObjectRecord { slot };
+        self
+    }
+
+    // The member without the object of the id, whose id and room are free again.
+    pub fn without_object(mut self, id: usize) -> Member
+        ensures { λ r. ⌜ r ≡ withObject self id Slot.Free ⌝ }
+    {
+        if IDS <= id {
+            return self;
+        }
+        let objects = self.objects;
+        let left = objects::cleared(objects, id);
+        self.objects = left;
+        self
+    }
+
+    // Whether the member has at most so many get and set objects.
+    pub fn has_room(self, gets: u8, sets: u8) -> bool
+        ensures { λ r. ⌜ r ≡ roomIn gets sets self ⌝ }
+    {
+        let objects = self.objects;
+        let bytes = objects::object_bytes(objects);
+        objects::is_within_limits(&bytes, gets, sets)
+    }
+}
+
+// ---- a member's bytes, read where they stand ----
+
+// The live object of an id. A command that reads has no need of the member by value.
+pub fn lookup_in(bytes: &[u8], id: usize) -> Found
+    requires { ⌜ length (now bytes) ≡ memberSize ⌝ }
+    ensures { λ r. ⌜ r ≡ lookupOf (memberOf (now (bytes .entry))) id ⌝ }
+{
+    if IDS <= id {
+        return Found::Nothing;
+    }
+    let o = objects::object_in(bytes[OBJECTS_AT + id]);
+    let slot = o.slot;
+    objects::found_in(slot)
+}
+
+pub fn values_of(bytes: &[u8]) -> &[u8]
+    requires { ⌜ length (now bytes) ≡ memberSize ⌝ }
+    ensures { λ r. ⌜ now r ≡ memberOf (now (bytes .entry)) .values ⌝ }
+{
+    &bytes[VALUES_AT..MEMBER_SIZE]
+}
+
+pub fn is_sound_record(bytes: &[u8], gets: u8, sets: u8, features: &[u8]) -> bool
+    requires { ⌜ length (now bytes) ≡ memberSize ⌝ }
+    ensures { λ r. ⌜ r ≡ soundRecord gets sets (now (features .entry)) (now (bytes .entry)) ⌝ }
+{
+    if 1 < bytes[MODE_AT] {
+        return false;
+    }
+    if !objects::are_objects_sound(&bytes[OBJECTS_AT..VALUES_AT], gets, sets) {
+        return false;
+    }
+    wire::equal(&bytes[VALUES_AT..FEATURES_END], features)
+}
+
+// ---- from a member's bytes to the member ----
+
+fn object_bytes_in(bytes: &[u8]) -> [u8; IDS]
+    requires { ⌜ length (now bytes) ≡ memberSize ⌝ }
+    ensures { λ r. ⌜ r ≡ objectBytes (now (bytes .entry)) ⌝ }
+{
+    let mut own = [0u8; IDS];
+    wire::copy(&mut own, 0, &bytes[OBJECTS_AT..VALUES_AT]);
+    own
+}
+
+fn values_in(bytes: &[u8]) -> [u8; VALUES_SIZE]
+    requires { ⌜ length (now bytes) ≡ memberSize ⌝ }
+    ensures { λ r. ⌜ r ≡ bytesAt valuesAt valuesSize (now (bytes .entry)) ⌝ }
+{
+    let mut own = [0u8; VALUES_SIZE];
+    wire::copy(&mut own, 0, &bytes[VALUES_AT..MEMBER_SIZE]);
+    own
+}
+
+pub fn load(bytes: &[u8]) -> Member
+    requires { ⌜ length (now bytes) ≡ memberSize ⌝ }
+    ensures { λ r. ⌜ r ≡ memberOf (now (bytes .entry)) ⌝ }
+{
+    let mode = protocol::mode_of(bytes[MODE_AT]);
+    let objects = objects::objects_in(object_bytes_in(bytes));
+    let values = values_in(bytes);
+    Member {
+        mode,
+        objects,
+        values,
+    }
+}
+
+// ---- from a member to its bytes, field by field ----
+
+pub fn mode_byte(mode: Mode) -> u8
+    ensures { λ r. ⌜ r ≡ modeByte mode ⌝ }
+{
+    match mode {
+        Mode::Running => 0,
+        Mode::Stopped => 1,
+    }
+}
+
+fn save_mode(mode: Mode, bytes: &mut [u8])
+    requires { ⌜ modeAt + 1 ≤ length (now bytes) ⌝ }
+    ensures { λ _. ⌜ now (bytes .exit) ≡ put modeAt (modeByte mode ∷ []) (now (bytes .entry)) ⌝ }
+{
+    bytes[MODE_AT] = mode_byte(mode);
+}
+
+fn save_objects(objects: [ObjectRecord; IDS], bytes: &mut [u8])
+    requires { ⌜ objectsAt + objectsSize ≤ length (now bytes) ⌝ }
+    ensures { λ _. ⌜ now (bytes .exit) ≡ put objectsAt (map objectByte objects) (now (bytes .entry)) ⌝ }
+{
+    let own = objects::object_bytes(objects);
+    wire::copy(bytes, OBJECTS_AT, &own);
+}
+
+pub fn save(m: Member, bytes: &mut [u8])
+    requires { ⌜ length (now bytes) ≡ memberSize ⌝ }
+    ensures { λ _. ⌜ now (bytes .exit) ≡ memberBytes m ⌝ }
+{
+    let mode = m.mode;
+    save_mode(mode, bytes);
+    let objects = m.objects;
+    save_objects(objects, bytes);
+    let values = m.values;
+    wire::copy(bytes, VALUES_AT, &values);
 }

@@ -1,6 +1,6 @@
 -- The numbers of the answers, document 01, "Statuses, and which comes first", of modes and of the kinds of
 -- objects. Assumes nothing.
-use mathlib.Core.Bool.{Bool}
+use mathlib.Core.Bool.{Bool, true, false}
 use Prim.Native.Nat.{ℕ, zero, suc}
 use lib.Dec.{eqb}
 use Rattle.protocol.specs.declared.Answer.{Answer}
@@ -55,10 +55,30 @@ eventNumber event.NoPart = 2
 eventNumber event.WrongLength = 3
 eventNumber event.BadSetup = 4
 
+abbrev pub isEventDone : EventAnswer → Bool
+isEventDone event.Done = true
+isEventDone event.NotSound = false
+isEventDone event.NoMember = false
+isEventDone event.NoPart = false
+isEventDone event.WrongLength = false
+isEventDone event.BadSetup = false
+
 -- 0 running, 1 stopped
 abbrev pub modeOf : ℕ → Mode
 modeOf zero = mode.Running
 modeOf (suc n) = mode.Stopped
+
+abbrev pub isStopped : Mode → Bool
+isStopped mode.Running = false
+isStopped mode.Stopped = true
+
+abbrev pub isGet : ObjectKind → Bool
+isGet Get = true
+isGet Set = false
+
+abbrev pub isSet : ObjectKind → Bool
+isSet Get = false
+isSet Set = true
 
 -- 0 get, 1 set
 abbrev pub kindNumber : ObjectKind → ℕ

@@ -2,7 +2,7 @@
 // ask of a member.
 ghost use mathlib.Core.Path.{_≡_};
 ghost use mathlib.Core.Bool.{true};
-ghost use Rattle.protocol.specs.Answers.{statusOf, qualifierOf, isDone, eventNumber, modeOf, kindNumber};
+ghost use Rattle.protocol.specs.Answers.{statusOf, qualifierOf, isDone, eventNumber, isEventDone, modeOf, kindNumber};
 ghost use Rattle.protocol.specs.Opcodes.{supported, lengthFits, namesMember, bit, supportedOnly};
 
 // The answer to a command: document 01, "Statuses, and which comes first".
@@ -123,6 +123,19 @@ pub fn event_number(a: EventAnswer) -> u8
         EventAnswer::NoPart => 2,
         EventAnswer::WrongLength => 3,
         EventAnswer::BadSetup => 4,
+    }
+}
+
+pub fn is_event_done(a: EventAnswer) -> bool
+    ensures { λ r. ⌜ r ≡ isEventDone a ⌝ }
+{
+    match a {
+        EventAnswer::Done => true,
+        EventAnswer::NotSound => false,
+        EventAnswer::NoMember => false,
+        EventAnswer::NoPart => false,
+        EventAnswer::WrongLength => false,
+        EventAnswer::BadSetup => false,
     }
 }
 

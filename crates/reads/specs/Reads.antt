@@ -1,7 +1,6 @@
 -- The commands that read a member: document 01, "What each command does", steps 8 to 10. Assumes nothing.
 use mathlib.Core.List.{List}
 use Prim.Native.Nat.{ℕ}
-use lib.Dec.{eqb}
 use Rattle.theory.specs.Logic.{unless_answer_then_}
 use Rattle.protocol.specs.declared.Answer.{Answer}
 use Rattle.protocol.specs.declared.Answer.the-variants.{Done, NotLive, WrongKind, BadList}
@@ -9,7 +8,7 @@ use Rattle.protocol.specs.declared.Metadata.{Metadata}
 use Rattle.protocol.specs.declared.Metadata.the-variants.{Size, Count, List as Listed}
 use Rattle.protocol.specs.declared.ReadOp.{ReadOp}
 use Rattle.protocol.specs.declared.ReadOp.the-variants.{QueryObject, GetMetadata, GetSelected, GetAll}
-use Rattle.protocol.specs.Answers.{kindNumber}
+use Rattle.protocol.specs.Answers.{isGet}
 use Rattle.inventory.specs.Inventory.{partCount, partsSize}
 use Rattle.rules.specs.Rules.{askedOf}
 use Rattle.objects.specs.Objects.{onFound}
@@ -22,11 +21,11 @@ use Rattle.reads.specs.declared.Reading.{Reading}
 abbrev pub refuseRead : Answer → Reading
 refuseRead a = record { answer = a; body = Nothing }
 
-abbrev pub found : Body → Reading
-found b = record { answer = Done; body = b }
+abbrev pub succeedRead : Body → Reading
+succeedRead b = record { answer = Done; body = b }
 
 unfoldable pub queryOf : ℕ → Member → Reading
-queryOf id m = onFound (lookupOf m id) (λ k. found (Kind k)) (refuseRead NotLive)
+queryOf id m = onFound (lookupOf m id) (λ k. succeedRead (Kind k)) (refuseRead NotLive)
 
 abbrev pub metadataOf : ℕ → Metadata → Body
 metadataOf queues Size = Number (partsSize queues)
@@ -37,15 +36,15 @@ metadataOf queues Listed = Headers
 unfoldable pub throughGet : ℕ → Member → Reading → Reading
 throughGet id m rest =
     onFound (lookupOf m id)
-    (λ k. unless eqb (kindNumber k) 0 answer refuseRead WrongKind then rest)
+    (λ k. unless isGet k answer refuseRead WrongKind then rest)
     (refuseRead NotLive)
 
 -- list holds the headers asked for
 unfoldable pub selectedOf : ℕ → List ℕ → Reading
-selectedOf queues list = unless askedOf queues list answer refuseRead BadList then found Selected
+selectedOf queues list = unless askedOf queues list answer refuseRead BadList then succeedRead Selected
 
 abbrev pub readOf : ℕ → List ℕ → ReadOp → Member → Reading
 readOf queues list (QueryObject id) m = queryOf id m
-readOf queues list (GetMetadata id what) m = throughGet id m (found (metadataOf queues what))
+readOf queues list (GetMetadata id what) m = throughGet id m (succeedRead (metadataOf queues what))
 readOf queues list (GetSelected id) m = throughGet id m (selectedOf queues list)
-readOf queues list (GetAll id) m = throughGet id m (found All)
+readOf queues list (GetAll id) m = throughGet id m (succeedRead All)

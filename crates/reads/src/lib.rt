@@ -1,9 +1,9 @@
-// The commands that read a member: steps 8 to 10 of document 01's table of statuses. They read its record where it
-// stands in the card.
+// The commands that read a member: steps 8 to 10 of document 01's table of statuses. They read its bytes where
+// they stand in the card.
 ghost use mathlib.Core.Path.{_≡_};
 ghost use lib.ListN.{length};
-ghost use Rattle.member.specs.Record.{recordSize, memberOf};
-ghost use Rattle.reads.specs.Reads.{refuseRead, found, queryOf, metadataOf, throughGet, selectedOf, readOf};
+ghost use Rattle.member.specs.Record.{memberSize, memberOf};
+ghost use Rattle.reads.specs.Reads.{refuseRead, succeedRead, queryOf, metadataOf, throughGet, selectedOf, readOf};
 use objects::Found;
 use protocol::Answer;
 use protocol::Metadata;
@@ -35,8 +35,8 @@ fn refuse_read(answer: Answer) -> Reading
     }
 }
 
-fn answer_with(body: Body) -> Reading
-    ensures { λ r. ⌜ r ≡ found body ⌝ }
+fn succeed_read(body: Body) -> Reading
+    ensures { λ r. ⌜ r ≡ succeedRead body ⌝ }
 {
     Reading {
         answer: Answer::Done,
@@ -44,14 +44,14 @@ fn answer_with(body: Body) -> Reading
     }
 }
 
-fn query(rec: &[u8], id: usize) -> Reading
-    requires { ⌜ length (now rec) ≡ recordSize ⌝ }
-    ensures { λ r. ⌜ r ≡ queryOf id (memberOf (now (rec .entry))) ⌝ }
+fn query(bytes: &[u8], id: usize) -> Reading
+    requires { ⌜ length (now bytes) ≡ memberSize ⌝ }
+    ensures { λ r. ⌜ r ≡ queryOf id (memberOf (now (bytes .entry))) ⌝ }
 {
-    let Found::Live(kind) = member::lookup_in(rec, id) else {
+    let Found::Live(kind) = member::lookup_in(bytes, id) else {
         return refuse_read(Answer::NotLive);
     };
-    answer_with(Body::Kind(kind))
+    succeed_read(Body::Kind(kind))
 }
 
 fn metadata(what: Metadata, queues: u8) -> Body
@@ -64,58 +64,58 @@ fn metadata(what: Metadata, queues: u8) -> Body
     }
 }
 
-fn get_metadata(rec: &[u8], id: usize, what: Metadata, queues: u8) -> Reading
-    requires { ⌜ length (now rec) ≡ recordSize ⌝ }
-    ensures { λ r. ⌜ r ≡ throughGet id (memberOf (now (rec .entry))) (found (metadataOf queues what)) ⌝ }
+fn get_metadata(bytes: &[u8], id: usize, what: Metadata, queues: u8) -> Reading
+    requires { ⌜ length (now bytes) ≡ memberSize ⌝ }
+    ensures { λ r. ⌜ r ≡ throughGet id (memberOf (now (bytes .entry))) (succeedRead (metadataOf queues what)) ⌝ }
 {
-    let Found::Live(kind) = member::lookup_in(rec, id) else {
+    let Found::Live(kind) = member::lookup_in(bytes, id) else {
         return refuse_read(Answer::NotLive);
     };
-    if protocol::kind_number(kind) != 0 {
+    let ObjectKind::Get = kind else {
         return refuse_read(Answer::WrongKind);
-    }
+    };
     let body = metadata(what, queues);
-    answer_with(body)
+    succeed_read(body)
 }
 
-fn get_selected(rec: &[u8], id: usize, queues: u8, list: &[u8]) -> Reading
-    requires { ⌜ length (now rec) ≡ recordSize ⌝ }
-    ensures { λ r. ⌜ r ≡ throughGet id (memberOf (now (rec .entry))) (selectedOf queues (now (list .entry))) ⌝ }
+fn get_selected(bytes: &[u8], id: usize, queues: u8, list: &[u8]) -> Reading
+    requires { ⌜ length (now bytes) ≡ memberSize ⌝ }
+    ensures { λ r. ⌜ r ≡ throughGet id (memberOf (now (bytes .entry))) (selectedOf queues (now (list .entry))) ⌝ }
 {
-    let Found::Live(kind) = member::lookup_in(rec, id) else {
+    let Found::Live(kind) = member::lookup_in(bytes, id) else {
         return refuse_read(Answer::NotLive);
     };
-    if protocol::kind_number(kind) != 0 {
+    let ObjectKind::Get = kind else {
         return refuse_read(Answer::WrongKind);
-    }
+    };
     if !rules::check_asked(queues, list) {
         return refuse_read(Answer::BadList);
     }
-    answer_with(Body::Selected)
+    succeed_read(Body::Selected)
 }
 
-fn get_all(rec: &[u8], id: usize) -> Reading
-    requires { ⌜ length (now rec) ≡ recordSize ⌝ }
-    ensures { λ r. ⌜ r ≡ throughGet id (memberOf (now (rec .entry))) (found Body.All) ⌝ }
+fn get_all(bytes: &[u8], id: usize) -> Reading
+    requires { ⌜ length (now bytes) ≡ memberSize ⌝ }
+    ensures { λ r. ⌜ r ≡ throughGet id (memberOf (now (bytes .entry))) (succeedRead Body.All) ⌝ }
 {
-    let Found::Live(kind) = member::lookup_in(rec, id) else {
+    let Found::Live(kind) = member::lookup_in(bytes, id) else {
         return refuse_read(Answer::NotLive);
     };
-    if protocol::kind_number(kind) != 0 {
+    let ObjectKind::Get = kind else {
         return refuse_read(Answer::WrongKind);
-    }
-    answer_with(Body::All)
+    };
+    succeed_read(Body::All)
 }
 
 // A command that reads; list holds the headers asked for.
-pub fn read(rec: &[u8], op: ReadOp, queues: u8, list: &[u8]) -> Reading
-    requires { ⌜ length (now rec) ≡ recordSize ⌝ }
-    ensures { λ r. ⌜ r ≡ readOf queues (now (list .entry)) op (memberOf (now (rec .entry))) ⌝ }
+pub fn read(bytes: &[u8], op: ReadOp, queues: u8, list: &[u8]) -> Reading
+    requires { ⌜ length (now bytes) ≡ memberSize ⌝ }
+    ensures { λ r. ⌜ r ≡ readOf queues (now (list .entry)) op (memberOf (now (bytes .entry))) ⌝ }
 {
     match op {
-        ReadOp::QueryObject(id) => query(rec, id),
-        ReadOp::GetMetadata(id, what) => get_metadata(rec, id, what, queues),
-        ReadOp::GetSelected(id) => get_selected(rec, id, queues, list),
-        ReadOp::GetAll(id) => get_all(rec, id),
+        ReadOp::QueryObject(id) => query(bytes, id),
+        ReadOp::GetMetadata(id, what) => get_metadata(bytes, id, what, queues),
+        ReadOp::GetSelected(id) => get_selected(bytes, id, queues, list),
+        ReadOp::GetAll(id) => get_all(bytes, id),
     }
 }

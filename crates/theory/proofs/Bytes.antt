@@ -1,4 +1,4 @@
--- The laws of `part`, `put` and `repeat` of specs/Bytes.antt. `put` never writes past the end, so most ask no length.
+-- The laws of `bytesAt`, `put` and `repeat` of specs/Bytes.antt. `put` never writes past the end, so most ask no length.
 -- Assumes nothing.
 use mathlib.Core.Path.{_≡_, refl, ap, _∙_}
 use mathlib.Core.List.{List, [], _∷_, _++_, append-nil}
@@ -24,14 +24,17 @@ put-nil at [] = refl
 put-nil zero (b ∷ l) = refl
 put-nil (suc at) (b ∷ l) = ap (b ∷_) (put-nil at l)
 
--- what was put is covered by what is put there next
-pub put-put : (at : ℕ) (x y l : List ℕ) → length x ≤ length y → put at y (put at x l) ≡ put at y l
+-- what was put is covered by what is put over it
+pub put-over : (at i : ℕ) (x y l : List ℕ) → at ≤ i → i + length x ≤ at + length y → put at y (put i x l) ≡ put at y l
 unfolding put
-put-put at x y [] h = refl
-put-put zero [] y (b ∷ l) h = refl
-put-put zero (v ∷ x) [] (b ∷ l) h = absurd (omega arith)
-put-put zero (v ∷ x) (w ∷ y) (b ∷ l) h = ap (w ∷_) (put-put zero x y l (omega arith))
-put-put (suc at) x y (b ∷ l) h = ap (b ∷_) (put-put at x y l h)
+put-over at i x y [] h k = refl
+put-over zero zero [] y (b ∷ l) h k = refl
+put-over zero zero (v ∷ x) [] (b ∷ l) h k = absurd (omega arith)
+put-over zero zero (v ∷ x) (w ∷ y) (b ∷ l) h k = ap (w ∷_) (put-over zero zero x y l (omega arith) (omega arith))
+put-over zero (suc i) x [] (b ∷ l) h k = absurd (omega arith)
+put-over zero (suc i) x (w ∷ y) (b ∷ l) h k = ap (w ∷_) (put-over zero i x y l (omega arith) (omega arith))
+put-over (suc at) zero x y (b ∷ l) h k = absurd (omega arith)
+put-over (suc at) (suc i) x y (b ∷ l) h k = ap (b ∷_) (put-over at i x y l (omega arith) (omega arith))
 
 -- two that lie apart, in either order
 pub put-comm : (i : ℕ) (x : List ℕ) (j : ℕ) (y l : List ℕ) → i + length x ≤ j → put i x (put j y l) ≡ put j y (put i x l)
@@ -42,20 +45,6 @@ put-comm zero (v ∷ x) zero y (b ∷ l) h = absurd (omega arith)
 put-comm zero (v ∷ x) (suc j) y (b ∷ l) h = ap (v ∷_) (put-comm zero x j y l (omega arith))
 put-comm (suc i) x zero y (b ∷ l) h = absurd (omega arith)
 put-comm (suc i) x (suc j) y (b ∷ l) h = ap (b ∷_) (put-comm i x j y l (omega arith))
-
--- to put back what was there undoes a put
-pub put-undo : (at n : ℕ) (x l : List ℕ) → length x ≤ n → put at (bytesAt at n l) (put at x l) ≡ l
-unfolding put
-put-undo at n x [] h = refl
-put-undo zero zero [] (b ∷ l) h = refl
-put-undo zero zero (v ∷ x) (b ∷ l) h = absurd (omega arith)
-put-undo zero (suc n) [] (b ∷ l) h = ap (b ∷_) (rw put-nil at (put-undo zero n [] l (omega arith)))
-put-undo zero (suc n) (v ∷ x) (b ∷ l) h = ap (b ∷_) (put-undo zero n x l (omega arith))
-put-undo (suc at) n x (b ∷ l) h = ap (b ∷_) (put-undo at n x l h)
-
--- to put what is there changes nothing
-pub put-bytesAt : (at n : ℕ) (l : List ℕ) → put at (bytesAt at n l) l ≡ l
-put-bytesAt at n l = rw put-nil at (put-undo at n [] l (omega arith))
 
 -- past the end nothing is put
 pub put-out : (at : ℕ) (x l : List ℕ) → length l ≤ at → put at x l ≡ l

@@ -1,4 +1,4 @@
--- `card::save_member` meets its contract: the part that comes back is the record. Assumes nothing.
+-- `card::save_member` meets its contract: the part that comes back is the member's. Assumes nothing.
 use borrow.Author.Needs.{needs}
 use Rattle.card.proofs.WriteLaws.{member-saved}
 use Rattle.card.proofs.save_member.Statement.{statement}

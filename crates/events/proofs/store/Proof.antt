@@ -1,8 +1,7 @@
--- `events::store` meets its contract: each return is a step of `store`. Assumes nothing.
+-- `events::store` meets its contract. Assumes nothing.
 use borrow.Author.Needs.{needs}
-use Rattle.theory.proofs.Ladder.{ladder}
 use Rattle.events.specs.Events.{store}
-use Rattle.events.proofs.EventLaws.{told, store-done}
+use Rattle.events.proofs.EventLaws.{on-member}
 use Rattle.events.proofs.store.Statement.{statement}
 use Rattle.events.proofs.store.Tie as tie
 
@@ -10,6 +9,7 @@ pub store-spec : {M : Type 1} → statement M
 unfolding store
 store-spec =
     tie.close
-    (tie.spec (λ c κs. search needs) (λ c. search needs) (λ c. search ladder) (λ c κs. search told)
-    (λ c. search needs) (λ c. search ladder) (λ c κs. search needs) (λ c κs. search told)
-    (λ c. search needs) (λ c. search (ladder, store-done)))
+    (tie.spec (λ c κs. search needs) (λ c κs. search needs) (λ c. search needs)
+    (λ c. search on-member) (λ c κs. search needs)
+    (λ c κs. search on-member) (λ c. search needs)
+    (λ c. search on-member))

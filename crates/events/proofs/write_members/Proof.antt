@@ -7,14 +7,14 @@ use Rattle.events.proofs.write_members.Statement.{statement}
 use Rattle.events.proofs.write_members.Tie as tie
 
 abbrev Inv-loop : tie.InvT-loop
-Inv-loop card₀ n fresh m₀ card m = Filled fresh card₀ card n m
+Inv-loop card₀ n features m₀ card m = Filled features card₀ card n m
 
 abbrev μ-loop : tie.MeasureT-loop
-μ-loop card₀ n fresh m₀ card m = n - m
+μ-loop card₀ n features m₀ card m = n - m
 
 pub write-members-spec : {M : Type 1} → statement M
 write-members-spec =
     tie.close
-    (tie.spec Inv-loop μ-loop (λ c κs. search needs) (λ c. search (needs, filled-start)) (λ c. search needs)
+    (tie.spec Inv-loop μ-loop (λ c. search (needs, filled-start)) (λ c. search needs)
     (λ c κs. search (needs, filled-has)) (λ c. search needs) (λ c. search (needs, filled-on)) (λ c. search needs)
     (λ c. search (needs, filled-end)))

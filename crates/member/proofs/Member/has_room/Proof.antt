@@ -1,8 +1,8 @@
--- `member::has_room` meets its contract. Assumes nothing.
+-- `member::Member::has_room` meets its contract. Assumes nothing.
 use borrow.Author.Needs.{needs}
 use Rattle.objects.proofs.Objects.{bytes-low}
-use Rattle.member.proofs.has_room.Statement.{statement}
-use Rattle.member.proofs.has_room.Tie as tie
+use Rattle.member.proofs.Member.has_room.Statement.{statement}
+use Rattle.member.proofs.Member.has_room.Tie as tie
 
 returns : tie.Need-returns
 returns c = cc

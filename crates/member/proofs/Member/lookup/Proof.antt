@@ -1,9 +1,9 @@
--- `member::lookup` meets its contract. Assumes nothing.
+-- `member::Member::lookup` meets its contract. Assumes nothing.
 use borrow.Author.Needs.{needs}
 use Rattle.objects.proofs.Arrays.{unmapped}
 use Rattle.member.proofs.Objects.{lookup-in, lookup-out}
-use Rattle.member.proofs.lookup.Statement.{statement}
-use Rattle.member.proofs.lookup.Tie as tie
+use Rattle.member.proofs.Member.lookup.Statement.{statement}
+use Rattle.member.proofs.Member.lookup.Tie as tie
 
 pub lookup-spec : {M : Type 1} → statement M
 lookup-spec =
