@@ -47,7 +47,7 @@ pub enum ObjectKind {
 pub enum Metadata {
     Size,
     Count,
-    List,
+    HeaderList,
 }
 
 // An operation on a member that has a result and changes nothing. Each names a resource object by its id.

@@ -6,7 +6,7 @@ use Rattle.theory.specs.Logic.{unless_answer_then_}
 use Rattle.protocol.specs.declared.Answer.{Answer}
 use Rattle.protocol.specs.declared.Answer.the-variants.{Done, NotLive, WrongKind, BadList}
 use Rattle.protocol.specs.declared.Metadata.{Metadata}
-use Rattle.protocol.specs.declared.Metadata.the-variants.{Size, Count, List as Listed}
+use Rattle.protocol.specs.declared.Metadata.the-variants.{Size, Count, HeaderList}
 use Rattle.protocol.specs.declared.ReadOp.{ReadOp}
 use Rattle.protocol.specs.declared.ReadOp.the-variants.{QueryObject, GetMetadata, GetSelected, GetAll}
 use Rattle.protocol.specs.Answers.{kindNumber}
@@ -31,7 +31,7 @@ queryOf id m = onFound (lookupOf m id) (λ k. found (Kind k)) (refuseRead NotLiv
 abbrev pub metadataOf : ℕ → Metadata → Body
 metadataOf queues Size = Number (partsSize queues)
 metadataOf queues Count = Number (partCount queues)
-metadataOf queues Listed = Headers
+metadataOf queues HeaderList = Headers
 
 -- "Metadata and parts get need a get object"
 unfoldable pub throughGet : ℕ → Member → Reading → Reading

@@ -60,7 +60,7 @@ fn metadata(what: Metadata, queues: u8) -> Body
     match what {
         Metadata::Size => Body::Number(inventory::parts_size(queues)),
         Metadata::Count => Body::Number(inventory::part_count(queues)),
-        Metadata::List => Body::Headers,
+        Metadata::HeaderList => Body::Headers,
     }
 }
 
