@@ -166,7 +166,7 @@ fn repeats(form: ListForm, list: &[u8], queues: u8) -> bool
             else {
                 break 'rest;
             };
-            if parts::is_named(part_type, selector, other, other_selector) {
+            if parts::is_same_part(part_type, selector, other, other_selector) {
                 break 'parts;
             }
             on = other_start + other_len;

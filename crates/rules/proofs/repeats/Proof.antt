@@ -6,7 +6,7 @@ use borrow.Author.Needs.{needs}
 use lib.ListN.{length}
 use Rattle.theory.specs.Logic.{_or_}
 use Rattle.parts.specs.List.{partsOf, partsFrom, among}
-use Rattle.parts.proofs.Turns.{walk, among-stop, among-on, among-hit}
+use Rattle.parts.proofs.Turns.{walk, among-stop, among-on, among-found}
 use Rattle.rules.specs.Rules.{repeated}
 use Rattle.rules.proofs.Turns.{repeated-stop, repeated-skip, repeated-rest}
 use Rattle.rules.proofs.repeats.Statement.{statement}
@@ -34,4 +34,4 @@ repeats-spec =
     (λ c. search (sym, repeated-stop)) (λ c. search walk) (λ c κs. search needs) (λ c. search walk)
     (λ c. search repeated-skip) (λ c. search repeated-rest) (λ c κs. search needs) (λ c. search needs)
     (λ c. search walk) (λ c. search among-stop) (λ c κs. search needs) (λ c. search walk) (λ c. search walk)
-    (λ c. search among-on) (λ c. search (sym, among-hit)))
+    (λ c. search among-on) (λ c. search (sym, among-found)))
