@@ -78,7 +78,7 @@ pub fn copy(dst: &mut [u8], at: usize, src: &[u8])
 }
 
 // One byte more of a comparison.
-fn still(alike: bool, x: u8, y: u8) -> bool
+fn and_same(alike: bool, x: u8, y: u8) -> bool
     ensures { λ r. ⌜ r ≡ alike and eqb x y ⌝ }
 {
     if x == y { alike } else { false }
@@ -94,7 +94,7 @@ pub fn equal(a: &[u8], b: &[u8]) -> bool
     let mut alike = true;
     let mut i = 0;
     while i < a.len() {
-        alike = still(alike, a[i], b[i]);
+        alike = and_same(alike, a[i], b[i]);
         i += 1;
     }
     alike
