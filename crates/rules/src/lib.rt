@@ -154,7 +154,7 @@ fn repeats(form: ListForm, list: &[u8], queues: u8) -> bool
         if !is_known(queues, part_type, selector) {
             continue 'parts;
         }
-        let mut on = at;
+        let mut rest_at = at;
         'rest: loop {
             let Step::Part {
                 part_type: other,
@@ -162,14 +162,14 @@ fn repeats(form: ListForm, list: &[u8], queues: u8) -> bool
                 selector: other_selector,
                 start: other_start,
                 len: other_len,
-            } = parts::next_part(form, list, on)
+            } = parts::next_part(form, list, rest_at)
             else {
                 break 'rest;
             };
             if parts::is_same_part(part_type, selector, other, other_selector) {
                 break 'parts;
             }
-            on = other_start + other_len;
+            rest_at = other_start + other_len;
         }
     }
     true

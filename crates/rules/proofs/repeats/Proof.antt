@@ -1,5 +1,5 @@
 -- `rules::repeats` meets its contract. The outer loop keeps that the parts that are left answer
--- for the whole list; the inner one that they do with the part in hand, looked for among those from `on`. Assumes nothing.
+-- for the whole list; the inner one that they do with the part in hand, looked for among those from `rest_at`. Assumes nothing.
 use mathlib.Core.Path.{_≡_, refl, sym}
 use Prim.Native.Nat.{_-_}
 use borrow.Author.Needs.{needs}
@@ -13,12 +13,12 @@ use Rattle.rules.proofs.repeats.Statement.{statement}
 use Rattle.rules.proofs.repeats.Tie as tie
 
 abbrev Inv-rest : tie.InvT-rest
-Inv-rest form list queues at part-type selector start len on₀ on =
+Inv-rest form list queues at part-type selector start len rest-at₀ rest-at =
     repeated queues (partsOf form list)
-    ≡ among part-type selector (partsFrom form list on) or repeated queues (partsFrom form list at)
+    ≡ among part-type selector (partsFrom form list rest-at) or repeated queues (partsFrom form list at)
 
 abbrev μ-rest : tie.MeasureT-rest
-μ-rest form list queues at part-type selector start len on₀ on = length list - on
+μ-rest form list queues at part-type selector start len rest-at₀ rest-at = length list - rest-at
 
 abbrev Inv-parts : tie.InvT-parts
 Inv-parts form list queues at₀ at =
