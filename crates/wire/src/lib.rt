@@ -2,7 +2,7 @@
 ghost use mathlib.Core.Path.{_≡_};
 ghost use Prim.Native.Nat.{_+_, _^_, _≤_, _<_};
 ghost use lib.Dec.{eqb};
-ghost use lib.ListN.{length};
+ghost use lib.ListN.{length, replicate};
 ghost use Rattle.theory.specs.Logic.{_and_};
 ghost use Rattle.theory.specs.Bytes.{put, same};
 ghost use Rattle.wire.specs.Le.{bytes, number};
@@ -74,6 +74,17 @@ pub fn copy(dst: &mut [u8], at: usize, src: &[u8])
     while done < src.len() {
         dst[at + done] = src[done];
         done += 1;
+    }
+}
+
+// Every byte becomes 0.
+pub fn zero(s: &mut [u8])
+    ensures { λ _. ⌜ now (s .exit) ≡ replicate (length (now (s .entry))) 0 ⌝ }
+{
+    let mut i = 0;
+    while i < s.len() {
+        s[i] = 0;
+        i += 1;
     }
 }
 
