@@ -1,6 +1,6 @@
 -- The numbers of the answers, document 01, "Statuses, and which comes first", of modes and of the kinds of
 -- objects. Assumes nothing.
-use mathlib.Core.Bool.{Bool}
+use mathlib.Core.Bool.{Bool, true, false}
 use Prim.Native.Nat.{ℕ, zero, suc}
 use lib.Dec.{eqb}
 use Rattle.protocol.specs.declared.Answer.{Answer}
@@ -54,6 +54,19 @@ eventNumber event.NoMember = 1
 eventNumber event.NoPart = 2
 eventNumber event.WrongLength = 3
 eventNumber event.BadSetup = 4
+
+-- what a member's mode and an object's kind are asked
+abbrev pub isStopped : Mode → Bool
+isStopped mode.Running = false
+isStopped mode.Stopped = true
+
+abbrev pub isGet : ObjectKind → Bool
+isGet Get = true
+isGet Set = false
+
+abbrev pub isSet : ObjectKind → Bool
+isSet Get = false
+isSet Set = true
 
 -- 0 running, 1 stopped
 abbrev pub modeOf : ℕ → Mode
