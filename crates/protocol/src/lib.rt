@@ -67,6 +67,16 @@ pub enum ChangeOp {
     SetMode(Mode),
 }
 
+// What a reply holds from byte 8.
+pub enum Body {
+    Nothing,
+    Kind(ObjectKind),
+    Number(u32),
+    Headers,
+    Selected,
+    All,
+}
+
 pub fn status(a: Answer) -> u16
     ensures { λ r. ⌜ r ≡ statusOf a ⌝ }
 {

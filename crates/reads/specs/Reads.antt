@@ -15,8 +15,8 @@ use Rattle.rules.specs.Rules.{askedOf}
 use Rattle.objects.specs.Objects.{onFound}
 use Rattle.member.specs.declared.Member.{Member}
 use Rattle.member.specs.Objects.{lookupOf}
-use Rattle.reads.specs.declared.Body.{Body}
-use Rattle.reads.specs.declared.Body.the-variants.{Nothing, Kind, Number, Headers, Selected, All}
+use Rattle.protocol.specs.declared.Body.{Body}
+use Rattle.protocol.specs.declared.Body.the-variants.{Nothing, Kind, Number, Headers, Selected, All}
 use Rattle.reads.specs.declared.Reading.{Reading}
 
 abbrev pub refuseRead : Answer → Reading

@@ -6,19 +6,9 @@ ghost use Rattle.member.specs.Record.{recordSize, memberOf};
 ghost use Rattle.reads.specs.Reads.{refuseRead, found, queryOf, metadataOf, throughGet, selectedOf, readOf};
 use objects::Found;
 use protocol::Answer;
+use protocol::Body;
 use protocol::Metadata;
-use protocol::ObjectKind;
 use protocol::ReadOp;
-
-// What a reply holds from byte 8.
-pub enum Body {
-    Nothing,
-    Kind(ObjectKind),
-    Number(u32),
-    Headers,
-    Selected,
-    All,
-}
 
 // The outcome of an operation that has a result and changes nothing.
 pub struct Reading {
