@@ -128,7 +128,7 @@ fn is_asked(queues: u8, asked: &[u8], row_type: u16, row_selector: u8) -> bool
     if !inventory::is_present(queues, row_type, row_selector) {
         return false;
     }
-    parts::names(ListForm::Headers, asked, row_type, row_selector as u64)
+    parts::contains(ListForm::Headers, asked, row_type, row_selector as u64)
 }
 
 // Those parts in the order of the table, at the front of what is lent.

@@ -15,7 +15,7 @@ use Rattle.theory.proofs.Ladder.{pass}
 use Rattle.wire.specs.Le.{number}
 use Rattle.protocol.specs.declared.Answer.the-variants.{BadField}
 use Rattle.protocol.specs.declared.ObjectKind.the-variants.{Set}
-use Rattle.protocol.specs.declared.Metadata.the-variants.{List as Headers}
+use Rattle.protocol.specs.declared.Metadata.the-variants.{HeaderList}
 use Rattle.protocol.specs.Opcodes.{opcodeRows, supported, supportedOnly, lengthFits, namesMember}
 use Rattle.protocol.proofs.Rows.{supported-is, data-long}
 use Rattle.frame.specs.declared.Ask.{Ask}
@@ -29,7 +29,7 @@ pub kind-set : (b : ℕ) → (b ≡ 0 → ⊥) → Set ≡ kindIn b
 kind-set zero n = absurd (n refl)
 kind-set (suc b) n = refl
 
-pub metadata-list : (b : ℕ) → (b ≡ 0 → ⊥) → (b ≡ 1 → ⊥) → Headers ≡ metadataIs b
+pub metadata-list : (b : ℕ) → (b ≡ 0 → ⊥) → (b ≡ 1 → ⊥) → HeaderList ≡ metadataIs b
 metadata-list zero n o = absurd (n refl)
 metadata-list (suc zero) n o = absurd (o refl)
 metadata-list (suc (suc b)) n o = refl

@@ -11,7 +11,7 @@ use Rattle.protocol.specs.declared.Answer.the-variants.{BadField}
 use Rattle.protocol.specs.declared.ObjectKind.{ObjectKind}
 use Rattle.protocol.specs.declared.ObjectKind.the-variants.{Get, Set}
 use Rattle.protocol.specs.declared.Metadata.{Metadata}
-use Rattle.protocol.specs.declared.Metadata.the-variants.{Size, Count, List as Headers}
+use Rattle.protocol.specs.declared.Metadata.the-variants.{Size, Count, HeaderList}
 use Rattle.protocol.specs.declared.ReadOp.the-variants.{QueryObject, GetMetadata, GetSelected, GetAll}
 use Rattle.protocol.specs.declared.ChangeOp.the-variants.{Create, Modify, Destroy, SetParts, SetMode}
 use Rattle.protocol.specs.Answers.{modeOf}
@@ -62,7 +62,7 @@ destroyIn ids m d =
 abbrev pub metadataIs : ℕ → Metadata
 metadataIs zero = Size
 metadataIs (suc zero) = Count
-metadataIs (suc (suc n)) = Headers
+metadataIs (suc (suc n)) = HeaderList
 
 unfoldable pub metadataIn : ℕ → ℕ → List ℕ → Ask
 metadataIn ids m d =

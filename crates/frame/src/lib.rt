@@ -134,7 +134,7 @@ fn metadata_is(b: u8) -> Metadata
     match b {
         0 => Metadata::Size,
         1 => Metadata::Count,
-        _ => Metadata::List,
+        _ => Metadata::HeaderList,
     }
 }
 

@@ -74,24 +74,18 @@ pub enum Place {
     Absent,
 }
 
-fn wide(x: u8) -> usize
-    ensures { λ r. ⌜ r ≡ x ⌝ }
-{
-    x as usize
-}
-
 pub fn size_of(i: usize) -> usize
     requires { ⌜ i < rowCount ⌝ }
     ensures { λ r. ⌜ r ≡ rowAt i .size ⌝ }
 {
-    wide(SIZES[i])
+    SIZES[i] as usize
 }
 
 pub fn offset_of(i: usize) -> usize
     requires { ⌜ i < rowCount ⌝ }
     ensures { λ r. ⌜ r ≡ offsetOf i ⌝ }
 {
-    wide(OFFSETS[i])
+    OFFSETS[i] as usize
 }
 
 // Whether a member with so many queues has the part of a row.

@@ -78,9 +78,9 @@ module _ (form : ListForm) (l : List ℕ) (at : ℕ) (r : Step) (here : r ≡ st
       unfolding among
       among-on h = e ∙ rw (opened, ← named, h, false-or)
 
-      pub among-hit : b ≡ true → x ≡ true
+      pub among-found : b ≡ true → x ≡ true
       unfolding among
-      among-hit h = e ∙ rw (opened, ← named, h, true-or, true-or)
+      among-found h = e ∙ rw (opened, ← named, h, true-or, true-or)
 
 -- `search walk` closes what the code asks of a part that is found
 pub ruleset walk = (needs, found-start, found-end, found-fits, found-less)

@@ -124,7 +124,7 @@ pub fn is_whole(form: ListForm, list: &[u8]) -> bool
 }
 
 // Whether a part of type u and selector v is the one of type t and selector s.
-pub fn is_named(t: u16, s: u64, u: u16, v: u64) -> bool
+pub fn is_same_part(t: u16, s: u64, u: u16, v: u64) -> bool
     ensures { λ r. ⌜ r ≡ eqb u t and eqb v s ⌝ }
 {
     if u != t {
@@ -134,7 +134,7 @@ pub fn is_named(t: u16, s: u64, u: u16, v: u64) -> bool
 }
 
 // Whether some part of the list has this type and selector.
-pub fn names(form: ListForm, list: &[u8], t: u16, selector: u64) -> bool
+pub fn contains(form: ListForm, list: &[u8], t: u16, selector: u64) -> bool
     ensures { λ r. ⌜ r ≡ among t selector (partsOf form (now (list .entry))) ⌝ }
 {
     let mut at = 0;
@@ -149,7 +149,7 @@ pub fn names(form: ListForm, list: &[u8], t: u16, selector: u64) -> bool
         else {
             return false;
         };
-        if is_named(t, selector, part_type, other) {
+        if is_same_part(t, selector, part_type, other) {
             return true;
         }
         at = start + len;

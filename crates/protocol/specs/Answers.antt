@@ -63,11 +63,7 @@ isEventDone event.NoPart = false
 isEventDone event.WrongLength = false
 isEventDone event.BadSetup = false
 
--- 0 running, 1 stopped
-abbrev pub modeOf : ℕ → Mode
-modeOf zero = mode.Running
-modeOf (suc n) = mode.Stopped
-
+-- what a member's mode and an object's kind are asked
 abbrev pub isStopped : Mode → Bool
 isStopped mode.Running = false
 isStopped mode.Stopped = true
@@ -79,6 +75,11 @@ isGet Set = false
 abbrev pub isSet : ObjectKind → Bool
 isSet Get = false
 isSet Set = true
+
+-- 0 running, 1 stopped
+abbrev pub modeOf : ℕ → Mode
+modeOf zero = mode.Running
+modeOf (suc n) = mode.Stopped
 
 -- 0 get, 1 set
 abbrev pub kindNumber : ObjectKind → ℕ

@@ -47,7 +47,7 @@ pub enum ObjectKind {
 pub enum Metadata {
     Size,
     Count,
-    List,
+    HeaderList,
 }
 
 // An operation on a member that has a result and changes nothing. Each names a resource object by its id.
@@ -65,6 +65,16 @@ pub enum ChangeOp {
     Destroy(usize),
     SetParts(usize),
     SetMode(Mode),
+}
+
+// What a reply holds from byte 8.
+pub enum Body {
+    Nothing,
+    Kind(ObjectKind),
+    Number(u32),
+    Headers,
+    Selected,
+    All,
 }
 
 pub fn status(a: Answer) -> u16

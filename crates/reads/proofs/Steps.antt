@@ -4,7 +4,7 @@ use mathlib.Core.Path.{_≡_, _∙_}
 use Rattle.theory.proofs.Ladder.{ladder}
 use Rattle.protocol.proofs.Operations.{kind-get, kind-not-get}
 use Rattle.member.proofs.Objects.{on-live, on-nothing}
-use Rattle.reads.specs.declared.Body.{Body}
+use Rattle.protocol.specs.declared.Body.{Body}
 use Rattle.reads.specs.declared.Reading.{Reading}
 use Rattle.reads.specs.Reads.{succeedRead}
 

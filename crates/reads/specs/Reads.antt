@@ -5,7 +5,7 @@ use Rattle.theory.specs.Logic.{unless_answer_then_}
 use Rattle.protocol.specs.declared.Answer.{Answer}
 use Rattle.protocol.specs.declared.Answer.the-variants.{Done, NotLive, WrongKind, BadList}
 use Rattle.protocol.specs.declared.Metadata.{Metadata}
-use Rattle.protocol.specs.declared.Metadata.the-variants.{Size, Count, List as Listed}
+use Rattle.protocol.specs.declared.Metadata.the-variants.{Size, Count, HeaderList}
 use Rattle.protocol.specs.declared.ReadOp.{ReadOp}
 use Rattle.protocol.specs.declared.ReadOp.the-variants.{QueryObject, GetMetadata, GetSelected, GetAll}
 use Rattle.protocol.specs.Answers.{isGet}
@@ -14,8 +14,8 @@ use Rattle.rules.specs.Rules.{askedOf}
 use Rattle.objects.specs.Objects.{onFound}
 use Rattle.member.specs.declared.Member.{Member}
 use Rattle.member.specs.Objects.{lookupOf}
-use Rattle.reads.specs.declared.Body.{Body}
-use Rattle.reads.specs.declared.Body.the-variants.{Nothing, Kind, Number, Headers, Selected, All}
+use Rattle.protocol.specs.declared.Body.{Body}
+use Rattle.protocol.specs.declared.Body.the-variants.{Nothing, Kind, Number, Headers, Selected, All}
 use Rattle.reads.specs.declared.Reading.{Reading}
 
 abbrev pub refuseRead : Answer → Reading
@@ -30,7 +30,7 @@ queryOf id m = onFound (lookupOf m id) (λ k. succeedRead (Kind k)) (refuseRead 
 abbrev pub metadataOf : ℕ → Metadata → Body
 metadataOf queues Size = Number (partsSize queues)
 metadataOf queues Count = Number (partCount queues)
-metadataOf queues Listed = Headers
+metadataOf queues HeaderList = Headers
 
 -- "Metadata and parts get need a get object"
 unfoldable pub throughGet : ℕ → Member → Reading → Reading

@@ -6,19 +6,9 @@ ghost use Rattle.member.specs.Record.{memberSize, memberOf};
 ghost use Rattle.reads.specs.Reads.{refuseRead, succeedRead, queryOf, metadataOf, throughGet, selectedOf, readOf};
 use objects::Found;
 use protocol::Answer;
+use protocol::Body;
 use protocol::Metadata;
-use protocol::ObjectKind;
 use protocol::ReadOp;
-
-// What a reply holds from byte 8.
-pub enum Body {
-    Nothing,
-    Kind(ObjectKind),
-    Number(u32),
-    Headers,
-    Selected,
-    All,
-}
 
 // The outcome of an operation that has a result and changes nothing.
 pub struct Reading {
@@ -60,7 +50,7 @@ fn metadata(what: Metadata, queues: u8) -> Body
     match what {
         Metadata::Size => Body::Number(inventory::parts_size(queues)),
         Metadata::Count => Body::Number(inventory::part_count(queues)),
-        Metadata::List => Body::Headers,
+        Metadata::HeaderList => Body::Headers,
     }
 }
 

@@ -18,7 +18,7 @@ use Rattle.wire.specs.Le.{bytes}
 use Rattle.protocol.specs.declared.Answer.{Answer}
 use Rattle.protocol.specs.declared.Answer.the-variants.{ShortReply}
 use Rattle.protocol.specs.Answers.{statusOf, qualifierOf, isDone}
-use Rattle.reads.specs.declared.Body.{Body}
+use Rattle.protocol.specs.declared.Body.{Body}
 use Rattle.reply.specs.declared.Written.{Written}
 use Rattle.reply.specs.Result.{resultOf}
 use Rattle.reply.specs.Reply.{headOf, finalOf, replyOf, concludeOf}

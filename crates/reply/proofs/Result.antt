@@ -15,9 +15,9 @@ use Rattle.capture.proofs.Sizes.{capture-length, headers-length}
 use Rattle.protocol.specs.declared.ObjectKind.{ObjectKind}
 use Rattle.protocol.specs.declared.ObjectKind.the-variants.{Get, Set}
 use Rattle.protocol.specs.Answers.{kindNumber}
-use Rattle.reads.specs.declared.Body.{Body}
-use Rattle.reads.specs.declared.Body.the-variants.{Nothing, Kind, Number, Headers, Selected}
-use Rattle.reads.specs.declared.Body.the-variants as body
+use Rattle.protocol.specs.declared.Body.{Body}
+use Rattle.protocol.specs.declared.Body.the-variants.{Nothing, Kind, Number, Headers, Selected}
+use Rattle.protocol.specs.declared.Body.the-variants as body
 use Rattle.reply.specs.Result.{numberBytes, resultOf}
 
 pub number-long : (n : ℕ) → length (numberBytes n) ≡ 8

@@ -6,8 +6,8 @@ use Rattle.wire.specs.Le.{bytes}
 use Rattle.protocol.specs.Answers.{kindNumber}
 use Rattle.inventory.specs.Inventory.{partCount}
 use Rattle.capture.specs.Capture.{Asked, headersOf, partsWritten, captureOf}
-use Rattle.reads.specs.declared.Body.{Body}
-use Rattle.reads.specs.declared.Body.the-variants.{Nothing, Kind, Number, Headers, Selected, All}
+use Rattle.protocol.specs.declared.Body.{Body}
+use Rattle.protocol.specs.declared.Body.the-variants.{Nothing, Kind, Number, Headers, Selected, All}
 
 -- "a 4-byte number and 4 zero bytes"
 unfoldable pub numberBytes : ℕ → List ℕ

@@ -10,7 +10,7 @@ ghost use Rattle.capture.specs.Capture.{headersOf};
 ghost use Rattle.reply.specs.Result.{numberBytes, resultOf};
 ghost use Rattle.reply.specs.Reply.{headOf, finalOf, concludeOf};
 use protocol::Answer;
-use reads::Body;
+use protocol::Body;
 
 // Status 2 bytes, qualifier 2, four zero bytes; the result follows.
 pub const HEAD_SIZE: usize = 8;

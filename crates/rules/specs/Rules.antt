@@ -10,7 +10,7 @@ use Rattle.inventory.specs.Inventory.{rowAt, deviceFeatures, placeOf, onPlace}
 use Rattle.parts.specs.declared.ListForm.the-variants.{Parts, Headers}
 use Rattle.parts.specs.List.{Part, PartList, end, cut, part, partsOf, whole, among}
 use Rattle.rules.specs.declared.Rule.{Rule}
-use Rattle.rules.specs.declared.Rule.the-variants.{KnownOrSkipped, LengthRight, FeaturesSame, AsksKnown}
+use Rattle.rules.specs.declared.Rule.the-variants.{KnownOrSkipped, LengthRight, FeaturesSame}
 use Rattle.rules.specs.declared.Cause.{Cause}
 use Rattle.rules.specs.declared.Cause.the-variants.{Accepted, Cut, Unknown, Length, Features, Twice}
 
@@ -35,16 +35,15 @@ lengthRight queues p =
 unfoldable pub featuresSame : List ℕ → Part → Bool
 featuresSame features p = not (eqb (p .partType) deviceFeatures) or same (p .value) features
 
--- an asked header "that names a part the member has not got"
-unfoldable pub asksKnown : ℕ → Part → Bool
-asksKnown queues p = known queues (p .partType) (p .selector)
-
--- the four rules by name
+-- the three rules of a part that is given, by name
 abbrev pub obeys : Rule → ℕ → List ℕ → Part → Bool
 obeys KnownOrSkipped queues features = knownOrSkipped queues
 obeys LengthRight queues features = lengthRight queues
 obeys FeaturesSame queues features = featuresSame features
-obeys AsksKnown queues features = asksKnown queues
+
+-- an asked header "that names a part the member has not got"
+unfoldable pub asksKnown : ℕ → Part → Bool
+asksKnown queues p = known queues (p .partType) (p .selector)
 
 -- ---- rules of a list ----
 

@@ -7,7 +7,7 @@ ghost use Rattle.theory.specs.Logic.{_and_, _or_};
 ghost use Rattle.theory.specs.Bytes.{same};
 ghost use Rattle.inventory.specs.Inventory.{rowAt, deviceFeatures, placeOf, onPlace};
 ghost use Rattle.parts.specs.List.{partsOf, partWith};
-ghost use Rattle.rules.specs.Rules.{known, obeys, every, repeated, causeOf, isAccepted, askedOf};
+ghost use Rattle.rules.specs.Rules.{known, obeys, asksKnown, every, repeated, causeOf, isAccepted, askedOf};
 use inventory::DEVICE_FEATURES;
 use inventory::Place;
 use parts::ListForm;
@@ -16,12 +16,11 @@ use parts::Step;
 // A part of this type or above is never skipped.
 const NEVER_SKIPPED: u16 = 0x600;
 
-// A rule of one part.
+// A rule of one part that is given to be set.
 enum Rule {
     KnownOrSkipped,
     LengthRight,
     FeaturesSame,
-    AsksKnown,
 }
 
 // What is said of a list given to be set: the first of document 01's causes that occurs anywhere in it.
@@ -80,7 +79,7 @@ fn is_features(t: u16, value: &[u8], features: &[u8]) -> bool
     wire::equal(value, features)
 }
 
-// Whether a part obeys a rule.
+// Whether a part that is given obeys a rule.
 fn obeys(
     rule: Rule,
     queues: u8,
@@ -96,13 +95,12 @@ fn obeys(
         Rule::KnownOrSkipped => is_known_or_skipped(queues, t, flags, selector),
         Rule::LengthRight => is_length_right(queues, t, selector, value.len()),
         Rule::FeaturesSame => is_features(t, value, features),
-        Rule::AsksKnown => is_known(queues, t, selector),
     }
 }
 
-// Whether every part obeys a rule.
-fn every_obeys(rule: Rule, form: ListForm, list: &[u8], queues: u8, features: &[u8]) -> bool
-    ensures { λ r. ⌜ r ≡ every (obeys rule queues (now (features .entry))) (partsOf form (now (list .entry))) ⌝ }
+// Whether every part given obeys a rule.
+fn every_obeys(rule: Rule, list: &[u8], queues: u8, features: &[u8]) -> bool
+    ensures { λ r. ⌜ r ≡ every (obeys rule queues (now (features .entry))) (partsOf ListForm.Parts (now (list .entry))) ⌝ }
 {
     let mut at = 0;
     loop {
@@ -112,7 +110,7 @@ fn every_obeys(rule: Rule, form: ListForm, list: &[u8], queues: u8, features: &[
             selector,
             start,
             len,
-        } = parts::next_part(form, list, at)
+        } = parts::next_part(ListForm::Parts, list, at)
         else {
             return true;
         };
@@ -129,6 +127,29 @@ fn every_obeys(rule: Rule, form: ListForm, list: &[u8], queues: u8, features: &[
             return false;
         }
         at = next;
+    }
+}
+
+// Whether every header asked for is of a part that the member has got.
+fn every_known(list: &[u8], queues: u8) -> bool
+    ensures { λ r. ⌜ r ≡ every (asksKnown queues) (partsOf ListForm.Headers (now (list .entry))) ⌝ }
+{
+    let mut at = 0;
+    loop {
+        let Step::Part {
+            part_type: t,
+            flags: _,
+            selector,
+            start,
+            len,
+        } = parts::next_part(ListForm::Headers, list, at)
+        else {
+            return true;
+        };
+        if !is_known(queues, t, selector) {
+            return false;
+        }
+        at = start + len;
     }
 }
 
@@ -154,7 +175,7 @@ fn repeats(form: ListForm, list: &[u8], queues: u8) -> bool
         if !is_known(queues, part_type, selector) {
             continue 'parts;
         }
-        let mut on = at;
+        let mut rest_at = at;
         'rest: loop {
             let Step::Part {
                 part_type: other,
@@ -162,14 +183,14 @@ fn repeats(form: ListForm, list: &[u8], queues: u8) -> bool
                 selector: other_selector,
                 start: other_start,
                 len: other_len,
-            } = parts::next_part(form, list, on)
+            } = parts::next_part(form, list, rest_at)
             else {
                 break 'rest;
             };
-            if parts::is_named(part_type, selector, other, other_selector) {
+            if parts::is_same_part(part_type, selector, other, other_selector) {
                 break 'parts;
             }
-            on = other_start + other_len;
+            rest_at = other_start + other_len;
         }
     }
     true
@@ -182,19 +203,13 @@ pub fn check_list(queues: u8, features: &[u8], list: &[u8]) -> Cause
     if !parts::is_whole(ListForm::Parts, list) {
         return Cause::Cut;
     }
-    if !every_obeys(
-        Rule::KnownOrSkipped,
-        ListForm::Parts,
-        list,
-        queues,
-        features,
-    ) {
+    if !every_obeys(Rule::KnownOrSkipped, list, queues, features) {
         return Cause::Unknown;
     }
-    if !every_obeys(Rule::LengthRight, ListForm::Parts, list, queues, features) {
+    if !every_obeys(Rule::LengthRight, list, queues, features) {
         return Cause::Length;
     }
-    if !every_obeys(Rule::FeaturesSame, ListForm::Parts, list, queues, features) {
+    if !every_obeys(Rule::FeaturesSame, list, queues, features) {
         return Cause::Features;
     }
     if repeats(ListForm::Parts, list, queues) {
@@ -217,14 +232,14 @@ pub fn is_accepted(c: Cause) -> bool
     }
 }
 
-// Whether a list of headers can be asked for. No features are compared, so the list stands in for them.
+// Whether a list of headers can be asked for.
 pub fn check_asked(queues: u8, list: &[u8]) -> bool
     ensures { λ r. ⌜ r ≡ askedOf queues (now (list .entry)) ⌝ }
 {
     if !parts::is_whole(ListForm::Headers, list) {
         return false;
     }
-    if !every_obeys(Rule::AsksKnown, ListForm::Headers, list, queues, list) {
+    if !every_known(list, queues) {
         return false;
     }
     !repeats(ListForm::Headers, list, queues)

@@ -4,9 +4,11 @@ use mathlib.Core.Bool.{Bool, true}
 use mathlib.Core.List.{List}
 use Prim.Native.Nat.{ℕ, suc, _+_, _-_, _*_, _/_, _%_, _^_, _≤_, _<_}
 use native.Mathlib.Nat.{add-zero, sub-zero, pow-succ', pow-le-pow-right}
+use native.Mathlib.Numerals.{add-one}
 use native.Mathlib.Omega.{arith}
 use lib.Dec.{eqb}
-use lib.ListN.{length, getD, drop, set}
+use lib.ListN.{length, getD, take, drop, set, replicate, replicate-append-replicate}
+use lib.Seq.{take-suc-set, take-all}
 use Rattle.theory.specs.Logic.{_and_}
 use Rattle.theory.specs.Bytes.{put, same}
 use Rattle.theory.proofs.Tests.{and-assoc, and-true, true-and, same-step, same-end}
@@ -63,6 +65,15 @@ module _ (s₀ s : List ℕ) (at n x v i : ℕ) (e : put at (bytes n x) s₀ ≡
 
 pub writes-start : (s : List ℕ) (at n x : ℕ) → put at (bytes n x) s ≡ put (at + 0) (bytes (n - 0) x) s
 writes-start s at n x = rw (add-zero, sub-zero)
+
+-- ---- zeroing: the first i bytes are 0 ----
+
+module _ (s : List ℕ) (i : ℕ) (e : take i s ≡ replicate i 0) where
+  pub zeroes-on : i < length s → take (i + 1) (set s i 0) ≡ replicate (i + 1) 0
+  zeroes-on h = rw (add-one, take-suc-set s i 0 h, e, replicate-append-replicate {A = ℕ} i 1 0, add-one)
+
+  pub zeroed : (n : ℕ) → i ≤ n → length s ≤ i → length s ≡ n → s ≡ replicate n 0
+  zeroed n l h k = let j : i ≡ n = omega arith in sym (take-all i s (omega arith)) ∙ e ∙ rw j
 
 -- ---- comparing: the bytes before i are alike or not, and the rest decides ----
 

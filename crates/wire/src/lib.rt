@@ -2,7 +2,7 @@
 ghost use mathlib.Core.Path.{_≡_};
 ghost use Prim.Native.Nat.{_+_, _^_, _≤_, _<_};
 ghost use lib.Dec.{eqb};
-ghost use lib.ListN.{length};
+ghost use lib.ListN.{length, replicate};
 ghost use Rattle.theory.specs.Logic.{_and_};
 ghost use Rattle.theory.specs.Bytes.{put, same};
 ghost use Rattle.wire.specs.Le.{bytes, number};
@@ -77,8 +77,19 @@ pub fn copy(dst: &mut [u8], at: usize, src: &[u8])
     }
 }
 
+// Every byte becomes 0.
+pub fn zero(s: &mut [u8])
+    ensures { λ _. ⌜ now (s .exit) ≡ replicate (length (now (s .entry))) 0 ⌝ }
+{
+    let mut i = 0;
+    while i < s.len() {
+        s[i] = 0;
+        i += 1;
+    }
+}
+
 // One byte more of a comparison.
-fn still(alike: bool, x: u8, y: u8) -> bool
+fn and_same(alike: bool, x: u8, y: u8) -> bool
     ensures { λ r. ⌜ r ≡ alike and eqb x y ⌝ }
 {
     if x == y { alike } else { false }
@@ -94,7 +105,7 @@ pub fn equal(a: &[u8], b: &[u8]) -> bool
     let mut alike = true;
     let mut i = 0;
     while i < a.len() {
-        alike = still(alike, a[i], b[i]);
+        alike = and_same(alike, a[i], b[i]);
         i += 1;
     }
     alike

@@ -3,6 +3,7 @@ use mathlib.Core.Path.{_≡_, refl, sym}
 use Prim.Native.Nat.{_-_}
 use borrow.Author.Needs.{needs}
 use lib.ListN.{length}
+use Rattle.parts.specs.declared.ListForm.the-variants.{Parts}
 use Rattle.parts.specs.List.{partsOf, partsFrom}
 use Rattle.parts.proofs.Turns.{walk}
 use Rattle.rules.specs.Rules.{every, obeys}
@@ -11,11 +12,11 @@ use Rattle.rules.proofs.every_obeys.Statement.{statement}
 use Rattle.rules.proofs.every_obeys.Tie as tie
 
 abbrev Inv-loop : tie.InvT-loop
-Inv-loop rule form list queues features at₀ at =
-    every (obeys rule queues features) (partsOf form list) ≡ every (obeys rule queues features) (partsFrom form list at)
+Inv-loop rule list queues features at₀ at =
+    every (obeys rule queues features) (partsOf Parts list) ≡ every (obeys rule queues features) (partsFrom Parts list at)
 
 abbrev μ-loop : tie.MeasureT-loop
-μ-loop rule form list queues features at₀ at = length list - at
+μ-loop rule list queues features at₀ at = length list - at
 
 pub every-obeys-spec : {M : Type 1} → statement M
 every-obeys-spec =
