@@ -3,7 +3,7 @@ use mathlib.Core.Path.{_≡_, sym, _∙_}
 use mathlib.Core.Bool.{Bool, true, false, not}
 use mathlib.Core.List.{List, []}
 use Prim.Native.Nat.{ℕ, _+_, _≤_}
-use lib.ListN.{length, drop}
+use lib.ListN.{length}
 use borrow.Author.Tests.{not-false}
 use Rattle.theory.proofs.Tests.{inside}
 use Rattle.wire.specs.Le.{bytes}
@@ -24,6 +24,7 @@ use Rattle.card.specs.Layout.{setupOf, inUseOf, isMember, recordIn, memberIn, w
 use Rattle.card.specs.Sound.{isSound}
 use Rattle.frame.specs.declared.Ask.{Ask}
 use Rattle.frame.specs.declared.Ask.the-variants.{Refused, QueryList, Read, Change}
+use Rattle.frame.specs.Frame.{askedList, givenList}
 use Rattle.frame.proofs.Asked.{asked}
 use Rattle.reply.specs.declared.Written.{Written}
 use Rattle.reply.specs.Result.{resultOf}
@@ -39,7 +40,7 @@ Left = ℕ × (List ℕ × List ℕ)
 
 -- rec is the member's record, where it stands in the card
 pub read-told : (c r l l′ : List ℕ) (m : ℕ) (s : Setup) (rec list values : List ℕ) (w : Written) (op : ReadOp) (y : Reading)
-    → s ≡ setupOf c → rec ≡ recordIn c m → list ≡ drop 40 r → y ≡ readOf (s .queues) list op (memberOf rec) → values ≡ memberOf rec .values
+    → s ≡ setupOf c → rec ≡ recordIn c m → list ≡ askedList r → y ≡ readOf (s .queues) list op (memberOf rec) → values ≡ memberOf rec .values
     → _≡_ {A = Written × List ℕ} (w, l′) (concludeOf (y .answer) (resultOf (s .queues) list values (y .body)) l)
     → _≡_ {A = Left} (w .bytes, (c, l′)) (delivered (conclude c (length l) (perform c r (Read m op))) l)
 unfolding perform memberIn
@@ -47,7 +48,7 @@ read-told c r l l′ m s rec list values w op y e f g h v k = kept c _ _ l l′ 
 
 module _ (c r l l′ : List ℕ) (m : ℕ) (s : Setup) (x : Member) (list : List ℕ) (w : Written)
     (e : s ≡ setupOf c) (f : x ≡ memberIn c m) where
-  module _ (op : ChangeOp) (y : Changed) (g : list ≡ drop 32 r)
+  module _ (op : ChangeOp) (y : Changed) (g : list ≡ givenList r)
       (h : y ≡ changeOf (s .queues) (s .gets) (s .sets) list op x)
       (k : _≡_ {A = Written × List ℕ} (w, l′) (concludeOf (y .answer) [] l)) (b : Bool) (said : b ≡ isDone (w .answer)) where
     pub change-refused : not b ≡ true

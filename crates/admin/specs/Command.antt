@@ -2,7 +2,7 @@
 use mathlib.Core.List.{List, []}
 use Prim.Native.Nat.{ℕ, _+_}
 use lib.Dec.{leb}
-use lib.ListN.{length, drop}
+use lib.ListN.{length}
 use Rattle.theory.specs.Logic.{if_then_else_, unless_answer_then_, _and_}
 use Rattle.theory.specs.Bytes.{put}
 use Rattle.wire.specs.Le.{bytes}
@@ -19,6 +19,7 @@ use Rattle.card.specs.Layout.{setupOf, inUseOf, withInUse, memberIn, withMember
 use Rattle.card.specs.Sound.{isSound}
 use Rattle.frame.specs.declared.Ask.{Ask}
 use Rattle.frame.specs.declared.Ask.the-variants.{Refused, QueryList, UseList, Read, Change}
+use Rattle.frame.specs.Frame.{askedList, givenList}
 use Rattle.frame.specs.Ask.{askOf}
 use Rattle.reply.specs.Result.{resultOf}
 use Rattle.reply.specs.Reply.{finalOf, replyOf}
@@ -26,13 +27,6 @@ use Rattle.reply.specs.Reply.{finalOf, replyOf}
 -- steps 2 to 7: what a request asks of this card
 unfoldable pub askIn : List ℕ → List ℕ → Ask
 askIn c r = askOf (setupOf c .members) (setupOf c .gets + setupOf c .sets) (inUseOf c) r
-
--- the list of a request: the headers asked for stand from byte 40, the parts given from byte 32
-abbrev pub askedList : List ℕ → List ℕ
-askedList r = drop 40 r
-
-abbrev pub givenList : List ℕ → List ℕ
-givenList r = drop 32 r
 
 -- what a command comes to before its reply is known to fit: its answer, the card if it stands, the result
 pub record Effect : Type 0 where

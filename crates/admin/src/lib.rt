@@ -11,11 +11,6 @@ use protocol::Answer;
 use protocol::ChangeOp;
 use protocol::ReadOp;
 
-// Where a request has its list: the headers asked for, and the parts given.
-const ASKED_AT: usize = 40;
-
-const GIVEN_AT: usize = 32;
-
 // Steps 2 to 7: what a request asks of this card.
 fn asked(card: &[u8], request: &[u8]) -> Ask
     requires { ⌜ isSound (now card) ≡ true ⌝ }
@@ -45,7 +40,7 @@ fn read_member(card: &[u8], m: u64, op: ReadOp, request: &[u8], reply: &mut [u8]
     let s = card::setup_of(card);
     let queues = s.queues;
     let rec = card::record_of(card, m);
-    let list = from(request, ASKED_AT);
+    let list = from(request, frame::ASKED_AT);
     let found = reads::read(rec, op, queues, list);
     let answer = found.answer;
     let body = found.body;
@@ -67,7 +62,7 @@ fn change_member(card: &mut [u8], m: u64, op: ChangeOp, request: &[u8], reply: &
         s.queues,
         s.gets,
         s.sets,
-        from(request, GIVEN_AT),
+        from(request, frame::GIVEN_AT),
     );
     let answer = outcome.answer;
     let after = outcome.member;

@@ -17,7 +17,7 @@ use Rattle.protocol.proofs.Operations.{IdBelow}
 use Rattle.frame.proofs.Steps.{names-one}
 use Rattle.frame.specs.declared.Ask.{Ask}
 use Rattle.frame.specs.declared.Ask.the-variants.{Refused, QueryList, UseList, Read, Change}
-use Rattle.frame.specs.Frame.{opcodeOf, groupOf, targetOf, dataOf}
+use Rattle.frame.specs.Frame.{dataAt, longest, opcodeOf, groupOf, targetOf, dataOf}
 use Rattle.frame.specs.Fields.{idOf, objectValid, kindValid, createIn, modifyIn, queryIn, destroyIn, metadataIn, getIn, setIn, modeIn, useIn, fieldsOf}
 use Rattle.frame.specs.Ask.{usable, reaches, framedOf, askOf}
 
@@ -30,8 +30,8 @@ ReadBelow ids (GetAll id) = id < ids
 
 -- the request names m, document 01's term, and m is a member of the card
 pub record Named (members : ℕ) (r : List ℕ) (m : ℕ) : Type 0 where
-  pub long : 24 ≤ length r
-  pub short : length r ≤ 4096
+  pub long : dataAt ≤ length r
+  pub short : length r ≤ longest
   pub group : groupOf r ≡ 1
   pub opcode : namesMember (opcodeOf r) ≡ true
   pub target : targetOf r ≡ m
@@ -86,7 +86,7 @@ module _ (members ids : ℕ) (r : List ℕ) where
       (branch _ _ _ (guarded _ _ _ (λ e. (n, id-below ids d e)))
       (guarded _ _ _ (λ e. (n, tt)))))))))))
 
-  named : within 24 4096 (length r) ≡ true → eqb (groupOf r) 1 ≡ true → reaches members (opcodeOf r) (targetOf r) ≡ true
+  named : within dataAt longest (length r) ≡ true → eqb (groupOf r) 1 ≡ true → reaches members (opcodeOf r) (targetOf r) ≡ true
       → namesMember (opcodeOf r) ≡ true → Named members r (targetOf r)
   unfolding reaches
   named l g t n =
@@ -102,7 +102,7 @@ module _ (members ids : ℕ) (r : List ℕ) where
       }
 
   -- the tests of steps 2 to 5 passed
-  passed : (inUse : ℕ) → within 24 4096 (length r) ≡ true → eqb (groupOf r) 1 ≡ true → usable inUse (opcodeOf r) ≡ true
+  passed : (inUse : ℕ) → within dataAt longest (length r) ≡ true → eqb (groupOf r) 1 ≡ true → usable inUse (opcodeOf r) ≡ true
       → reaches members (opcodeOf r) (targetOf r) ≡ true
       → Facts members ids r (fieldsOf ids (targetOf r) (opcodeOf r) (dataOf r))
   unfolding usable

@@ -2,12 +2,12 @@
 use mathlib.Core.Path.{_≡_, refl, sym, _∙_}
 use mathlib.Core.Bool.{Bool, true, false, not}
 use mathlib.Core.List.{List}
-use Prim.Native.Nat.{ℕ, zero, suc, _-_, _≤_}
+use Prim.Native.Nat.{ℕ, zero, suc, _+_, _-_, _≤_}
 use native.Mathlib.Nat.{le-antisymm}
 use native.Mathlib.Omega.{arith}
 use borrow.Author.Tests.{not-false}
 use lib.Dec.{ltb}
-use lib.ListN.{length, take, drop, length-drop}
+use lib.ListN.{length, take, length-drop}
 use lib.Seq.{take-all}
 use Rattle.theory.specs.Logic.{if_then_else_, unless_answer_then_}
 use Rattle.theory.proofs.Tests.{both, either, inside, within-low, within-high, tests}
@@ -16,11 +16,11 @@ use Rattle.wire.specs.Le.{number}
 use Rattle.protocol.specs.declared.Answer.the-variants.{BadField}
 use Rattle.protocol.specs.declared.ObjectKind.the-variants.{Set}
 use Rattle.protocol.specs.declared.Metadata.the-variants.{HeaderList}
-use Rattle.protocol.specs.Opcodes.{opcodeRows, supported, supportedOnly, lengthFits, namesMember}
+use Rattle.protocol.specs.Opcodes.{largest, opcodeRows, supported, supportedOnly, lengthFits, namesMember}
 use Rattle.protocol.proofs.Rows.{supported-is, data-long}
 use Rattle.frame.specs.declared.Ask.{Ask}
 use Rattle.frame.specs.declared.Ask.the-variants.{Refused, UseList}
-use Rattle.frame.specs.Frame.{opcodeOf, groupOf, targetOf}
+use Rattle.frame.specs.Frame.{dataAt, longest, opcodeOf, groupOf, targetOf, dataOf}
 use Rattle.frame.specs.Fields.{kindIn, metadataIs, modeIn, useIn, fieldsOf}
 use Rattle.frame.specs.Ask.{usable, framedOf, askOf}
 
@@ -73,11 +73,15 @@ pub usable-supported : (used op : ℕ) (b : Bool) → b ≡ usable used op → n
 unfolding usable
 usable-supported used op b e h = both _ _ (sym e ∙ not-false b h) .0
 
--- the numbers that were read, and the part of the request from byte 24
-pub framed-is : (members ids used g op m : ℕ) (r : List ℕ) (x : Ask) → 24 ≤ length r → length r ≤ 4096
+-- the numbers that were read, and the data
+pub framed-is : (members ids used g op m : ℕ) (r : List ℕ) (x : Ask) → dataAt ≤ length r → length r ≤ longest
     → g ≡ groupOf r → op ≡ opcodeOf r → m ≡ targetOf r
-    → x ≡ framedOf members ids used g op m (take (length r - 24) (drop 24 r)) → x ≡ askOf members ids used r
+    → x ≡ framedOf members ids used g op m (take (length r - dataAt) (dataOf r)) → x ≡ askOf members ids used r
 unfolding askOf
 framed-is members ids used g op m r x a b eg eo em h =
-    let l : length (drop 24 r) ≤ length r - 24 = omega (arith, length-drop 24 r) in
-    pass _ _ _ x (inside 24 4096 (length r) a b) (h ∙ rw (eg, eo, em, take-all _ _ l))
+    let l : length (dataOf r) ≤ length r - dataAt = omega (arith, length-drop dataAt r) in
+    pass _ _ _ x (inside dataAt longest (length r) a b) (h ∙ rw (eg, eo, em, take-all _ _ l))
+
+-- the largest data of an opcode's row fills the longest request
+pub largest-fills : dataAt + largest ≡ longest
+largest-fills = refl

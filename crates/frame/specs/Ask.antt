@@ -10,7 +10,7 @@ use Rattle.protocol.specs.declared.Answer.the-variants.{BadLength, BadGroup, Ba
 use Rattle.protocol.specs.Opcodes.{supported, bit, namesMember, lengthFits}
 use Rattle.frame.specs.declared.Ask.{Ask}
 use Rattle.frame.specs.declared.Ask.the-variants.{Refused}
-use Rattle.frame.specs.Frame.{opcodeOf, groupOf, targetOf, dataOf}
+use Rattle.frame.specs.Frame.{dataAt, longest, opcodeOf, groupOf, targetOf, dataOf}
 use Rattle.frame.specs.Fields.{fieldsOf}
 
 -- step 4: supported and in use
@@ -33,5 +33,5 @@ framedOf members ids inUse group op m d =
 -- steps 2 to 7, on the bytes of a request; ids is G + S
 unfoldable pub askOf : ℕ → ℕ → ℕ → List ℕ → Ask
 askOf members ids inUse r =
-    unless within 24 4096 (length r) answer Refused BadLength then  -- 2
+    unless within dataAt longest (length r) answer Refused BadLength then  -- 2
     framedOf members ids inUse (groupOf r) (opcodeOf r) (targetOf r) (dataOf r)

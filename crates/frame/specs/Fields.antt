@@ -16,22 +16,23 @@ use Rattle.protocol.specs.declared.ReadOp.the-variants.{QueryObject, GetMetadat
 use Rattle.protocol.specs.declared.ChangeOp.the-variants.{Create, Modify, Destroy, SetParts, SetMode}
 use Rattle.protocol.specs.Answers.{modeOf}
 use Rattle.protocol.specs.Opcodes.{supportedOnly}
+use Rattle.frame.specs.Frame.{idAt, flagsAt, kindAt, typeAt, headersAt}
 use Rattle.frame.specs.declared.Ask.{Ask}
 use Rattle.frame.specs.declared.Ask.the-variants.{Refused, QueryList, UseList, Read, Change}
 
--- the object header: type 2 bytes, which is 0, reserved 2, id 4, which is below G + S
+-- the object header: its type is 0, its id below G + S
 abbrev pub idOf : List ℕ → ℕ
-idOf d = number 4 4 d
+idOf d = number idAt 4 d
 
 unfoldable pub objectValid : ℕ → List ℕ → Bool
 objectValid ids d = eqb (number 0 2 d) 0 and ltb (idOf d) ids
 
--- create and modify go on with flags 8 bytes, which are 0, and kind 1 byte: 0 get, 1 set
+-- the flags of create, modify and query are 0; the kind of create and modify: 0 get, 1 set
 unfoldable pub flagsValid : List ℕ → Bool
-flagsValid d = eqb (number 8 8 d) 0
+flagsValid d = eqb (number flagsAt 8 d) 0
 
 unfoldable pub kindValid : ℕ → List ℕ → Bool
-kindValid ids d = objectValid ids d and flagsValid d and leb (getD d 16 0) 1
+kindValid ids d = objectValid ids d and flagsValid d and leb (getD d kindAt 0) 1
 
 abbrev pub kindIn : ℕ → ObjectKind
 kindIn zero = Get
@@ -40,14 +41,13 @@ kindIn (suc n) = Set
 unfoldable pub createIn : ℕ → ℕ → List ℕ → Ask
 createIn ids m d =
     unless kindValid ids d answer Refused BadField then
-    Change m (Create (idOf d) (kindIn (getD d 16 0)))
+    Change m (Create (idOf d) (kindIn (getD d kindAt 0)))
 
 unfoldable pub modifyIn : ℕ → ℕ → List ℕ → Ask
 modifyIn ids m d =
     unless kindValid ids d answer Refused BadField then
-    Change m (Modify (idOf d) (kindIn (getD d 16 0)))
+    Change m (Modify (idOf d) (kindIn (getD d kindAt 0)))
 
--- query goes on with flags 8 bytes
 unfoldable pub queryIn : ℕ → ℕ → List ℕ → Ask
 queryIn ids m d =
     unless objectValid ids d and flagsValid d answer Refused BadField then
@@ -58,7 +58,7 @@ destroyIn ids m d =
     unless objectValid ids d answer Refused BadField then
     Change m (Destroy (idOf d))
 
--- metadata: after the object header type 1 byte: 0 size, 1 count, 2 list
+-- the type of metadata: 0 size, 1 count, 2 list
 abbrev pub metadataIs : ℕ → Metadata
 metadataIs zero = Size
 metadataIs (suc zero) = Count
@@ -66,15 +66,15 @@ metadataIs (suc (suc n)) = HeaderList
 
 unfoldable pub metadataIn : ℕ → ℕ → List ℕ → Ask
 metadataIn ids m d =
-    unless objectValid ids d and leb (getD d 8 0) 2 answer Refused BadField then
-    Read m (GetMetadata (idOf d) (metadataIs (getD d 8 0)))
+    unless objectValid ids d and leb (getD d typeAt 0) 2 answer Refused BadField then
+    Read m (GetMetadata (idOf d) (metadataIs (getD d typeAt 0)))
 
--- parts get: after the object header type 1 byte, 0 selected, 1 all; headers from byte 16, with selected only
+-- the type of parts get: 0 selected, 1 all; headers with selected only
 unfoldable pub getIn : ℕ → ℕ → List ℕ → Ask
 getIn ids m d =
     unless objectValid ids d answer Refused BadField then
-    if eqb (getD d 8 0) 0 then Read m (GetSelected (idOf d)) else
-    unless eqb (getD d 8 0) 1 and eqb (length d) 16 answer Refused BadField then
+    if eqb (getD d typeAt 0) 0 then Read m (GetSelected (idOf d)) else
+    unless eqb (getD d typeAt 0) 1 and eqb (length d) headersAt answer Refused BadField then
     Read m (GetAll (idOf d))
 
 unfoldable pub setIn : ℕ → ℕ → List ℕ → Ask

@@ -1,9 +1,10 @@
 // From the bytes of a request to what it asks: steps 2 to 7 of document 01's table of statuses.
 ghost use mathlib.Core.Path.{_≡_};
 ghost use mathlib.Core.Bool.{true};
-ghost use Prim.Native.Nat.{_≤_};
+ghost use Prim.Native.Nat.{_≤_, _<_};
 ghost use lib.ListN.{length};
 ghost use Rattle.protocol.specs.Opcodes.{supported, lengthFits};
+ghost use Rattle.frame.specs.Frame.{objectSize, kindAt, headersAt};
 ghost use Rattle.frame.specs.Fields.{idOf, objectValid, flagsValid, kindValid, kindIn, metadataIs, createIn, modifyIn, queryIn, destroyIn, metadataIn, getIn, setIn, modeIn, useIn, fieldsOf};
 ghost use Rattle.frame.specs.Ask.{usable, reaches, framedOf, askOf};
 use protocol::Answer;
@@ -13,20 +14,32 @@ use protocol::ObjectKind;
 use protocol::ReadOp;
 
 // Opcode 2 bytes, group type 2, reserved 12, member 8, data; at most 4,096 bytes.
+const GROUP_AT: usize = 2;
+
 const MEMBER_AT: usize = 16;
 
 const DATA_AT: usize = 24;
 
 const LONGEST: usize = 4096;
 
-// The object header: type 2 bytes, reserved 2, id 4. Flags of 8 bytes follow, and a kind; or a type byte.
+// Data starts with the object header: type 2 bytes, reserved 2, id 4.
 const ID_AT: usize = 4;
 
-const FLAGS_AT: usize = 8;
+const OBJECT_SIZE: usize = 8;
 
-const KIND_AT: usize = 16;
+// Flags of 8 bytes follow, and then a kind; or a type byte and 7 reserved, and then headers.
+const FLAGS_AT: usize = OBJECT_SIZE;
 
-const TYPE_AT: usize = 8;
+const KIND_AT: usize = FLAGS_AT + 8;
+
+const TYPE_AT: usize = OBJECT_SIZE;
+
+const HEADERS_AT: usize = TYPE_AT + 8;
+
+// Where a request has its list: the headers asked for, and the parts given.
+pub const ASKED_AT: usize = DATA_AT + HEADERS_AT;
+
+pub const GIVEN_AT: usize = DATA_AT + OBJECT_SIZE;
 
 // What a request asks. Read and Change name a member of the card.
 pub enum Ask {
@@ -39,7 +52,7 @@ pub enum Ask {
 
 // The object header: type 0, and an id below G + S.
 fn object_valid(ids: u8, d: &[u8]) -> bool
-    requires { ⌜ 8 ≤ length (now d) ⌝ }
+    requires { ⌜ objectSize ≤ length (now d) ⌝ }
     ensures { λ r. ⌜ r ≡ objectValid ids (now (d .entry)) ⌝ }
 {
     if wire::read_u16(d, 0) != 0 {
@@ -49,14 +62,14 @@ fn object_valid(ids: u8, d: &[u8]) -> bool
 }
 
 fn flags_valid(d: &[u8]) -> bool
-    requires { ⌜ 16 ≤ length (now d) ⌝ }
+    requires { ⌜ kindAt ≤ length (now d) ⌝ }
     ensures { λ r. ⌜ r ≡ flagsValid (now (d .entry)) ⌝ }
 {
     wire::read_u64(d, FLAGS_AT) == 0
 }
 
 fn kind_valid(ids: u8, d: &[u8]) -> bool
-    requires { ⌜ 24 ≤ length (now d) ⌝ }
+    requires { ⌜ kindAt < length (now d) ⌝ }
     ensures { λ r. ⌜ r ≡ kindValid ids (now (d .entry)) ⌝ }
 {
     if !object_valid(ids, d) {
@@ -69,7 +82,7 @@ fn kind_valid(ids: u8, d: &[u8]) -> bool
 }
 
 fn id_of(d: &[u8]) -> usize
-    requires { ⌜ 8 ≤ length (now d) ⌝ }
+    requires { ⌜ objectSize ≤ length (now d) ⌝ }
     ensures { λ r. ⌜ r ≡ idOf (now (d .entry)) ⌝ }
 {
     wire::read_u32(d, ID_AT) as usize
@@ -86,7 +99,7 @@ fn kind_in(b: u8) -> ObjectKind
 }
 
 fn create_in(ids: u8, m: u64, d: &[u8]) -> Ask
-    requires { ⌜ 24 ≤ length (now d) ⌝ }
+    requires { ⌜ kindAt < length (now d) ⌝ }
     ensures { λ r. ⌜ r ≡ createIn ids m (now (d .entry)) ⌝ }
 {
     if !kind_valid(ids, d) {
@@ -96,7 +109,7 @@ fn create_in(ids: u8, m: u64, d: &[u8]) -> Ask
 }
 
 fn modify_in(ids: u8, m: u64, d: &[u8]) -> Ask
-    requires { ⌜ 24 ≤ length (now d) ⌝ }
+    requires { ⌜ kindAt < length (now d) ⌝ }
     ensures { λ r. ⌜ r ≡ modifyIn ids m (now (d .entry)) ⌝ }
 {
     if !kind_valid(ids, d) {
@@ -106,7 +119,7 @@ fn modify_in(ids: u8, m: u64, d: &[u8]) -> Ask
 }
 
 fn query_in(ids: u8, m: u64, d: &[u8]) -> Ask
-    requires { ⌜ 16 ≤ length (now d) ⌝ }
+    requires { ⌜ kindAt ≤ length (now d) ⌝ }
     ensures { λ r. ⌜ r ≡ queryIn ids m (now (d .entry)) ⌝ }
 {
     if !object_valid(ids, d) {
@@ -119,7 +132,7 @@ fn query_in(ids: u8, m: u64, d: &[u8]) -> Ask
 }
 
 fn destroy_in(ids: u8, m: u64, d: &[u8]) -> Ask
-    requires { ⌜ 8 ≤ length (now d) ⌝ }
+    requires { ⌜ objectSize ≤ length (now d) ⌝ }
     ensures { λ r. ⌜ r ≡ destroyIn ids m (now (d .entry)) ⌝ }
 {
     if !object_valid(ids, d) {
@@ -139,7 +152,7 @@ fn metadata_is(b: u8) -> Metadata
 }
 
 fn metadata_in(ids: u8, m: u64, d: &[u8]) -> Ask
-    requires { ⌜ 16 ≤ length (now d) ⌝ }
+    requires { ⌜ headersAt ≤ length (now d) ⌝ }
     ensures { λ r. ⌜ r ≡ metadataIn ids m (now (d .entry)) ⌝ }
 {
     if !object_valid(ids, d) {
@@ -152,7 +165,7 @@ fn metadata_in(ids: u8, m: u64, d: &[u8]) -> Ask
 }
 
 fn get_in(ids: u8, m: u64, d: &[u8]) -> Ask
-    requires { ⌜ 16 ≤ length (now d) ⌝ }
+    requires { ⌜ headersAt ≤ length (now d) ⌝ }
     ensures { λ r. ⌜ r ≡ getIn ids m (now (d .entry)) ⌝ }
 {
     if !object_valid(ids, d) {
@@ -164,14 +177,14 @@ fn get_in(ids: u8, m: u64, d: &[u8]) -> Ask
     if d[TYPE_AT] != 1 {
         return Ask::Refused(Answer::BadField);
     }
-    if d.len() != 16 {
+    if d.len() != HEADERS_AT {
         return Ask::Refused(Answer::BadField);
     }
     Ask::Read(m, ReadOp::GetAll(id_of(d)))
 }
 
 fn set_in(ids: u8, m: u64, d: &[u8]) -> Ask
-    requires { ⌜ 8 ≤ length (now d) ⌝ }
+    requires { ⌜ objectSize ≤ length (now d) ⌝ }
     ensures { λ r. ⌜ r ≡ setIn ids m (now (d .entry)) ⌝ }
 {
     if !object_valid(ids, d) {
@@ -273,7 +286,7 @@ pub fn decode(members: u8, ids: u8, in_use: u64, request: &[u8]) -> Ask
         return Ask::Refused(Answer::BadLength);
     }
     let op = wire::read_u16(request, 0) as usize;
-    let group = wire::read_u16(request, 2);
+    let group = wire::read_u16(request, GROUP_AT);
     let m = wire::read_u64(request, MEMBER_AT);
     framed(members, ids, in_use, group, op, m, &request[DATA_AT..])
 }

@@ -14,7 +14,7 @@ use Rattle.theory.proofs.Bytes.{put-append}
 use Rattle.wire.specs.Le.{bytes, number}
 use Rattle.wire.proofs.Le.{le-bytes, bytes-append}
 use Rattle.inventory.specs.Inventory.{row, rowAt, rowCount, deviceFeatures}
-use Rattle.inventory.specs.Header.{headerOf, flagsOf}
+use Rattle.inventory.specs.Header.{flagsAt, selectorAt, lengthAt, headerOf, flagsOf}
 use Rattle.inventory.proofs.Rules.{type-below, selector-below, size-below}
 
 -- ---- made of two words ----
@@ -59,14 +59,14 @@ module _ (i : ℕ) (h : i < rowCount) (rest : List ℕ) where
   unfolding headerOf bytes number
   read-type = le-bytes 2 (rowAt i .partType) (type-below i h)
 
-  pub read-flags : getD (headerOf (rowAt i) ++ rest) 2 0 ≡ flagsOf (rowAt i)
+  pub read-flags : getD (headerOf (rowAt i) ++ rest) flagsAt 0 ≡ flagsOf (rowAt i)
   unfolding headerOf bytes
   read-flags = refl
 
-  pub read-selector : number 4 8 (headerOf (rowAt i) ++ rest) ≡ rowAt i .selector
+  pub read-selector : number selectorAt 8 (headerOf (rowAt i) ++ rest) ≡ rowAt i .selector
   unfolding headerOf bytes number
   read-selector = le-bytes 8 (rowAt i .selector) (omega (arith, selector-below i h))
 
-  pub read-size : number 12 4 (headerOf (rowAt i) ++ rest) ≡ rowAt i .size
+  pub read-size : number lengthAt 4 (headerOf (rowAt i) ++ rest) ≡ rowAt i .size
   unfolding headerOf bytes number
   read-size = le-bytes 4 (rowAt i .size) (omega (arith, size-below i h))

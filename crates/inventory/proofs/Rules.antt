@@ -1,7 +1,7 @@
 -- Rules of the whole inventory: each is one test that antt computes over the table. Assumes nothing.
 use mathlib.Core.Path.{_≡_, refl}
 use mathlib.Core.Bool.{Bool, true, not}
-use mathlib.Core.List.{List, [], _∷_}
+use mathlib.Core.List.{List, [], _∷_, map}
 use Prim.Native.Nat.{ℕ, _+_, _<_, _≤_, _^_}
 use borrow.Author.Tests.{eqb-true, ltb-true, leb-true, lt-leb, eq-eqb}
 use lib.Dec.{leb, ltb, eqb}
@@ -9,7 +9,7 @@ use lib.ListN.{length}
 use Rattle.theory.specs.Logic.{_and_, _or_, indicator, if_then_else_}
 use Rattle.theory.proofs.Table.{every, at}
 use Rattle.wire.specs.Le.{bytes}
-use Rattle.inventory.specs.Inventory.{Row, row, rows, rowAt, rowCount, deviceFeatures, present, offsetOf, valuesSize, selectorOf, isRow, seek, placeOf}
+use Rattle.inventory.specs.Inventory.{Row, row, rows, rowAt, rowCount, deviceFeatures, featuresSize, total, present, offsetOf, valuesSize, selectorOf, isRow, seek, placeOf}
 use Rattle.inventory.specs.Header.{headerOf, headerSize}
 
 -- what computes where a proof says `unfolding table`
@@ -17,10 +17,20 @@ unfoldable pub table : Unit {0}
 unfolding rows rowAt present offsetOf selectorOf isRow seek placeOf every _and_ _or_ indicator if_then_else_
 table = tt
 
+-- ---- the numbers of the table ----
+
+row-count : length rows ≡ rowCount
+unfolding rows
+row-count = refl
+
+pub values-size : total (map (λ (r : Row). r .size) rows) ≡ valuesSize
+unfolding rows
+values-size = refl
+
 -- a test of each row and its index holds at each
 pub every-row : (f : ℕ → Row → Bool) → every f 0 rows ≡ true → (i : ℕ) → i < rowCount → f i (rowAt i) ≡ true
-unfolding rows rowAt
-every-row f t i h = at f (row 0 0 0) rows t i h
+unfolding rowAt
+every-row f t i h = at f (row 0 0 0) rows t i (rw row-count h)
 
 -- and of each number of queues
 abbrev counts : List ℕ
@@ -29,7 +39,7 @@ counts = 0 ∷ 1 ∷ 2 ∷ 3 ∷ 4 ∷ []
 pub every-count : (f : ℕ → Bool) → every (λ q x. f q) 0 counts ≡ true → (q : ℕ) → q < 5 → f q ≡ true
 every-count f t q h = at (λ q x. f q) 0 counts t q h
 
--- ---- numbers ----
+-- ---- numbers of a row ----
 
 module _ (i : ℕ) (h : i < rowCount) where
   pub type-below : rowAt i .partType < 2 ^ 16
@@ -75,7 +85,7 @@ module _ (i : ℕ) (h : i < rowCount) where
       let t = every-row (λ k r. not (eqb (r .partType) deviceFeatures) or eqb k 0) refl i h in
       eqb-true i 0 (rw (eq-eqb _ _ e) at t)
 
-pub row-zero : rowAt 0 ≡ row deviceFeatures 0 16
+pub row-zero : rowAt 0 ≡ row deviceFeatures 0 featuresSize
 unfolding table
 row-zero = refl
 

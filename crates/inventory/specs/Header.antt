@@ -6,6 +6,16 @@ use Rattle.theory.specs.Logic.{indicator}
 use Rattle.wire.specs.Le.{bytes}
 use Rattle.inventory.specs.Inventory.{Row, deviceFeatures}
 
+-- type 2 bytes, flags 1, reserved 1, selector 8, length 4
+abbrev pub flagsAt : ℕ
+flagsAt = 2
+
+abbrev pub selectorAt : ℕ
+selectorAt = 4
+
+abbrev pub lengthAt : ℕ
+lengthAt = 12
+
 abbrev pub headerSize : ℕ
 headerSize = 16
 
@@ -13,6 +23,5 @@ headerSize = 16
 abbrev pub flagsOf : Row → ℕ
 flagsOf r = indicator (eqb (r .partType) deviceFeatures)
 
--- type 2 bytes, flags 1, reserved 1, selector 8, length 4
 unfoldable pub headerOf : Row → List ℕ
 headerOf r = bytes 2 (r .partType) ++ (flagsOf r ∷ 0 ∷ (bytes 8 (r .selector) ++ bytes 4 (r .size)))

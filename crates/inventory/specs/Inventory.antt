@@ -8,6 +8,29 @@ use Rattle.theory.specs.Logic.{if_then_else_, _and_, _or_}
 use Rattle.inventory.specs.declared.Place.{Place}
 use Rattle.inventory.specs.declared.Place.the-variants.{At, Absent}
 
+-- the types of parts
+abbrev pub deviceFeatures : ℕ
+deviceFeatures = 0x100
+
+abbrev pub driverFeatures : ℕ
+driverFeatures = 0x101
+
+abbrev pub pciCommon : ℕ
+pciCommon = 0x102
+
+abbrev pub deviceStatus : ℕ
+deviceStatus = 0x103
+
+abbrev pub queue : ℕ
+queue = 0x104
+
+abbrev pub queueNotify : ℕ
+queueNotify = 0x105
+
+-- the bytes of a feature set
+abbrev pub featuresSize : ℕ
+featuresSize = 16
+
 -- a part's type and selector, and the bytes of its value
 pub record Row : Type 0 where
   pub partType : ℕ
@@ -20,12 +43,12 @@ row t s n = record { partType = t; selector = s; size = n }
 -- the table for four queues, by type, then selector
 unfoldable pub rows : List Row
 rows =
-    row 0x100 0 16  -- device features
-    ∷ row 0x101 0 16  -- driver features
-    ∷ row 0x102 0 4 ∷ row 0x102 8 4 ∷ row 0x102 16 2 ∷ row 0x102 22 2  -- PCI common fields, by offset
-    ∷ row 0x103 0 1  -- device status
-    ∷ row 0x104 0 32 ∷ row 0x104 1 32 ∷ row 0x104 2 32 ∷ row 0x104 3 32  -- queues, by index
-    ∷ row 0x105 0 8 ∷ row 0x105 1 8 ∷ row 0x105 2 8 ∷ row 0x105 3 8  -- queue notify, by index
+    row deviceFeatures 0 featuresSize
+    ∷ row driverFeatures 0 featuresSize
+    ∷ row pciCommon 0 4 ∷ row pciCommon 8 4 ∷ row pciCommon 16 2 ∷ row pciCommon 22 2  -- by offset
+    ∷ row deviceStatus 0 1
+    ∷ row queue 0 32 ∷ row queue 1 32 ∷ row queue 2 32 ∷ row queue 3 32  -- by index
+    ∷ row queueNotify 0 8 ∷ row queueNotify 1 8 ∷ row queueNotify 2 8 ∷ row queueNotify 3 8  -- by index
     ∷ []
 
 abbrev pub rowCount : ℕ
@@ -34,12 +57,9 @@ rowCount = 15
 unfoldable pub rowAt : ℕ → Row
 rowAt i = getD rows i (row 0 0 0)
 
-abbrev pub deviceFeatures : ℕ
-deviceFeatures = 0x100
-
 -- a row of a queue is there where the member has such a queue
 unfoldable pub present : ℕ → Row → Bool
-present queues r = ltb (r .partType) 0x104 or ltb (r .selector) queues
+present queues r = ltb (r .partType) queue or ltb (r .selector) queues
 
 -- a member's values stand one after the other, in the order of the table for four queues
 abbrev pub total : List ℕ → ℕ
@@ -59,11 +79,15 @@ partCount queues = 7 + 2 * queues
 abbrev pub partsSize : ℕ → ℕ
 partsSize queues = 157 + 72 * queues
 
+-- the n low bytes of a number, as a number
+abbrev pub lowBytes : ℕ → ℕ → ℕ
+lowBytes n x = x % 256 ^ n
+
 -- of the eight selector bytes, as a number, those that the type names: an offset 4, a queue index 2, else none
 unfoldable pub selectorOf : ℕ → ℕ → ℕ
 selectorOf t s =
-    if eqb t 0x102 then s % 2 ^ 32 else
-    if eqb t 0x104 or eqb t 0x105 then s % 2 ^ 16 else
+    if eqb t pciCommon then lowBytes 4 s else
+    if eqb t queue or eqb t queueNotify then lowBytes 2 s else
     0
 
 -- the row of a type and selector that a member with so many queues has

@@ -22,10 +22,22 @@ pub const QUEUE: u16 = 0x104;
 
 pub const QUEUE_NOTIFY: u16 = 0x105;
 
-// The table has a row for each part of a member with four queues; a part's header has 16 bytes.
-pub const ROWS: usize = 15;
+// A part's header: type 2 bytes, flags 1, reserved 1, selector 8, length 4.
+pub const FLAGS_AT: usize = 2;
+
+pub const SELECTOR_AT: usize = 4;
+
+pub const LENGTH_AT: usize = 12;
 
 pub const HEADER_SIZE: usize = 16;
+
+// The numbers that two bytes can hold, and four.
+const TWO_BYTES: u64 = 0x1_0000;
+
+const FOUR_BYTES: u64 = 0x1_0000_0000;
+
+// The table has a row for each part of a member with four queues.
+pub const ROWS: usize = 15;
 
 pub const TYPES: [u16; ROWS] = [
     DEVICE_FEATURES,
@@ -103,13 +115,13 @@ pub fn selector_of(t: u16, s: u64) -> u64
     ensures { λ r. ⌜ r ≡ selectorOf t s ⌝ }
 {
     if t == PCI_COMMON {
-        return s % 0x1_0000_0000;
+        return s % FOUR_BYTES;
     }
     if t == QUEUE {
-        return s % 0x1_0000;
+        return s % TWO_BYTES;
     }
     if t == QUEUE_NOTIFY {
-        return s % 0x1_0000;
+        return s % TWO_BYTES;
     }
     0
 }
@@ -148,7 +160,7 @@ fn first_word(row_type: u16, row_selector: u8) -> u64
     ensures { λ r. ⌜ r ≡ «row_type» + 2 ^ 16 * (indicator (eqb «row_type» deviceFeatures) + 2 ^ 16 * «row_selector») ⌝ }
 {
     let flags = (row_type == DEVICE_FEATURES) as u64;
-    row_type as u64 + 0x1_0000 * (flags + 0x1_0000 * (row_selector as u64))
+    row_type as u64 + TWO_BYTES * (flags + TWO_BYTES * (row_selector as u64))
 }
 
 // The header of a row's part, written at a place: two words, which are two stores.
@@ -157,7 +169,7 @@ pub fn write_header(out: &mut [u8], at: usize, row_type: u16, row_selector: u8, 
     ensures { λ _. ⌜ now (out .exit) ≡ put at (headerOf (row «row_type» «row_selector» size)) (now (out .entry)) ⌝ }
 {
     wire::write(out, at, 8, first_word(row_type, row_selector));
-    wire::write(out, at + 8, 8, 0x1_0000_0000 * (size as u64));
+    wire::write(out, at + 8, 8, FOUR_BYTES * (size as u64));
 }
 
 // The number of parts that a member with so many queues has.

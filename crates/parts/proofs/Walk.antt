@@ -11,6 +11,7 @@ use borrow.Author.Tests.{lt-ltb, le-ltb, le-leb, leb-true}
 use Rattle.theory.specs.Logic.{unless_answer_then_}
 use Rattle.wire.specs.Le.{number}
 use Rattle.inventory.specs.Inventory.{selectorOf}
+use Rattle.inventory.specs.Header.{flagsAt, selectorAt, headerSize}
 use Rattle.parts.specs.declared.ListForm.{ListForm}
 use Rattle.parts.specs.declared.Step.{Step}
 use Rattle.parts.specs.declared.Step.the-variants as step
@@ -22,23 +23,23 @@ module _ (form : ListForm) (l : List ℕ) (at : ℕ) where
   unfolding stepAt unless_answer_then_
   step-end h = rw (le-ltb at (length l) h)
 
-  pub step-found : at + 16 ≤ length l → valueSize form l at ≤ length l - (at + 16) → stepAt form l at ≡ headerAt form l at
+  pub step-found : at + headerSize ≤ length l → valueSize form l at ≤ length l - (at + headerSize) → stepAt form l at ≡ headerAt form l at
   unfolding stepAt unless_answer_then_
   step-found h h′ =
       let i : at < length l = omega arith in
-      let r : 16 ≤ length l - at = omega arith in
-      rw (lt-ltb at (length l) i, le-leb 16 (length l - at) r, le-leb (valueSize form l at) (length l - (at + 16)) h′)
+      let r : headerSize ≤ length l - at = omega arith in
+      rw (lt-ltb at (length l) i, le-leb headerSize (length l - at) r, le-leb (valueSize form l at) (length l - (at + headerSize)) h′)
 
 -- the header there, read field by field
 pub header-is : (form : ListForm) (l : List ℕ) (at t x s n : ℕ) → n ≡ valueSize form l at
-    → t ≡ number at 2 l → x ≡ number (at + 4) 8 l → s ≡ selectorOf t x
-    → step.Part t (getD l (at + 2) 0) s (at + 16) n ≡ headerAt form l at
+    → t ≡ number at 2 l → x ≡ number (at + selectorAt) 8 l → s ≡ selectorOf t x
+    → step.Part t (getD l (at + flagsAt) 0) s (at + headerSize) n ≡ headerAt form l at
 unfolding headerAt
 header-is form l at t x s n size type-is selector-bytes selector-is = rw (selector-is, type-is, selector-bytes, size)
 
 -- a part that is found lies within the list
 pub record Within (l : List ℕ) (at start len : ℕ) : Type 0 where
-  pub starts : start ≡ at + 16
+  pub starts : start ≡ at + headerSize
   pub ends : start + len ≤ length l
 
 pub step-part : (form : ListForm) (l : List ℕ) (at : ℕ) {t f s start len : ℕ}
@@ -46,16 +47,16 @@ pub step-part : (form : ListForm) (l : List ℕ) (at : ℕ) {t f s start len : �
 unfolding stepAt headerAt unless_answer_then_
 step-part form l at {t} {f} {s} {start} {len} e = cases _ _ _ refl refl refl e
   where
-    cases : (b₁ b₂ b₃ : Bool) → ltb at (length l) ≡ b₁ → leb 16 (length l - at) ≡ b₂
-        → leb (valueSize form l at) (length l - (at + 16)) ≡ b₃
+    cases : (b₁ b₂ b₃ : Bool) → ltb at (length l) ≡ b₁ → leb headerSize (length l - at) ≡ b₂
+        → leb (valueSize form l at) (length l - (at + headerSize)) ≡ b₃
         → (unless b₁ answer step.End then unless b₂ answer step.Cut then unless b₃ answer step.Cut then headerAt form l at)
         ≡ step.Part t f s start len
         → Within l at start len
     cases true true true e₁ e₂ e₃ e =
-        let i : start ≡ at + 16 = cc in
+        let i : start ≡ at + headerSize = cc in
         let n : len ≡ valueSize form l at = cc in
-        let h = leb-true 16 (length l - at) e₂ in
-        let h′ = leb-true (valueSize form l at) (length l - (at + 16)) e₃ in
+        let h = leb-true headerSize (length l - at) e₂ in
+        let h′ = leb-true (valueSize form l at) (length l - (at + headerSize)) e₃ in
         record { starts = i; ends = omega arith }
     cases true true false e₁ e₂ e₃ e = let z : _≡_ {A = ℕ} 0 1 = cc in absurd (omega arith)
     cases true false b₃ e₁ e₂ e₃ e = let z : _≡_ {A = ℕ} 0 1 = cc in absurd (omega arith)

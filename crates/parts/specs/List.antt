@@ -8,6 +8,7 @@ use Rattle.theory.specs.Logic.{unless_answer_then_, _and_, _or_}
 use Rattle.theory.specs.Bytes.{bytesAt}
 use Rattle.wire.specs.Le.{number}
 use Rattle.inventory.specs.Inventory.{selectorOf}
+use Rattle.inventory.specs.Header.{flagsAt, selectorAt, lengthAt, headerSize}
 use Rattle.parts.specs.declared.ListForm.{ListForm}
 use Rattle.parts.specs.declared.ListForm.the-variants.{Parts, Headers}
 use Rattle.parts.specs.declared.Step.{Step}
@@ -15,21 +16,21 @@ use Rattle.parts.specs.declared.Step.the-variants as step
 
 -- a header is followed by its value; in an asked list it stands alone
 abbrev pub valueSize : ListForm → List ℕ → ℕ → ℕ
-valueSize Parts l at = number (at + 12) 4 l
+valueSize Parts l at = number (at + lengthAt) 4 l
 valueSize Headers l at = 0
 
 -- the part at a position
 unfoldable pub headerAt : ListForm → List ℕ → ℕ → Step
 headerAt form l at =
-    step.Part (number at 2 l) (getD l (at + 2) 0) (selectorOf (number at 2 l) (number (at + 4) 8 l))
-    (at + 16) (valueSize form l at)
+    step.Part (number at 2 l) (getD l (at + flagsAt) 0) (selectorOf (number at 2 l) (number (at + selectorAt) 8 l))
+    (at + headerSize) (valueSize form l at)
 
 -- what stands at a position: "if a header or a value runs past the end"
 unfoldable pub stepAt : ListForm → List ℕ → ℕ → Step
 stepAt form l at =
     unless ltb at (length l) answer step.End then
-    unless leb 16 (length l - at) answer step.Cut then
-    unless leb (valueSize form l at) (length l - (at + 16)) answer step.Cut then
+    unless leb headerSize (length l - at) answer step.Cut then
+    unless leb (valueSize form l at) (length l - (at + headerSize)) answer step.Cut then
     headerAt form l at
 
 -- a part as it stands in a list

@@ -4,8 +4,12 @@ ghost use Prim.Native.Nat.{_+_, _≤_};
 ghost use lib.Dec.{eqb};
 ghost use lib.ListN.{length};
 ghost use Rattle.theory.specs.Logic.{_and_};
+ghost use Rattle.inventory.specs.Header.{headerSize};
 ghost use Rattle.parts.specs.List.{valueSize, stepAt, partsOf, whole, among};
+use inventory::FLAGS_AT;
 use inventory::HEADER_SIZE;
+use inventory::LENGTH_AT;
+use inventory::SELECTOR_AT;
 
 // What a list holds: whole parts, or headers alone.
 pub enum ListForm {
@@ -28,11 +32,11 @@ pub enum Step {
 
 // The bytes of the value that follows a header.
 fn value_size(form: ListForm, list: &[u8], at: usize) -> usize
-    requires { ⌜ at + 16 ≤ length (now list) ⌝ }
+    requires { ⌜ at + headerSize ≤ length (now list) ⌝ }
     ensures { λ r. ⌜ r ≡ valueSize form (now (list .entry)) at ⌝ }
 {
     match form {
-        ListForm::Parts => wire::read_u32(list, at + 12) as usize,
+        ListForm::Parts => wire::read_u32(list, at + LENGTH_AT) as usize,
         ListForm::Headers => 0,
     }
 }
@@ -55,8 +59,8 @@ fn step_at(form: ListForm, list: &[u8], at: usize) -> Step
     let part_type = wire::read_u16(list, at);
     Step::Part {
         part_type,
-        flags: list[at + 2],
-        selector: inventory::selector_of(part_type, wire::read_u64(list, at + 4)),
+        flags: list[at + FLAGS_AT],
+        selector: inventory::selector_of(part_type, wire::read_u64(list, at + SELECTOR_AT)),
         start,
         len,
     }

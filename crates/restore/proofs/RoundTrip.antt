@@ -12,7 +12,7 @@ use Rattle.theory.specs.Logic.{unless_answer_then_, _and_}
 use Rattle.theory.specs.Bytes.{bytesAt, put}
 use Rattle.theory.proofs.Tests.{by-cases, both, and-false, and-i, true-or, or-true, or-i, eq-same}
 use Rattle.theory.proofs.Bytes.{bytesAt-before, bytesAt-put-as, length-bytesAt}
-use Rattle.inventory.specs.Inventory.{rowAt, rowCount, deviceFeatures, present, offsetOf, valuesSize, placeOf}
+use Rattle.inventory.specs.Inventory.{rowAt, rowCount, deviceFeatures, featuresSize, present, offsetOf, valuesSize, placeOf}
 use Rattle.inventory.proofs.Rules.{row-within, rows-apart, features-row, row-zero, offset-zero}
 use Rattle.inventory.proofs.Find.{own-place, rows-distinct}
 use Rattle.inventory.specs.declared.Place.the-variants.{At}
@@ -30,7 +30,7 @@ abbrev valueOf : List ℕ → ℕ → List ℕ
 valueOf v i = bytesAt (offsetOf i) (rowAt i .size) v
 
 abbrev featuresOf : List ℕ → List ℕ
-featuresOf v = bytesAt 0 16 v
+featuresOf v = bytesAt 0 featuresSize v
 
 features-value : (i : ℕ) (v : List ℕ) → i ≡ 0 → valueOf v i ≡ featuresOf v
 features-value i v e = ap (valueOf v) e ∙ rw (offset-zero, row-zero)
@@ -104,7 +104,7 @@ module _ (q : ℕ) (v : List ℕ) (few : q < 5) (long : length v ≡ valuesSize)
 
   -- ---- THE LAW, first half: the capture is accepted ----
 
-  pub accepted : (w : List ℕ) → bytesAt 0 16 v ≡ bytesAt 0 16 w → causeOf q (bytesAt 0 16 w) (captureOf q v) ≡ Accepted
+  pub accepted : (w : List ℕ) → bytesAt 0 featuresSize v ≡ bytesAt 0 featuresSize w → causeOf q (bytesAt 0 featuresSize w) (captureOf q v) ≡ Accepted
   unfolding causeIn unless_answer_then_
   accepted w f =
       rw (
@@ -173,7 +173,7 @@ module _ (q : ℕ) (v : List ℕ) (few : q < 5) (long : length v ≡ valuesSize)
 
   -- ---- THE LAW, second half: what is captured there is the same ----
 
-  module _ (w : List ℕ) (e : length w ≡ valuesSize) (f : bytesAt 0 16 v ≡ bytesAt 0 16 w) where
+  module _ (w : List ℕ) (e : length w ≡ valuesSize) (f : bytesAt 0 featuresSize v ≡ bytesAt 0 featuresSize w) where
     value-restored : (j : ℕ) → j < rowCount → present q (rowAt j) ≡ true → valueOf (applied q (rowParts q v rowCount 0) w) j ≡ valueOf v j
     value-restored j h p =
         by-cases (ltb 0 j)

@@ -14,7 +14,7 @@ use Rattle.theory.proofs.Tests.{by-cases}
 use Rattle.theory.proofs.Bytes.{length-bytesAt}
 use Rattle.wire.specs.Le.{number}
 use Rattle.inventory.specs.Inventory.{rowAt, rowCount, present, offsetOf, valuesSize}
-use Rattle.inventory.specs.Header.{headerOf, headerSize, flagsOf}
+use Rattle.inventory.specs.Header.{flagsAt, selectorAt, lengthAt, headerSize, headerOf, flagsOf}
 use Rattle.inventory.proofs.Rules.{row-within, length-header, selector-own}
 use Rattle.inventory.proofs.Headers.{read-type, read-flags, read-selector, read-size}
 use Rattle.parts.specs.declared.ListForm.the-variants.{Parts}
@@ -39,7 +39,7 @@ module _ (pre : List ℕ) (i : ℕ) (h : i < rowCount) (x rest : List ℕ) (n : 
   long = simp (length-append, length-header, n) (omega arith)
 
   size-in : valueSize Parts list (length pre) ≡ rowAt i .size
-  size-in = number-in 12 4 ∙ read-size i h (x ++ rest)
+  size-in = number-in lengthAt 4 ∙ read-size i h (x ++ rest)
 
   stands : stepAt Parts list (length pre)
       ≡ step.Part (rowAt i .partType) (flagsOf (rowAt i)) (rowAt i .selector) (length pre + headerSize) (rowAt i .size)
@@ -47,8 +47,8 @@ module _ (pre : List ℕ) (i : ℕ) (h : i < rowCount) (x rest : List ℕ) (n : 
       let l = long in
       let s = size-in in
       let t : number (length pre) 2 list ≡ rowAt i .partType = rw add-zero at (number-in 0 2 ∙ read-type i h (x ++ rest)) in
-      let f : getD list (length pre + 2) 0 ≡ flagsOf (rowAt i) = getD-append-add pre _ 2 0 ∙ read-flags i h (x ++ rest) in
-      let d : number (length pre + 4) 8 list ≡ rowAt i .selector = number-in 4 8 ∙ read-selector i h (x ++ rest) in
+      let f : getD list (length pre + flagsAt) 0 ≡ flagsOf (rowAt i) = getD-append-add pre _ flagsAt 0 ∙ read-flags i h (x ++ rest) in
+      let d : number (length pre + selectorAt) 8 list ≡ rowAt i .selector = number-in selectorAt 8 ∙ read-selector i h (x ++ rest) in
       step-found Parts list (length pre) (omega arith) (omega arith)
       ∙ sym (header-is Parts list (length pre) _ _ _ _ (sym s) (sym t) (sym d) (sym (selector-own i h)))
       ∙ rw f

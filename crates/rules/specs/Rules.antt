@@ -21,10 +21,13 @@ unfoldable pub known : ℕ → ℕ → ℕ → Bool
 known queues t s = onPlace (placeOf queues t s) (λ i. true) false
 
 -- "a part the member has not got lacks the optional bit, or has a type of 0x600 or more"
+abbrev pub neverSkipped : ℕ
+neverSkipped = 0x600
+
 unfoldable pub knownOrSkipped : ℕ → Part → Bool
 knownOrSkipped queues p =
     known queues (p .partType) (p .selector)
-    or (eqb (p .flags % 2) 1 and ltb (p .partType) 0x600)
+    or (eqb (p .flags % 2) 1 and ltb (p .partType) neverSkipped)
 
 -- "a known part has another length than the table's"
 unfoldable pub lengthRight : ℕ → Part → Bool

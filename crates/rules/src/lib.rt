@@ -7,7 +7,7 @@ ghost use Rattle.theory.specs.Logic.{_and_, _or_};
 ghost use Rattle.theory.specs.Bytes.{same};
 ghost use Rattle.inventory.specs.Inventory.{rowAt, deviceFeatures, placeOf, onPlace};
 ghost use Rattle.parts.specs.List.{partsOf, partWith};
-ghost use Rattle.rules.specs.Rules.{known, obeys, asksKnown, every, repeated, causeOf, isAccepted, askedOf};
+ghost use Rattle.rules.specs.Rules.{neverSkipped, known, obeys, asksKnown, every, repeated, causeOf, isAccepted, askedOf};
 use inventory::DEVICE_FEATURES;
 use inventory::Place;
 use parts::ListForm;
@@ -48,7 +48,7 @@ fn is_known(queues: u8, t: u16, selector: u64) -> bool
 
 // Whether the member has got the part, or it is to be skipped.
 fn is_known_or_skipped(queues: u8, t: u16, flags: u8, selector: u64) -> bool
-    ensures { λ r. ⌜ r ≡ known queues t selector or (eqb (flags % 2) 1 and ltb t 0x600) ⌝ }
+    ensures { λ r. ⌜ r ≡ known queues t selector or (eqb (flags % 2) 1 and ltb t neverSkipped) ⌝ }
 {
     if is_known(queues, t, selector) {
         return true;

@@ -10,7 +10,7 @@ use Rattle.theory.specs.Logic.{if_then_else_, _and_}
 use Rattle.theory.specs.Bytes.{bytesAt, put}
 use Rattle.theory.proofs.Tests.{if-cases, both, and-i}
 use Rattle.theory.proofs.Bytes.{length-put, bytesAt-before}
-use Rattle.inventory.specs.Inventory.{rowAt, offsetOf, placeOf, onPlace}
+use Rattle.inventory.specs.Inventory.{featuresSize, rowAt, offsetOf, placeOf, onPlace}
 use Rattle.inventory.specs.declared.Place.{Place}
 use Rattle.inventory.specs.declared.Place.the-variants.{At, Absent}
 use Rattle.inventory.proofs.Find.{Found, place-found}
@@ -42,10 +42,10 @@ module _ (q t s : ℕ) (x v : List ℕ) where
   stored-length = stored-cases (λ w. length w ≡ length v) refl (λ i f h l. length-put (offsetOf i) x v)
 
   -- the rows after the first start where it ends
-  pub stored-features : bytesAt 0 16 (stored q t s x v) ≡ bytesAt 0 16 v
+  pub stored-features : bytesAt 0 featuresSize (stored q t s x v) ≡ bytesAt 0 featuresSize v
   stored-features =
-      stored-cases (λ w. bytesAt 0 16 w ≡ bytesAt 0 16 v) refl
-      (λ i f h l. bytesAt-before 0 16 (offsetOf i) x v (rw (offset-zero, row-zero) at (rows-apart 0 (omega arith) i (f .below) h)))
+      stored-cases (λ w. bytesAt 0 featuresSize w ≡ bytesAt 0 featuresSize v) refl
+      (λ i f h l. bytesAt-before 0 featuresSize (offsetOf i) x v (rw (offset-zero, row-zero) at (rows-apart 0 (omega arith) i (f .below) h)))
 
 -- what no store changes no list does
 applied-keeps : {A : Type 0} (look : List ℕ → A) (q : ℕ)
@@ -61,5 +61,5 @@ applied-keeps look q keeps (part p ps) v =
 pub applied-length : (q : ℕ) (ps : PartList) (v : List ℕ) → length (applied q ps v) ≡ length v
 applied-length q = applied-keeps length q (stored-length q)
 
-pub applied-features : (q : ℕ) (ps : PartList) (v : List ℕ) → bytesAt 0 16 (applied q ps v) ≡ bytesAt 0 16 v
-applied-features q = applied-keeps (bytesAt 0 16) q (stored-features q)
+pub applied-features : (q : ℕ) (ps : PartList) (v : List ℕ) → bytesAt 0 featuresSize (applied q ps v) ≡ bytesAt 0 featuresSize v
+applied-features q = applied-keeps (bytesAt 0 featuresSize) q (stored-features q)
