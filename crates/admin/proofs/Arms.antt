@@ -20,17 +20,16 @@ use Rattle.changes.specs.declared.Changed.{Changed}
 use Rattle.changes.specs.Changes.{changeOf}
 use Rattle.reads.specs.Reads.{readOf}
 use Rattle.card.specs.declared.Setup.{Setup}
-use Rattle.card.specs.Layout.{setupOf, inUseOf, isMember, recordIn, memberIn, withMember}
+use Rattle.card.specs.Layout.{setupOf, inUseOf, isMember, memberBytesIn, memberIn, withMember}
 use Rattle.card.specs.Sound.{isSound}
 use Rattle.frame.specs.declared.Ask.{Ask}
 use Rattle.frame.specs.declared.Ask.the-variants.{Refused, QueryList, Read, Change}
 use Rattle.frame.specs.Frame.{askedList, givenList}
 use Rattle.frame.proofs.Asked.{asked}
-use Rattle.reply.specs.declared.Written.{Written}
 use Rattle.reply.specs.Result.{resultOf}
-use Rattle.reply.specs.Reply.{concludeOf}
+use Rattle.reply.specs.Reply.{headSize, replyOf, replied, written}
 use Rattle.admin.specs.Command.{askIn, perform, conclude, delivered, commandOf}
-use Rattle.admin.proofs.Concluded.{kept, refused, changed, heard}
+use Rattle.admin.proofs.Concluded.{kept, answer-kept, refused, changed, heard}
 
 -- what a command leaves: the bytes written, the card, the buffer
 abbrev Left : Type 0
@@ -38,47 +37,43 @@ Left = ℕ × (List ℕ × List ℕ)
 
 -- ---- members ----
 
--- rec is the member's record, where it stands in the card
-pub read-told : (c r l l′ : List ℕ) (m : ℕ) (s : Setup) (rec list values : List ℕ) (w : Written) (op : ReadOp) (y : Reading)
-    → s ≡ setupOf c → rec ≡ recordIn c m → list ≡ askedList r → y ≡ readOf (s .queues) list op (memberOf rec) → values ≡ memberOf rec .values
-    → _≡_ {A = Written × List ℕ} (w, l′) (concludeOf (y .answer) (resultOf (s .queues) list values (y .body)) l)
-    → _≡_ {A = Left} (w .bytes, (c, l′)) (delivered (conclude c (length l) (perform c r (Read m op))) l)
+-- bs are the member's bytes, where they stand in the card
+pub read-told : (c r l l′ : List ℕ) (m n : ℕ) (s : Setup) (bs list values : List ℕ) (op : ReadOp) (y : Reading)
+    → s ≡ setupOf c → bs ≡ memberBytesIn c m → list ≡ askedList r → y ≡ readOf (s .queues) list op (memberOf bs) → values ≡ memberOf bs .values
+    → (n, l′) ≡ written (replied (y .answer) (resultOf (s .queues) list values (y .body)) (length l)) l
+    → (n, (c, l′)) ≡ delivered (conclude c (length l) (perform c r (Read m op))) l
 unfolding perform memberIn
-read-told c r l l′ m s rec list values w op y e f g h v k = kept c _ _ l l′ w (k ∙ rw (h, v, g, e, f))
+read-told c r l l′ m n s bs list values op y e f g h v k = kept c _ _ l l′ n (k ∙ rw (h, v, g, e, f))
 
-module _ (c r l l′ : List ℕ) (m : ℕ) (s : Setup) (x : Member) (list : List ℕ) (w : Written)
-    (e : s ≡ setupOf c) (f : x ≡ memberIn c m) where
+module _ (c r l l′ : List ℕ) (m n : ℕ) (s : Setup) (x : Member) (list : List ℕ) (e : s ≡ setupOf c) (f : x ≡ memberIn c m) where
   module _ (op : ChangeOp) (y : Changed) (g : list ≡ givenList r)
       (h : y ≡ changeOf (s .queues) (s .gets) (s .sets) list op x)
-      (k : _≡_ {A = Written × List ℕ} (w, l′) (concludeOf (y .answer) [] l)) (b : Bool) (said : b ≡ isDone (w .answer)) where
-    pub change-refused : not b ≡ true
-        → _≡_ {A = Left} (w .bytes, (c, l′)) (delivered (conclude c (length l) (perform c r (Change m op))) l)
+      (k : (n, l′) ≡ written (replyOf (y .answer) []) l) (room : headSize ≤ length l) (b : Bool) (said : b ≡ isDone (y .answer)) where
+    pub change-refused : not b ≡ true → (n, (c, l′)) ≡ delivered (conclude c (length l) (perform c r (Change m op))) l
     unfolding perform
-    change-refused n = refused c _ _ l l′ w (k ∙ rw (h, g, e, f)) b said _ n
+    change-refused t = rw (← f, ← e, ← g, ← h) (refused c (y .answer) l l′ n room k b said _ t)
 
     pub change-told : (d : List ℕ) → not b ≡ false → d ≡ withMember c m (y .member)
-        → _≡_ {A = Left} (w .bytes, (d, l′)) (delivered (conclude c (length l) (perform c r (Change m op))) l)
+        → (n, (d, l′)) ≡ delivered (conclude c (length l) (perform c r (Change m op))) l
     unfolding perform
-    change-told d n i = changed c _ _ l l′ w (k ∙ rw (h, g, e, f)) b said _ d n (i ∙ rw (h, g, e, f))
+    change-told d t i = rw (← f, ← e, ← g, ← h) (changed c (y .answer) l l′ n room k b said _ d t i)
 
 -- ---- the arms of a command ----
 
-module _ (c r l : List ℕ) (b : Bool) (x a : Ask) (room : 8 ≤ length l) (sound : b ≡ isSound c) (n : not b ≡ false)
+module _ (c r l : List ℕ) (b : Bool) (x a : Ask) (room : headSize ≤ length l) (sound : b ≡ isSound c) (n : not b ≡ false)
     (e : x ≡ askIn c r) (f : x ≡ a) where
   pub answered : (y : Left) → y ≡ delivered (conclude c (length l) (perform c r a)) l → y ≡ commandOf c r l
   answered y h = heard c r l room (sym sound ∙ not-false b n) y (h ∙ rw (sym f ∙ e))
 
-module _ (c r l l′ : List ℕ) (b : Bool) (x : Ask) (w : Written) (room : 8 ≤ length l) (sound : b ≡ isSound c)
+module _ (c r l l′ : List ℕ) (b : Bool) (x : Ask) (k : ℕ) (room : headSize ≤ length l) (sound : b ≡ isSound c)
     (n : not b ≡ false) (e : x ≡ askIn c r) where
-  pub refusal-told : (a : Answer) → x ≡ Refused a → _≡_ {A = Written × List ℕ} (w, l′) (concludeOf a [] l)
-      → _≡_ {A = Left} (w .bytes, (c, l′)) (commandOf c r l)
+  pub refusal-told : (a : Answer) → x ≡ Refused a → (k, l′) ≡ written (replyOf a []) l → (k, (c, l′)) ≡ commandOf c r l
   unfolding perform
-  refusal-told a f h = answered c r l b x (Refused a) room sound n e f _ (kept c a [] l l′ w h)
+  refusal-told a f h = answered c r l b x (Refused a) room sound n e f _ (answer-kept c a l l′ k room h)
 
-  pub query-told : x ≡ QueryList → _≡_ {A = Written × List ℕ} (w, l′) (concludeOf Done (bytes 8 supportedMask) l)
-      → _≡_ {A = Left} (w .bytes, (c, l′)) (commandOf c r l)
+  pub query-told : x ≡ QueryList → (k, l′) ≡ written (replied Done (bytes 8 supportedMask) (length l)) l → (k, (c, l′)) ≡ commandOf c r l
   unfolding perform
-  query-told f h = answered c r l b x QueryList room sound n e f _ (kept c Done _ l l′ w h)
+  query-told f h = answered c r l b x QueryList room sound n e f _ (kept c Done _ l l′ k h)
 
 -- a member that a request asks for is one of the card's
 module _ (c r : List ℕ) (x : Ask) (m : ℕ) (e : x ≡ askIn c r) where

@@ -7,15 +7,15 @@ use native.Mathlib.Omega.{arith}
 use lib.ListN.{length}
 use Rattle.card.specs.declared.Setup.{Setup}
 use Rattle.inventory.specs.Inventory.{valuesSize}
-use Rattle.member.specs.Record.{recordSize, memberOf}
-use Rattle.card.specs.Layout.{headSize, setupOf, isMember, HasRecord, recordIn, memberIn}
+use Rattle.member.specs.Record.{memberSize, memberOf}
+use Rattle.card.specs.Layout.{cardHeaderSize, setupOf, isMember, HasRecord, memberBytesIn, memberIn}
 use Rattle.card.specs.Sound.{isSound}
 use Rattle.card.proofs.ReadLaws.{lent-long}
 use Rattle.card.proofs.SoundLaws.{sound-of, sound-long, sound-has, sound-member-in}
 
 module _ (c : List ℕ) (s : isSound c ≡ true) where
-  pub head-there : headSize ≤ length c
-  head-there = sound-long c (sound-of c s)
+  pub header-there : cardHeaderSize ≤ length c
+  header-there = sound-long c (sound-of c s)
 
   pub record-there : (m : ℕ) → isMember c m ≡ true → HasRecord c m
   record-there m = sound-has c (sound-of c s) m
@@ -26,10 +26,10 @@ module _ (c : List ℕ) (s : isSound c ≡ true) where
   pub queues-few : (x : Setup) → x ≡ setupOf c → x .queues < 5
   queues-few x e = let n = sound-of c s .numbers in rw e (omega arith)
 
-  -- the record of a member, and the values in it
-  module _ (m : ℕ) (h : isMember c m ≡ true) (r : List ℕ) (e : r ≡ recordIn c m) where
-    pub record-sized : length r ≡ recordSize
-    record-sized = lent-long c m r e (record-there m h)
+  -- the bytes of a member, and the values in them
+  module _ (m : ℕ) (h : isMember c m ≡ true) (r : List ℕ) (e : r ≡ memberBytesIn c m) where
+    pub bytes-sized : length r ≡ memberSize
+    bytes-sized = lent-long c m r e (record-there m h)
 
     pub values-long : (v : List ℕ) → v ≡ memberOf r .values → length v ≡ valuesSize
     unfolding memberIn

@@ -4,7 +4,6 @@ use Prim.Native.Nat.{ℕ, _+_}
 use lib.Dec.{leb}
 use lib.ListN.{length}
 use Rattle.theory.specs.Logic.{if_then_else_, unless_answer_then_, _and_}
-use Rattle.theory.specs.Bytes.{put}
 use Rattle.wire.specs.Le.{bytes}
 use Rattle.protocol.specs.declared.Answer.{Answer}
 use Rattle.protocol.specs.declared.Answer.the-variants.{Done}
@@ -22,7 +21,7 @@ use Rattle.frame.specs.declared.Ask.the-variants.{Refused, QueryList, UseList, 
 use Rattle.frame.specs.Frame.{askedList, givenList}
 use Rattle.frame.specs.Ask.{askOf}
 use Rattle.reply.specs.Result.{resultOf}
-use Rattle.reply.specs.Reply.{finalOf, replyOf}
+use Rattle.reply.specs.Reply.{headSize, finalOf, replied, written}
 
 -- steps 2 to 7: what a request asks of this card
 unfoldable pub askIn : List ℕ → List ℕ → Ask
@@ -54,21 +53,19 @@ perform c r (Change m op) =
     changing c m (changeOf (setupOf c .queues) (setupOf c .gets) (setupOf c .sets) (givenList r) op (memberIn c m))
 
 -- steps 11 and 12: the card after and the reply; "Every refusal leaves the card unchanged"
-abbrev pub finish : List ℕ → List ℕ → List ℕ → Answer → List ℕ × List ℕ
-finish c next result a = (if isDone a then next else c, replyOf a result)
-
 unfoldable pub conclude : List ℕ → ℕ → Effect → List ℕ × List ℕ
-conclude c room e = finish c (e .card) (e .result) (finalOf (e .outcome) (length (e .result)) room)
+conclude c room e =
+    (if isDone (finalOf (e .outcome) (length (e .result)) room) then e .card else c, replied (e .outcome) (e .result) room)
 
 -- a command on a card, with room for so many bytes of reply: the card after it and the reply
 unfoldable pub respond : List ℕ → List ℕ → ℕ → List ℕ × List ℕ
 respond c r room =
-    unless leb 8 room and isSound c answer (c, []) then  -- 1
+    unless leb headSize room and isSound c answer (c, []) then  -- 1
     conclude c room (perform c r (askIn c r))
 
--- the same as a call leaves it: the bytes written, the card, and the buffer, whose other bytes keep their values
+-- the same as a call leaves it: the bytes written, the card, and the buffer
 unfoldable pub delivered : List ℕ × List ℕ → List ℕ → ℕ × (List ℕ × List ℕ)
-delivered x buffer = (length (x .1), (x .0, put 0 (x .1) buffer))
+delivered x buffer = (written (x .1) buffer .0, (x .0, written (x .1) buffer .1))
 
 unfoldable pub commandOf : List ℕ → List ℕ → List ℕ → ℕ × (List ℕ × List ℕ)
 commandOf c r buffer = delivered (respond c r (length buffer)) buffer

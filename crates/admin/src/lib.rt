@@ -5,6 +5,7 @@ ghost use Prim.Native.Nat.{_≤_};
 ghost use lib.ListN.{length, drop};
 ghost use Rattle.card.specs.Layout.{isMember};
 ghost use Rattle.card.specs.Sound.{isSound};
+ghost use Rattle.reply.specs.Reply.{headSize};
 ghost use Rattle.admin.specs.Command.{askIn, perform, conclude, delivered, commandOf};
 use frame::Ask;
 use protocol::Answer;
@@ -34,24 +35,23 @@ fn from(request: &[u8], at: usize) -> &[u8]
 
 // Steps 8 to 12 of a command that reads a member.
 fn read_member(card: &[u8], m: u64, op: ReadOp, request: &[u8], reply: &mut [u8]) -> usize
-    requires { ⌜ (isSound (now card) ≡ true) × (isMember (now card) m ≡ true) × (8 ≤ length (now reply)) ⌝ }
+    requires { ⌜ (isSound (now card) ≡ true) × (isMember (now card) m ≡ true) × (headSize ≤ length (now reply)) ⌝ }
     ensures { λ r. ⌜ (r, (now (card .entry), now (reply .exit))) ≡ delivered (conclude (now (card .entry)) (length (now (reply .entry))) (perform (now (card .entry)) (now (request .entry)) (Ask.Read m op))) (now (reply .entry)) ⌝ }
 {
     let s = card::setup_of(card);
     let queues = s.queues;
-    let rec = card::record_of(card, m);
+    let bytes = card::member_bytes(card, m);
     let list = from(request, frame::ASKED_AT);
-    let found = reads::read(rec, op, queues, list);
-    let answer = found.answer;
-    let body = found.body;
-    let values = member::values_of(rec);
-    let told = reply::write_reading(answer, body, queues, list, values, reply);
-    told.bytes
+    let reading = reads::read(bytes, op, queues, list);
+    let answer = reading.answer;
+    let body = reading.body;
+    let values = member::values_of(bytes);
+    reply::write_reading(answer, body, queues, list, values, reply)
 }
 
 // Steps 8 to 12 of a command that changes a member.
 fn change_member(card: &mut [u8], m: u64, op: ChangeOp, request: &[u8], reply: &mut [u8]) -> usize
-    requires { ⌜ (isSound (now card) ≡ true) × (isMember (now card) m ≡ true) × (8 ≤ length (now reply)) ⌝ }
+    requires { ⌜ (isSound (now card) ≡ true) × (isMember (now card) m ≡ true) × (headSize ≤ length (now reply)) ⌝ }
     ensures { λ r. ⌜ (r, (now (card .exit), now (reply .exit))) ≡ delivered (conclude (now (card .entry)) (length (now (reply .entry))) (perform (now (card .entry)) (now (request .entry)) (Ask.Change m op))) (now (reply .entry)) ⌝ }
 {
     let s = card::setup_of(card);
@@ -66,23 +66,21 @@ fn change_member(card: &mut [u8], m: u64, op: ChangeOp, request: &[u8], reply: &
     );
     let answer = outcome.answer;
     let after = outcome.member;
-    let told = reply::write_answer(answer, reply);
-    let last = told.answer;
-    if !protocol::is_done(last) {
-        return told.bytes;
+    let n = reply::write_answer(answer, reply);
+    if !protocol::is_done(answer) {
+        return n;
     }
     card::save_member(card, m, after);
-    told.bytes
+    n
 }
 
 // List use: always a success, since its reply is 8 bytes.
 fn use_list(card: &mut [u8], mask: u64, request: &[u8], reply: &mut [u8]) -> usize
-    requires { ⌜ (isSound (now card) ≡ true) × (8 ≤ length (now reply)) ⌝ }
+    requires { ⌜ (isSound (now card) ≡ true) × (headSize ≤ length (now reply)) ⌝ }
     ensures { λ r. ⌜ (r, (now (card .exit), now (reply .exit))) ≡ delivered (conclude (now (card .entry)) (length (now (reply .entry))) (perform (now (card .entry)) (now (request .entry)) (Ask.UseList mask))) (now (reply .entry)) ⌝ }
 {
     card::set_in_use(card, mask);
-    let told = reply::write_answer(Answer::Done, reply);
-    told.bytes
+    reply::write_answer(Answer::Done, reply)
 }
 
 // One command, whole.
@@ -96,14 +94,8 @@ pub fn command(card: &mut [u8], request: &[u8], reply: &mut [u8]) -> usize
         return 0;
     }
     match asked(card, request) {
-        Ask::Refused(a) => {
-            let told = reply::write_answer(a, reply);
-            told.bytes
-        }
-        Ask::QueryList => {
-            let told = reply::write_mask(protocol::SUPPORTED_MASK, reply);
-            told.bytes
-        }
+        Ask::Refused(a) => reply::write_answer(a, reply),
+        Ask::QueryList => reply::write_mask(protocol::SUPPORTED_MASK, reply),
         Ask::UseList(mask) => use_list(card, mask, request, reply),
         Ask::Read(m, op) => read_member(card, m, op, request, reply),
         Ask::Change(m, op) => change_member(card, m, op, request, reply),

@@ -22,7 +22,7 @@ use Rattle.member.specs.Member.{featuresSize, freshOf}
 use Rattle.member.proofs.Record.{Shaped, length-member, member-back}
 use Rattle.member.proofs.Sound.{sound-fresh}
 use Rattle.card.specs.declared.Setup.{Setup}
-use Rattle.card.specs.Layout.{featuresAt, inUseAt, headerSize, memberAt, recordSize, cardSize, setupIn, setupOf, inUseOf, withInUse, recordAt, HasRecord, recordBytes, withRecordBytes, memberBytesIn, memberIn, withMember, freshRecord, withFresh, freshHeader, freshCard}
+use Rattle.card.specs.Layout.{featuresAt, inUseAt, cardHeaderSize, memberBytesAt, recordSize, cardSize, setupIn, setupOf, inUseOf, withInUse, recordAt, HasRecord, recordBytes, withRecordBytes, memberBytesIn, memberIn, withMember, freshRecord, withFresh, freshHeader, freshCard}
 
 -- ---- bytes of a record ----
 
@@ -37,7 +37,7 @@ cut n x = length-bytesAt-le 0 n x
 pub has-record : (c : List ℕ) (m : ℕ) → length c ≡ cardSize (setupOf c .members) → 1 ≤ m → m ≤ setupOf c .members → HasRecord c m
 has-record c m e l h = record { low = l; high = omega arith }
 
-pub has-header : (c : List ℕ) (m : ℕ) → HasRecord c m → headerSize ≤ length c
+pub has-header : (c : List ℕ) (m : ℕ) → HasRecord c m → cardHeaderSize ≤ length c
 has-header c m h = omega (arith, h .high)
 
 pub bytes-long : (c : List ℕ) (m at n : ℕ) → HasRecord c m → at + n ≤ recordSize → length (recordBytes c m at n) ≡ n
@@ -122,7 +122,7 @@ module _ (c : List ℕ) (mask : ℕ) where
       let l = length-bytes 8 mask in
       bytesAt-after (recordAt m + at) n inUseAt (bytes 8 mask) c (omega arith)
 
-  pub use-same : headerSize ≤ length c → mask < 256 ^ 8 → inUseOf (withInUse c mask) ≡ mask
+  pub use-same : cardHeaderSize ≤ length c → mask < 256 ^ 8 → inUseOf (withInUse c mask) ≡ mask
   unfolding withInUse inUseOf
   use-same h l = number-put inUseAt 8 mask c h l
 
@@ -185,10 +185,10 @@ module _ (h : List ℕ) (mask : ℕ) (q : List ℕ) (e : length h ≡ inUseAt) w
   use-laid : bytesAt inUseAt 8 (h ++ (bytes 8 mask ++ q)) ≡ bytes 8 mask
   use-laid = rw (drop-at h (bytes 8 mask ++ q) inUseAt e) (take-at (bytes 8 mask) q 8 (length-bytes 8 mask))
 
-  records-laid : (j n : ℕ) → bytesAt (headerSize + j) n (h ++ (bytes 8 mask ++ q)) ≡ bytesAt j n q
+  records-laid : (j n : ℕ) → bytesAt (cardHeaderSize + j) n (h ++ (bytes 8 mask ++ q)) ≡ bytesAt j n q
   records-laid j n =
       let f = length-bytes 8 mask in
-      let k : headerSize + j ≡ length h + (length (bytes 8 mask) + j) = omega arith in
+      let k : cardHeaderSize + j ≡ length h + (length (bytes 8 mask) + j) = omega arith in
       rw (k, drop-append-add h (bytes 8 mask ++ q) (length (bytes 8 mask) + j), drop-append-add (bytes 8 mask) q j)
 
 unfoldable numbersOf : Setup → List ℕ
@@ -211,7 +211,7 @@ module _ (f : List ℕ) (e : length f ≡ featuresSize) where
   fresh-record-long = length-member _ fresh-shaped
 
   -- its front is the member's
-  fresh-front : bytesAt memberAt memberSize (freshRecord f) ≡ memberBytes (freshOf f)
+  fresh-front : bytesAt memberBytesAt memberSize (freshRecord f) ≡ memberBytes (freshOf f)
   unfolding freshRecord
   fresh-front = take-all memberSize _ (omega (arith, length-member _ fresh-shaped))
 
@@ -245,8 +245,8 @@ module _ (s : Setup) (e : length (s .features) ≡ featuresSize) where
   pub member-bytes-fresh : (m : ℕ) → 1 ≤ m → m ≤ s .members → memberBytesIn (freshCard s) m ≡ memberBytes (freshOf (s .features))
   unfolding recordBytes
   member-bytes-fresh m l h =
-      sym (bytesAt-bytesAt memberAt memberSize (recordAt m) recordSize (freshCard s) (omega arith))
-      ∙ ap (bytesAt memberAt memberSize) (record-fresh m l h)
+      sym (bytesAt-bytesAt memberBytesAt memberSize (recordAt m) recordSize (freshCard s) (omega arith))
+      ∙ ap (bytesAt memberBytesAt memberSize) (record-fresh m l h)
       ∙ fresh-front (s .features) e
 
 -- ---- a member ----
@@ -254,19 +254,19 @@ module _ (s : Setup) (e : length (s .features) ≡ featuresSize) where
 module _ (c : List ℕ) (m : ℕ) (x : Member) where
   pub length-with-member : length (withMember c m x) ≡ length c
   unfolding withMember
-  length-with-member = length-with-bytes c m memberAt memberSize (memberBytes x)
+  length-with-member = length-with-bytes c m memberBytesAt memberSize (memberBytes x)
 
   pub setup-with-member : setupOf (withMember c m x) ≡ setupOf c
   unfolding withMember
-  setup-with-member = setup-with-bytes c m memberAt memberSize (memberBytes x)
+  setup-with-member = setup-with-bytes c m memberBytesAt memberSize (memberBytes x)
 
   pub use-with-member : inUseOf (withMember c m x) ≡ inUseOf c
   unfolding withMember
-  use-with-member = use-with-bytes c m memberAt memberSize (memberBytes x)
+  use-with-member = use-with-bytes c m memberBytesAt memberSize (memberBytes x)
 
   pub member-same : HasRecord c m → Shaped x → memberIn (withMember c m x) m ≡ x
   unfolding withMember memberIn
-  member-same h s = ap memberOf (bytes-same c m memberAt memberSize (memberBytes x) h (omega arith) (length-member x s)) ∙ member-back x s
+  member-same h s = ap memberOf (bytes-same c m memberBytesAt memberSize (memberBytes x) h (omega arith) (length-member x s)) ∙ member-back x s
 
 -- ---- a fresh record ----
 
@@ -286,7 +286,7 @@ module _ (c : List ℕ) (m : ℕ) (f : List ℕ) where
   -- another member is as it was
   pub fresh-other : (k : ℕ) → 1 ≤ m → 1 ≤ k → k ≢ m → memberIn (withFresh c m f) k ≡ memberIn c k
   unfolding withFresh memberIn
-  fresh-other k l h n = ap memberOf (bytes-other c m 0 recordSize (freshRecord f) (omega arith) l k memberAt memberSize (omega arith) h n)
+  fresh-other k l h n = ap memberOf (bytes-other c m 0 recordSize (freshRecord f) (omega arith) l k memberBytesAt memberSize (omega arith) h n)
 
   -- bytes of another record, and the list in use, are put in either order
   pub fresh-swap : (k at n : ℕ) (x : List ℕ) → 1 ≤ m → at + n ≤ recordSize → 1 ≤ k → k ≢ m

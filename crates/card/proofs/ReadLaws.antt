@@ -19,14 +19,14 @@ use Rattle.member.specs.Record.{memberSize, memberOf}
 use Rattle.member.specs.Member.{featuresSize}
 use Rattle.member.specs.Sound.{soundRecord}
 use Rattle.card.specs.declared.Setup.{Setup}
-use Rattle.card.specs.Layout.{featuresAt, headerSize, memberAt, recordSize, cardSize, setupOf, isMember, recordAt, HasRecord, recordBytes, memberBytesIn, memberIn}
+use Rattle.card.specs.Layout.{featuresAt, cardHeaderSize, memberBytesAt, recordSize, cardSize, setupOf, isMember, recordAt, HasRecord, recordBytes, memberBytesIn, memberIn}
 use Rattle.card.specs.Sound.{inNumbers, soundSetup, soundFor, soundUpTo}
 use Rattle.card.proofs.LayoutLaws.{bytes-long, setup-read, members-read, queues-read, gets-read, sets-read, features-read}
 
 -- ---- the header ----
 
 -- the features were copied into l
-pub setup-copied : (c f l : List ℕ) → headerSize ≤ length c → length l ≡ featuresSize → f ≡ put 0 (bytesAt featuresAt featuresSize c) l
+pub setup-copied : (c f l : List ℕ) → cardHeaderSize ≤ length c → length l ≡ featuresSize → f ≡ put 0 (bytesAt featuresAt featuresSize c) l
     → record { members = getD c 0 0; queues = getD c 1 0; gets = getD c 2 0; sets = getD c 3 0; features = f } ≡ setupOf c
 setup-copied c f l h n e =
     rw (e, put-all (bytesAt featuresAt featuresSize c) l (length-bytesAt featuresAt featuresSize c (omega arith) ∙ sym n)) (setup-read c (omega arith))
@@ -40,11 +40,11 @@ module _ (c : List ℕ) (n : ℕ) (e : n ≡ getD c 0 0) where
   pub member-high : (m : ℕ) → 1 ≤ m → leb m n ≡ isMember c m
   member-high m h = rw is-members (last-end 1 (setupOf c .members) m h)
 
-  pub length-tested : eqb (length c) (headerSize + recordSize * n) ≡ eqb (length c) (cardSize (setupOf c .members))
+  pub length-tested : eqb (length c) (cardHeaderSize + recordSize * n) ≡ eqb (length c) (cardSize (setupOf c .members))
   length-tested = rw is-members
 
 -- a card without a header is too short
-pub length-short : (c : List ℕ) → length c < headerSize → false ≡ eqb (length c) (cardSize (setupOf c .members))
+pub length-short : (c : List ℕ) → length c < cardHeaderSize → false ≡ eqb (length c) (cardSize (setupOf c .members))
 length-short c h = sym (ne-eqb (length c) (cardSize (setupOf c .members)) (λ e. omega arith))
 
 pub numbers-tested : (c : List ℕ) (n q g s : ℕ) (t : Bool) → n ≡ getD c 0 0 → q ≡ getD c 1 0 → g ≡ getD c 2 0 → s ≡ getD c 3 0
@@ -61,7 +61,7 @@ module _ (c : List ℕ) (m : ℕ) where
 
   module _ (r : List ℕ) (e : r ≡ memberBytesIn c m) where
     pub lent-long : HasRecord c m → length r ≡ memberSize
-    lent-long h = rw e (bytes-long c m memberAt memberSize h (omega arith))
+    lent-long h = rw e (bytes-long c m memberBytesAt memberSize h (omega arith))
 
     pub member-loaded : (x : Member) → x ≡ memberOf r → x ≡ memberIn c m
     unfolding memberIn
@@ -72,7 +72,7 @@ module _ (c : List ℕ) (at : ℕ) where
   pub place-long : at + memberSize ≤ length c → length (bytesAt at (at + memberSize - at) c) ≡ memberSize
   place-long h = rw add-sub-cancel-left (length-bytesAt at memberSize c h)
 
-  pub place-tested : (t : Bool) → headerSize ≤ length c
+  pub place-tested : (t : Bool) → cardHeaderSize ≤ length c
       → t ≡ soundRecord (getD c 2 0) (getD c 3 0) (bytesAt featuresAt featuresSize c) (bytesAt at (at + memberSize - at) c) → t ≡ soundFor (setupOf c) (bytesAt at memberSize c)
   place-tested t h q = q ∙ rw (add-sub-cancel-left at memberSize, gets-read c, sets-read c, features-read c (omega arith))
 
@@ -87,7 +87,7 @@ sound-step s c (suc m) h = let e : suc m - 1 ≡ m = omega arith in rw e
 pub record Checked (c : List ℕ) (m at : ℕ) : Type 0 where
   pub long : length c ≡ cardSize (setupOf c .members)
   pub high : m ≤ setupOf c .members
-  pub place : at ≡ headerSize + recordSize * m
+  pub place : at ≡ cardHeaderSize + recordSize * m
   pub whole : soundUpTo (setupOf c) c (setupOf c .members) ≡ soundUpTo (setupOf c) c m
 
 pub checked-start : (c : List ℕ) (m : ℕ) → length c ≡ cardSize (setupOf c .members) → m ≡ getD c 0 0 → Checked c m (length c)
@@ -98,7 +98,7 @@ module _ (c : List ℕ) (m at : ℕ) (k : Checked c m at) where
     pub step-back : recordSize ≤ at
     step-back = let p = k .place in omega arith
 
-    pub step-head : headerSize ≤ length c
+    pub step-head : cardHeaderSize ≤ length c
     step-head = let l = k .long in omega arith
 
     pub step-fits : at - recordSize + memberSize ≤ length c
@@ -129,5 +129,5 @@ module _ (c : List ℕ) (t : Bool) (n : not t ≡ false) (e : t ≡ eqb (length 
   pub long-as-said : length c ≡ cardSize (setupOf c .members)
   long-as-said = eqb-true _ _ (sym e ∙ not-false t n)
 
-  pub long-enough : headerSize ≤ length c
+  pub long-enough : cardHeaderSize ≤ length c
   long-enough = let l = long-as-said in omega arith

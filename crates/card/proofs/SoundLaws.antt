@@ -16,7 +16,7 @@ use Rattle.member.specs.Member.{featuresSize}
 use Rattle.member.proofs.Record.{length-member}
 use Rattle.member.proofs.Sound.{SoundMember, sound-record, sound-member, sound-fresh}
 use Rattle.card.specs.declared.Setup.{Setup}
-use Rattle.card.specs.Layout.{headerSize, memberAt, recordSize, cardSize, setupOf, inUseOf, isMember, HasRecord, withRecordBytes, memberBytesIn, withInUse, memberIn, withMember, withFresh, freshCard}
+use Rattle.card.specs.Layout.{cardHeaderSize, memberBytesAt, recordSize, cardSize, setupOf, inUseOf, isMember, HasRecord, withRecordBytes, memberBytesIn, withInUse, memberIn, withMember, withFresh, freshCard}
 use Rattle.card.specs.Sound.{inNumbers, soundSetup, soundFor, soundUpTo, isSound}
 use Rattle.card.proofs.LayoutLaws.{has-record, bytes-long, length-with-bytes, setup-with-bytes, use-with-bytes, bytes-same, bytes-other, length-with-use, setup-with-use, bytes-with-use, use-same, features-long, length-fresh, setup-fresh, use-fresh, member-bytes-fresh, fresh-is-member}
 
@@ -90,7 +90,7 @@ abbrev pub SoundIn : List ℕ → Member → Type 0
 SoundIn c x = SoundMember (setupOf c .gets) (setupOf c .sets) (setupOf c .features) x
 
 module _ (c : List ℕ) (s : Sound c) where
-  pub sound-long : headerSize ≤ length c
+  pub sound-long : cardHeaderSize ≤ length c
   sound-long = let e = s .long in omega arith
 
   pub sound-has : (m : ℕ) → isMember c m ≡ true → HasRecord c m
@@ -101,7 +101,7 @@ module _ (c : List ℕ) (s : Sound c) where
 
   pub sound-member-in : (m : ℕ) → isMember c m ≡ true → SoundIn c (memberIn c m)
   unfolding memberIn
-  sound-member-in m e = sound-member _ _ _ (memberBytesIn c m) (bytes-long c m memberAt memberSize (sound-has m e) (omega arith)) (sound-at m e)
+  sound-member-in m e = sound-member _ _ _ (memberBytesIn c m) (bytes-long c m memberBytesAt memberSize (sound-has m e) (omega arith)) (sound-at m e)
 
 -- ---- what keeps a card sound ----
 
@@ -116,13 +116,13 @@ with-bytes c m at n x s low i g =
     kept c _ s (length-with-bytes c m at n x) (setup-with-bytes c m at n x) (rw use-with-bytes (s .supported)) λ k l h.
     by-cases (eqb k m)
     (λ q. let j : m ≤ setupOf c .members = omega tests in rw (eqb-true k m q) (g (has-record c m (s .long) low j)))
-    (λ q. rw (bytes-other c m at n x i low k memberAt memberSize (omega arith) l (eqb-false k m q)) (s .each k l h))
+    (λ q. rw (bytes-other c m at n x i low k memberBytesAt memberSize (omega arith) l (eqb-false k m q)) (s .each k l h))
 
 -- a sound member
 pub sound-with-member : (c : List ℕ) (m : ℕ) (x : Member) → Sound c → 1 ≤ m → SoundIn c x → Sound (withMember c m x)
 unfolding withMember
-sound-with-member c m x s low y = with-bytes c m memberAt memberSize (memberBytes x) s low (omega arith) λ h.
-    rw (bytes-same c m memberAt memberSize (memberBytes x) h (omega arith) (length-member x (y .shaped))) (sound-record _ _ _ x y)
+sound-with-member c m x s low y = with-bytes c m memberBytesAt memberSize (memberBytes x) s low (omega arith) λ h.
+    rw (bytes-same c m memberBytesAt memberSize (memberBytes x) h (omega arith) (length-member x (y .shaped))) (sound-record _ _ _ x y)
 
 -- a fresh member
 pub sound-with-fresh : (c : List ℕ) (m : ℕ) → Sound c → 1 ≤ m → Sound (withFresh c m (setupOf c .features))
@@ -135,7 +135,7 @@ sound-with-fresh c m s low =
 pub sound-with-use : (c : List ℕ) (mask : ℕ) → Sound c → supportedOnly mask ≡ true → Sound (withInUse c mask)
 sound-with-use c mask s u =
     kept c _ s (length-with-use c mask) (setup-with-use c mask) (rw (use-same c mask (sound-long c s) (mask-fits mask u)) u)
-    (λ k l h. rw (bytes-with-use c mask k memberAt memberSize) (s .each k l h))
+    (λ k l h. rw (bytes-with-use c mask k memberBytesAt memberSize) (s .each k l h))
 
 -- a fresh card
 pub sound-fresh-card : (s : Setup) → soundSetup s ≡ true → length (s .features) ≡ featuresSize → Sound (freshCard s)

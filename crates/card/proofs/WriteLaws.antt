@@ -10,7 +10,7 @@ use Rattle.theory.proofs.Bytes.{length-bytesAt}
 use Rattle.member.specs.declared.Member.{Member}
 use Rattle.member.specs.Record.{memberSize, memberBytes}
 use Rattle.member.specs.Member.{freshOf}
-use Rattle.card.specs.Layout.{memberAt, recordAt, HasRecord, withMember, withFresh}
+use Rattle.card.specs.Layout.{memberBytesAt, recordAt, HasRecord, withMember, withFresh}
 use Rattle.card.proofs.LayoutLaws.{bytes-lent, fresh-is-member}
 
 -- the place of a member's bytes was lent and came back as `last`, as long as it was
@@ -20,8 +20,8 @@ unfolding withMember
 member-saved c m at x last e h q n =
     let k : recordAt m + memberSize - recordAt m ≡ memberSize = add-sub-cancel-left (recordAt m) memberSize in
     let l : length (memberBytes x) ≡ memberSize = ap length (sym q) ∙ n ∙ rw (e, k) (length-bytesAt (recordAt m) memberSize c (omega (arith, h .high))) in
-    let z : at ≡ recordAt m + memberAt = e ∙ sym (add-zero (recordAt m)) in
-    bytes-lent c m memberAt memberSize (memberBytes x) at (at + memberSize - at) last z (add-sub-cancel-left at memberSize) q l (omega arith) h
+    let z : at ≡ recordAt m + memberBytesAt = e ∙ sym (add-zero (recordAt m)) in
+    bytes-lent c m memberBytesAt memberSize (memberBytes x) at (at + memberSize - at) last z (add-sub-cancel-left at memberSize) q l (omega arith) h
 
 -- a fresh member was saved
 pub member-reset : (c d : List ℕ) (m : ℕ) (x : Member) (f : List ℕ) → x ≡ freshOf f → d ≡ withMember c m x → d ≡ withFresh c m f

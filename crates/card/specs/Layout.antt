@@ -24,18 +24,18 @@ featuresAt = 4
 abbrev pub inUseAt : ℕ
 inUseAt = 20
 
-abbrev pub headerSize : ℕ
-headerSize = 28
+abbrev pub cardHeaderSize : ℕ
+cardHeaderSize = 28
 
 -- a record: the bytes of its member
-abbrev pub memberAt : ℕ
-memberAt = 0
+abbrev pub memberBytesAt : ℕ
+memberBytesAt = 0
 
 abbrev pub recordSize : ℕ
-recordSize = memberAt + memberSize
+recordSize = memberBytesAt + memberSize
 
 abbrev pub cardSize : ℕ → ℕ
-cardSize members = headerSize + recordSize * members
+cardSize members = cardHeaderSize + recordSize * members
 
 -- the exact length of a card's buffer; 0 where there is no such card
 unfoldable pub cardBytes : ℕ → ℕ
@@ -60,7 +60,7 @@ abbrev pub isMember : List ℕ → ℕ → Bool
 isMember c m = within 1 (setupOf c .members) m
 
 abbrev pub recordAt : ℕ → ℕ
-recordAt m = headerSize + recordSize * (m - 1)
+recordAt m = cardHeaderSize + recordSize * (m - 1)
 
 -- the bytes of member m's record are all there
 pub record HasRecord (c : List ℕ) (m : ℕ) : Type 0 where
@@ -76,13 +76,13 @@ withRecordBytes c m at n x = put (recordAt m + at) (take n x) c
 
 -- member m
 abbrev pub memberBytesIn : List ℕ → ℕ → List ℕ
-memberBytesIn c m = recordBytes c m memberAt memberSize
+memberBytesIn c m = recordBytes c m memberBytesAt memberSize
 
 unfoldable pub memberIn : List ℕ → ℕ → Member
 memberIn c m = memberOf (memberBytesIn c m)
 
 unfoldable pub withMember : List ℕ → ℕ → Member → List ℕ
-withMember c m x = withRecordBytes c m memberAt memberSize (memberBytes x)
+withMember c m x = withRecordBytes c m memberBytesAt memberSize (memberBytes x)
 
 -- the record of a fresh member
 unfoldable pub freshRecord : List ℕ → List ℕ

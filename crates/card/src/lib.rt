@@ -6,7 +6,7 @@ ghost use lib.ListN.{length};
 ghost use Rattle.theory.specs.Bytes.{bytesAt};
 ghost use Rattle.protocol.specs.Opcodes.{supportedOnly};
 ghost use Rattle.member.specs.Record.{memberSize};
-ghost use Rattle.card.specs.Layout.{headerSize, cardSize, cardBytes, setupOf, inUseOf, withInUse, isMember, recordAt, HasRecord, memberBytesIn, memberIn, withMember, withFresh};
+ghost use Rattle.card.specs.Layout.{cardHeaderSize, cardSize, cardBytes, setupOf, inUseOf, withInUse, isMember, recordAt, HasRecord, memberBytesIn, memberIn, withMember, withFresh};
 ghost use Rattle.card.specs.Sound.{inNumbers, soundSetup, soundFor, soundUpTo, isSound};
 use member::FEATURES_SIZE;
 use member::MEMBER_SIZE;
@@ -37,7 +37,7 @@ pub const FEATURES_AT: usize = 4;
 
 pub const IN_USE_AT: usize = 20;
 
-const HEADER_SIZE: usize = 28;
+const CARD_HEADER_SIZE: usize = 28;
 
 // A record: the bytes of its member.
 const RECORD_SIZE: usize = MEMBER_SIZE;
@@ -61,14 +61,14 @@ pub fn card_bytes(members: u64) -> usize
         return 0;
     }
     if members <= MOST_MEMBERS {
-        return HEADER_SIZE + RECORD_SIZE * (members as usize);
+        return CARD_HEADER_SIZE + RECORD_SIZE * (members as usize);
     }
     0
 }
 
 // The setup that a card's header holds.
 pub fn setup_of(card: &[u8]) -> Setup
-    requires { ⌜ headerSize ≤ length (now card) ⌝ }
+    requires { ⌜ cardHeaderSize ≤ length (now card) ⌝ }
     ensures { λ r. ⌜ r ≡ setupOf (now (card .entry)) ⌝ }
 {
     let mut features = [0u8; FEATURES_SIZE];
@@ -84,14 +84,14 @@ pub fn setup_of(card: &[u8]) -> Setup
 
 // The list of commands in use.
 pub fn in_use(card: &[u8]) -> u64
-    requires { ⌜ headerSize ≤ length (now card) ⌝ }
+    requires { ⌜ cardHeaderSize ≤ length (now card) ⌝ }
     ensures { λ r. ⌜ r ≡ inUseOf (now (card .entry)) ⌝ }
 {
     wire::read_u64(card, IN_USE_AT)
 }
 
 pub fn set_in_use(card: &mut [u8], mask: u64)
-    requires { ⌜ headerSize ≤ length (now card) ⌝ }
+    requires { ⌜ cardHeaderSize ≤ length (now card) ⌝ }
     ensures { λ _. ⌜ now (card .exit) ≡ withInUse (now (card .entry)) mask ⌝ }
 {
     wire::write(card, IN_USE_AT, 8, mask);
@@ -99,7 +99,7 @@ pub fn set_in_use(card: &mut [u8], mask: u64)
 
 // Members are identified 1 to N.
 pub fn is_member(card: &[u8], m: u64) -> bool
-    requires { ⌜ headerSize ≤ length (now card) ⌝ }
+    requires { ⌜ cardHeaderSize ≤ length (now card) ⌝ }
     ensures { λ r. ⌜ r ≡ isMember (now (card .entry)) m ⌝ }
 {
     if m < 1 {
@@ -113,7 +113,7 @@ fn record_at(m: u64) -> usize
     requires { ⌜ (1 ≤ m) × (recordAt m < 2 ^ 64) ⌝ }
     ensures { λ r. ⌜ r ≡ recordAt m ⌝ }
 {
-    HEADER_SIZE + RECORD_SIZE * (m as usize - 1)
+    CARD_HEADER_SIZE + RECORD_SIZE * (m as usize - 1)
 }
 
 // The bytes of member m, where they stand.
@@ -175,7 +175,7 @@ pub fn in_numbers(members: u64, queues: u64, gets: u64, sets: u64) -> bool
 }
 
 fn is_setup_sound(card: &[u8]) -> bool
-    requires { ⌜ headerSize ≤ length (now card) ⌝ }
+    requires { ⌜ cardHeaderSize ≤ length (now card) ⌝ }
     ensures { λ r. ⌜ r ≡ soundSetup (setupOf (now (card .entry))) ⌝ }
 {
     in_numbers(
@@ -188,7 +188,7 @@ fn is_setup_sound(card: &[u8]) -> bool
 
 // Whether the member whose bytes stand at a place is sound.
 fn is_sound_at(card: &[u8], at: usize) -> bool
-    requires { ⌜ (headerSize ≤ length (now card)) × (at + memberSize ≤ length (now card)) ⌝ }
+    requires { ⌜ (cardHeaderSize ≤ length (now card)) × (at + memberSize ≤ length (now card)) ⌝ }
     ensures { λ r. ⌜ r ≡ soundFor (setupOf (now (card .entry))) (bytesAt at memberSize (now (card .entry))) ⌝ }
 {
     member::is_sound_record(
@@ -220,14 +220,14 @@ fn are_members_sound(card: &[u8]) -> bool
 fn is_length_right(card: &[u8]) -> bool
     ensures { λ r. ⌜ r ≡ eqb (length (now (card .entry))) (cardSize (setupOf (now (card .entry)) .members)) ⌝ }
 {
-    if card.len() < HEADER_SIZE {
+    if card.len() < CARD_HEADER_SIZE {
         return false;
     }
-    card.len() == HEADER_SIZE + RECORD_SIZE * (wide(card[MEMBERS_AT]) as usize)
+    card.len() == CARD_HEADER_SIZE + RECORD_SIZE * (wide(card[MEMBERS_AT]) as usize)
 }
 
 fn is_use_supported(card: &[u8]) -> bool
-    requires { ⌜ headerSize ≤ length (now card) ⌝ }
+    requires { ⌜ cardHeaderSize ≤ length (now card) ⌝ }
     ensures { λ r. ⌜ r ≡ supportedOnly (inUseOf (now (card .entry))) ⌝ }
 {
     protocol::supported_only(in_use(card))

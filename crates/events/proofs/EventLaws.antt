@@ -21,7 +21,7 @@ use Rattle.values.specs.Apply.{storable}
 use Rattle.member.specs.declared.Member.{Member}
 use Rattle.member.specs.Member.{featuresSize, withPart}
 use Rattle.card.specs.declared.Setup.{Setup}
-use Rattle.card.specs.Layout.{headerSize, cardSize, cardBytes, setupOf, isMember, HasRecord, memberIn, withMember, withFresh, freshCard}
+use Rattle.card.specs.Layout.{cardHeaderSize, cardSize, cardBytes, setupOf, isMember, HasRecord, memberIn, withMember, withFresh, freshCard}
 use Rattle.card.specs.Sound.{inNumbers, soundSetup, isSound}
 use Rattle.events.specs.Events.{InBounds, setupWith, setUp, memberAnswer, ifDone, onMember, storeIn}
 use Rattle.card.proofs.LayoutLaws.{has-header}
@@ -40,7 +40,7 @@ module _ (c : List ℕ) (t : Bool) (n : not t ≡ false) (e : t ≡ isSound c) w
   told-sound : isSound c ≡ true
   told-sound = sym e ∙ not-false t n
 
-  pub told-long : headerSize ≤ length c
+  pub told-long : cardHeaderSize ≤ length c
   told-long = sound-long c (sound-of c told-sound)
 
   pub told-size : (s : Setup) → s ≡ setupOf c → length c ≡ cardSize (s .members)
@@ -67,7 +67,7 @@ module _ (c : List ℕ) (m : ℕ) (a : EventAnswer) (t : Bool) (e : a ≡ member
     pub member-record : HasRecord c m
     member-record = sound-has c (sound-of c (sound-has-it .0)) m (sound-has-it .1)
 
-    pub member-long : headerSize ≤ length c
+    pub member-long : cardHeaderSize ≤ length c
     member-long = has-header c m member-record
 
 -- what a call asks after these tests

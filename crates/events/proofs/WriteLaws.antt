@@ -14,7 +14,7 @@ use Rattle.wire.proofs.Le.{length-bytes}
 use Rattle.protocol.specs.Opcodes.{freshMask}
 use Rattle.member.specs.Member.{featuresSize}
 use Rattle.card.specs.declared.Setup.{Setup}
-use Rattle.card.specs.Layout.{featuresAt, inUseAt, headerSize, recordSize, cardSize, recordAt, HasRecord, withFresh, freshRecord, freshHeader, freshCard}
+use Rattle.card.specs.Layout.{featuresAt, inUseAt, cardHeaderSize, recordSize, cardSize, recordAt, HasRecord, withFresh, freshRecord, freshHeader, freshCard}
 use Rattle.card.proofs.LayoutLaws.{length-with-fresh, fresh-record-long, fresh-put, length-fresh}
 
 -- ---- every byte 0 ----
@@ -38,7 +38,7 @@ header-written c d e f s n p q r =
     let k : 0 + length (h ++ s .features) ≡ inUseAt = omega arith in
     rw (r, q, p) (sym (put-append 0 (h ++ s .features) (bytes 8 freshMask) c ∙ rw (k, put-append 0 h (s .features) c)))
 
-header-long : (s : Setup) → length (s .features) ≡ featuresSize → 0 + length (freshHeader s) ≡ headerSize
+header-long : (s : Setup) → length (s .features) ≡ featuresSize → 0 + length (freshHeader s) ≡ cardHeaderSize
 unfolding freshHeader
 header-long s e = rw (length-append, length-bytes 8 freshMask) (omega arith)
 
@@ -46,7 +46,7 @@ header-long s e = rw (length-append, length-bytes 8 freshMask) (omega arith)
 pub record Filled (f c₀ c : List ℕ) (n m : ℕ) : Type 0 where
   pub count : m ≤ n
   pub long : length c ≡ length c₀
-  pub whole : put headerSize (repeat n (freshRecord f)) c₀ ≡ put (headerSize + recordSize * m) (repeat (n - m) (freshRecord f)) c
+  pub whole : put cardHeaderSize (repeat n (freshRecord f)) c₀ ≡ put (cardHeaderSize + recordSize * m) (repeat (n - m) (freshRecord f)) c
 
 pub filled-start : (f c : List ℕ) (n : ℕ) → Filled f c c n 0
 filled-start f c n = record { count = omega arith; long = refl; whole = rw sub-zero }
@@ -59,8 +59,8 @@ module _ (f c₀ c : List ℕ) (n m : ℕ) (w : Filled f c₀ c n m) where
   filled-on d e h p =
       let r = freshRecord f in
       let l : length r ≡ recordSize = fresh-record-long f e in
-      let at : headerSize + recordSize * m ≡ recordAt (m + 1) = omega arith in
-      let on : recordAt (m + 1) + length r ≡ headerSize + recordSize * (m + 1) = omega arith in
+      let at : cardHeaderSize + recordSize * m ≡ recordAt (m + 1) = omega arith in
+      let on : recordAt (m + 1) + length r ≡ cardHeaderSize + recordSize * (m + 1) = omega arith in
       record {
         count = omega arith;
         long = rw (p, length-with-fresh) (w .long);
@@ -69,13 +69,13 @@ module _ (f c₀ c : List ℕ) (n m : ℕ) (w : Filled f c₀ c n m) where
             ∙ rw (repeat-step n m r h, at, put-append (recordAt (m + 1)) r (repeat (n - (m + 1)) r) c, on, fresh-put c (m + 1) f e, p);
       }
 
-  pub filled-end : n ≤ m → c ≡ put headerSize (repeat n (freshRecord f)) c₀
+  pub filled-end : n ≤ m → c ≡ put cardHeaderSize (repeat n (freshRecord f)) c₀
   filled-end h = sym (w .whole ∙ rw (repeat-end n m (freshRecord f) h) (put-nil _ c))
 
 -- the header and the records are the whole card
 pub fresh-written : (s : Setup) (c₀ c₁ c₂ : List ℕ) (n : ℕ) → length (s .features) ≡ featuresSize → length c₀ ≡ cardSize (s .members) → n ≡ s .members
-    → c₁ ≡ put 0 (freshHeader s) c₀ → c₂ ≡ put headerSize (repeat n (freshRecord (s .features))) c₁ → c₂ ≡ freshCard s
+    → c₁ ≡ put 0 (freshHeader s) c₀ → c₂ ≡ put cardHeaderSize (repeat n (freshRecord (s .features))) c₁ → c₂ ≡ freshCard s
 unfolding freshCard
 fresh-written s c₀ c₁ c₂ n e l k p q =
-    let h : 0 + length (freshHeader s) ≡ headerSize = header-long s e in
+    let h : 0 + length (freshHeader s) ≡ cardHeaderSize = header-long s e in
     q ∙ rw (p, k, ← h) (sym (put-append 0 (freshHeader s) _ c₀) ∙ put-all (freshCard s) c₀ (length-fresh s e ∙ sym l))

@@ -6,7 +6,7 @@ ghost use lib.ListN.{length, replicate};
 ghost use Rattle.theory.specs.Logic.{_and_};
 ghost use Rattle.theory.specs.Bytes.{put, repeat};
 ghost use Rattle.member.specs.Member.{featuresSize};
-ghost use Rattle.card.specs.Layout.{headerSize, cardSize, HasRecord, freshRecord, freshHeader, freshCard};
+ghost use Rattle.card.specs.Layout.{cardHeaderSize, cardSize, HasRecord, freshRecord, freshHeader, freshCard};
 ghost use Rattle.card.specs.Sound.{inNumbers};
 ghost use Rattle.events.specs.Events.{InBounds, setupWith, setUp, memberAnswer, resetMember, resetCard, storeIn, store};
 use card::FEATURES_AT;
@@ -31,7 +31,7 @@ fn clear(card: &mut [u8])
 
 // The header of a fresh card.
 fn write_header(card: &mut [u8], s: Setup)
-    requires { ⌜ headerSize ≤ length (now card) ⌝ }
+    requires { ⌜ cardHeaderSize ≤ length (now card) ⌝ }
     ensures { λ _. ⌜ now (card .exit) ≡ put 0 (freshHeader s) (now (card .entry)) ⌝ }
 {
     let numbers = [s.members, s.queues, s.gets, s.sets];
@@ -44,7 +44,7 @@ fn write_header(card: &mut [u8], s: Setup)
 // The records of n fresh members.
 fn write_members(card: &mut [u8], n: u64, features: [u8; FEATURES_SIZE])
     requires { ⌜ length (now card) ≡ cardSize n ⌝ }
-    ensures { λ _. ⌜ now (card .exit) ≡ put headerSize (repeat n (freshRecord features)) (now (card .entry)) ⌝ }
+    ensures { λ _. ⌜ now (card .exit) ≡ put cardHeaderSize (repeat n (freshRecord features)) (now (card .entry)) ⌝ }
 {
     let mut m: u64 = 0;
     while m < n {

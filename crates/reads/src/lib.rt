@@ -8,6 +8,7 @@ use objects::Found;
 use protocol::Answer;
 use protocol::Body;
 use protocol::Metadata;
+use protocol::ObjectKind;
 use protocol::ReadOp;
 
 // The outcome of an operation that has a result and changes nothing.

@@ -19,9 +19,8 @@ use Rattle.protocol.specs.declared.Answer.{Answer}
 use Rattle.protocol.specs.declared.Answer.the-variants.{ShortReply}
 use Rattle.protocol.specs.Answers.{statusOf, qualifierOf, isDone}
 use Rattle.protocol.specs.declared.Body.{Body}
-use Rattle.reply.specs.declared.Written.{Written}
 use Rattle.reply.specs.Result.{resultOf}
-use Rattle.reply.specs.Reply.{headOf, finalOf, replyOf, concludeOf}
+use Rattle.reply.specs.Reply.{headSize, headOf, finalOf, replyOf, replied, written}
 
 pub head-long : (a : Answer) → length (headOf a) ≡ 8
 unfolding headOf bytes
@@ -80,18 +79,19 @@ reply-done a x d = rw d
 -- the answer in the end is `last`, of which the code was told b; x is the result
 module _ (a last : Answer) (x l : List ℕ) (size : ℕ) (b : Bool)
     (settled : last ≡ finalOf a size (length l)) (sized : size ≡ length x) (said : b ≡ isDone last) where
-  pub refused-written : (y : Written × List ℕ) → not b ≡ true → y ≡ concludeOf last [] l → y ≡ concludeOf a x l
-  unfolding concludeOf
+  pub refused-written : (y : ℕ × List ℕ) → not b ≡ true → y ≡ written (replyOf last []) l
+      → y ≡ written (replied a x (length l)) l
+  unfolding replied
   refused-written y n e =
       let d = sym said ∙ not-true b n in
-      e ∙ rw (← final-refused last 0 (length l) b said n, ← sized, ← settled, reply-refused last x d, reply-refused last [] d)
+      e ∙ rw (← sized, ← settled, reply-refused last x d, reply-refused last [] d)
 
-  pub result-written : (l₁ l₂ : List ℕ) (k : ℕ) → not b ≡ false → l₁ ≡ put 0 (headOf last) l → l₂ ≡ put 8 x l₁
-      → k ≡ 8 + size → _≡_ {A = Written × List ℕ} (record { answer = last; bytes = k }, l₂) (concludeOf a x l)
-  unfolding concludeOf
-  result-written l₁ l₂ k n e₁ e₂ e₃ =
-      let p : put 0 (headOf last ++ x) l ≡ put 8 x (put 0 (headOf last) l) = put-append 0 (headOf last) x l ∙ rw (head-long last) in
-      rw (← sized, ← settled, e₃, e₂, e₁, reply-done last x (sym said ∙ not-false b n), length-append, head-long last, p, sized)
+  pub result-written : (l₁ l₂ : List ℕ) → not b ≡ false → l₁ ≡ put 0 (headOf last) l → l₂ ≡ put headSize x l₁
+      → (headSize + size, l₂) ≡ written (replied a x (length l)) l
+  unfolding replied written
+  result-written l₁ l₂ n e₁ e₂ =
+      let p : put 0 (headOf last ++ x) l ≡ put headSize x (put 0 (headOf last) l) = put-append 0 (headOf last) x l ∙ rw (head-long last) in
+      rw (← sized, ← settled, e₂, e₁, reply-done last x (sym said ∙ not-false b n), length-append, head-long last, p, sized)
 
 -- there is room for the result, in the buffer as the head left it and in the tail that is lent to the result's writer
 module _ (a last : Answer) (l l′ : List ℕ) (size : ℕ) (b : Bool) (settled : last ≡ finalOf a size (length l))
@@ -109,12 +109,17 @@ module _ (a last : Answer) (l l′ : List ℕ) (size : ℕ) (b : Bool) (settled 
 pub fits-word : (n k : ℕ) → n ≤ k → Fits w64 k → Fits w64 n
 fits-word n k h f = omega arith
 
--- a reply with no result always fits
-pub answer-only : (a : Answer) (l l′ : List ℕ) → 8 ≤ length l → l′ ≡ put 0 (headOf a) l
-    → _≡_ {A = Written × List ℕ} (record { answer = a; bytes = 8 }, l′) (concludeOf a [] l)
-unfolding concludeOf finalOf if_then_else_ unless_answer_then_
-answer-only a l l′ h e =
-    let f : leb (8 + 0) (length l) ≡ true = le-leb 8 (length l) h in
-    by-cases (isDone a)
-    (λ d. rw (e, d, f, reply-empty a, head-long a))
-    (λ d. rw (e, d, reply-empty a, head-long a))
+-- a reply with no result, which always fits
+pub answer-only : (a : Answer) (l l′ : List ℕ) → l′ ≡ put 0 (headOf a) l → (headSize, l′) ≡ written (replyOf a []) l
+unfolding written
+answer-only a l l′ e = rw (e, reply-empty a, head-long a)
+
+pub final-empty : (a : Answer) (room : ℕ) → headSize ≤ room → finalOf a 0 room ≡ a
+unfolding finalOf if_then_else_ unless_answer_then_
+final-empty a room h =
+    let f : leb (headSize + 0) room ≡ true = le-leb headSize room h in
+    by-cases (isDone a) (λ d. rw (d, f)) (λ d. rw d)
+
+pub replied-empty : (a : Answer) (room : ℕ) → headSize ≤ room → replied a [] room ≡ replyOf a []
+unfolding replied
+replied-empty a room h = rw (final-empty a room h)

@@ -9,9 +9,11 @@ use Rattle.wire.specs.Le.{bytes}
 use Rattle.protocol.specs.declared.Answer.{Answer}
 use Rattle.protocol.specs.declared.Answer.the-variants.{ShortReply}
 use Rattle.protocol.specs.Answers.{statusOf, qualifierOf, isDone}
-use Rattle.reply.specs.declared.Written.{Written}
 
 -- status 2 bytes, qualifier 2, four zero bytes
+abbrev pub headSize : ℕ
+headSize = 8
+
 unfoldable pub headOf : Answer → List ℕ
 headOf a = bytes 2 (statusOf a) ++ (bytes 2 (qualifierOf a) ++ replicate 4 0)
 
@@ -19,17 +21,18 @@ headOf a = bytes 2 (statusOf a) ++ (bytes 2 (qualifierOf a) ++ replicate 4 0)
 unfoldable pub finalOf : Answer → ℕ → ℕ → Answer
 finalOf a size room =
     if isDone a then
-    (unless leb (8 + size) room answer ShortReply then a) else
+    (unless leb (headSize + size) room answer ShortReply then a) else
     a
 
 -- "A refusal's reply is exactly 8 bytes"
 unfoldable pub replyOf : Answer → List ℕ → List ℕ
 replyOf a result = headOf a ++ (if isDone a then result else [])
 
--- the answer in the end and the bytes written, and the buffer after: bytes past those written keep their values
-abbrev pub writtenOf : Answer → List ℕ → List ℕ → Written × List ℕ
-writtenOf a result buffer =
-    (record { answer = a; bytes = length (replyOf a result) }, put 0 (replyOf a result) buffer)
+-- steps 11 and 12: the reply to a command that comes to this answer and this result
+unfoldable pub replied : Answer → List ℕ → ℕ → List ℕ
+replied a result room = replyOf (finalOf a (length result) room) result
 
-unfoldable pub concludeOf : Answer → List ℕ → List ℕ → Written × List ℕ
-concludeOf a result buffer = writtenOf (finalOf a (length result) (length buffer)) result buffer
+-- what is left of a buffer in which a reply was written: how many bytes it has, and the buffer, whose other bytes keep
+-- their values
+unfoldable pub written : List ℕ → List ℕ → ℕ × List ℕ
+written reply buffer = (length reply, put 0 reply buffer)

@@ -8,25 +8,23 @@ ghost use Rattle.wire.specs.Le.{bytes};
 ghost use Rattle.inventory.specs.Inventory.{partCount, valuesSize};
 ghost use Rattle.capture.specs.Capture.{headersOf};
 ghost use Rattle.reply.specs.Result.{numberBytes, resultOf};
-ghost use Rattle.reply.specs.Reply.{headOf, finalOf, concludeOf};
+ghost use Rattle.reply.specs.Reply.{headSize, headOf, finalOf, replyOf, replied, written};
 use protocol::Answer;
 use protocol::Body;
 
-// Status 2 bytes, qualifier 2, four zero bytes; the result follows.
+// The head: status 2 bytes, qualifier 2, four zero bytes; the result follows.
+const QUALIFIER_AT: usize = 2;
+
+const ZEROS_AT: usize = 4;
+
 pub const HEAD_SIZE: usize = 8;
 
 // A number in a result: 4 bytes and 4 zero bytes.
 const NUMBER_SIZE: usize = 8;
 
-// What was answered in the end, and how many bytes were written.
-pub struct Written {
-    pub answer: Answer,
-    pub bytes: usize,
-}
-
 // Step 11: a success has room for its result.
 fn settle(a: Answer, size: usize, room: usize) -> Answer
-    requires { ⌜ 8 ≤ room ⌝ }
+    requires { ⌜ headSize ≤ room ⌝ }
     ensures { λ r. ⌜ r ≡ finalOf a size room ⌝ }
 {
     if !protocol::is_done(a) {
@@ -39,30 +37,27 @@ fn settle(a: Answer, size: usize, room: usize) -> Answer
 }
 
 fn write_head(a: Answer, out: &mut [u8])
-    requires { ⌜ 8 ≤ length (now out) ⌝ }
+    requires { ⌜ headSize ≤ length (now out) ⌝ }
     ensures { λ _. ⌜ now (out .exit) ≡ put 0 (headOf a) (now (out .entry)) ⌝ }
 {
     wire::write(out, 0, 2, protocol::status(a) as u64);
-    wire::write(out, 2, 2, protocol::qualifier(a) as u64);
-    wire::write(out, 4, 4, 0);
+    wire::write(out, QUALIFIER_AT, 2, protocol::qualifier(a) as u64);
+    wire::write(out, ZEROS_AT, 4, 0);
 }
 
-// A reply with no result.
-pub fn write_answer(a: Answer, reply: &mut [u8]) -> Written
-    requires { ⌜ 8 ≤ length (now reply) ⌝ }
-    ensures { λ r. ⌜ (r, now (reply .exit)) ≡ concludeOf a [] (now (reply .entry)) ⌝ }
+// A reply with no result: the bytes written.
+pub fn write_answer(a: Answer, reply: &mut [u8]) -> usize
+    requires { ⌜ headSize ≤ length (now reply) ⌝ }
+    ensures { λ r. ⌜ (r, now (reply .exit)) ≡ written (replyOf a []) (now (reply .entry)) ⌝ }
 {
     write_head(a, reply);
-    Written {
-        answer: a,
-        bytes: HEAD_SIZE,
-    }
+    HEAD_SIZE
 }
 
 // The reply to a list query: a mask of opcodes.
-pub fn write_mask(mask: u64, reply: &mut [u8]) -> Written
-    requires { ⌜ 8 ≤ length (now reply) ⌝ }
-    ensures { λ r. ⌜ (r, now (reply .exit)) ≡ concludeOf Answer.Done (bytes 8 mask) (now (reply .entry)) ⌝ }
+pub fn write_mask(mask: u64, reply: &mut [u8]) -> usize
+    requires { ⌜ headSize ≤ length (now reply) ⌝ }
+    ensures { λ r. ⌜ (r, now (reply .exit)) ≡ written (replied Answer.Done (bytes 8 mask) (length (now (reply .entry)))) (now (reply .entry)) ⌝ }
 {
     let size: usize = 8;
     let last = settle(Answer::Done, size, reply.len());
@@ -71,11 +66,7 @@ pub fn write_mask(mask: u64, reply: &mut [u8]) -> Written
     }
     write_head(last, reply);
     wire::write(reply, HEAD_SIZE, 8, mask);
-    let bytes = HEAD_SIZE + size;
-    Written {
-        answer: last,
-        bytes,
-    }
+    HEAD_SIZE + size
 }
 
 // The bytes of a result, whatever the values are.
@@ -134,9 +125,9 @@ pub fn write_reading(
     list: &[u8],
     values: &[u8],
     reply: &mut [u8],
-) -> Written
-    requires { ⌜ (queues < 5) × (length (now values) ≡ valuesSize) × (8 ≤ length (now reply)) ⌝ }
-    ensures { λ r. ⌜ (r, now (reply .exit)) ≡ concludeOf a (resultOf queues (now (list .entry)) (now (values .entry)) body) (now (reply .entry)) ⌝ }
+) -> usize
+    requires { ⌜ (queues < 5) × (length (now values) ≡ valuesSize) × (headSize ≤ length (now reply)) ⌝ }
+    ensures { λ r. ⌜ (r, now (reply .exit)) ≡ written (replied a (resultOf queues (now (list .entry)) (now (values .entry)) body) (length (now (reply .entry)))) (now (reply .entry)) ⌝ }
 {
     let size = result_bytes(body, queues, list);
     let last = settle(a, size, reply.len());
@@ -145,9 +136,5 @@ pub fn write_reading(
     }
     write_head(last, reply);
     write_result(body, queues, list, values, &mut reply[HEAD_SIZE..]);
-    let bytes = HEAD_SIZE + size;
-    Written {
-        answer: last,
-        bytes,
-    }
+    HEAD_SIZE + size
 }

@@ -1,6 +1,6 @@
 -- `admin::read_member` meets its contract. Assumes nothing.
 use borrow.Author.Needs.{needs}
-use Rattle.admin.proofs.OfSound.{head-there, record-there, record-sized, queues-few, values-long}
+use Rattle.admin.proofs.OfSound.{header-there, record-there, bytes-sized, queues-few, values-long}
 use Rattle.admin.proofs.Arms.{read-told}
 use Rattle.admin.proofs.read_member.Statement.{statement}
 use Rattle.admin.proofs.read_member.Tie as tie
@@ -10,20 +10,12 @@ write-reading-requires c κs =
     let at-record = c .before .before .before .before in
     let pre = at-record .before .before .before .before .before .pre in (
       queues-few _ (pre .0) _ (at-record .before .setup-of .ensures),
-      values-long _ (pre .0) _ (pre .1) _ (at-record .record-of .ensures) _ (c .before .values-of .ensures),
+      values-long _ (pre .0) _ (pre .1) _ (at-record .member-bytes .ensures) _ (c .before .values-of .ensures),
       pre .2,
     )
-
-returns : tie.Need-returns
-returns c =
-    let at-values = c .before .before .before .before in
-    let at-record = at-values .before .before .before in
-    read-told _ _ _ _ _ _ _ _ _ _ _ _ (at-record .before .setup-of .ensures) (at-record .record-of .ensures)
-    (at-values .before .before .from .ensures) (at-values .before .read .ensures) (at-values .values-of .ensures)
-    (c .before .before .write-reading .ensures)
 
 pub read-member-spec : {M : Type 1} → statement M
 read-member-spec =
     tie.close
-    (tie.spec (λ c κs. search (needs, head-there)) (λ c κs. search (needs, record-there)) (λ c κs. search needs)
-    (λ c κs. search (needs, record-sized)) (λ c κs. search (needs, record-sized)) write-reading-requires (λ c. search needs) returns)
+    (tie.spec (λ c κs. search (needs, header-there)) (λ c κs. search (needs, record-there)) (λ c κs. search needs)
+    (λ c κs. search (needs, bytes-sized)) (λ c κs. search (needs, bytes-sized)) write-reading-requires (λ c. search needs) (λ c. search (needs, read-told)))

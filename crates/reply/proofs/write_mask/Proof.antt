@@ -25,7 +25,7 @@ returns-2 c =
     let at-head = at-write .before .before .before .before in
     let at-test = at-head .before .before in
     result-written _ _ _ _ 8 _ (at-test .before .before .settle .ensures) (eight _) (at-test .before .is-done .ensures)
-    _ _ _ (at-test .if1 .left) (at-head .write-head .ensures) (at-write .write .ensures) refl
+    _ _ (at-test .if1 .left) (at-head .write-head .ensures) (at-write .write .ensures)
 
 pub write-mask-spec : {M : Type 1} → statement M
 write-mask-spec =

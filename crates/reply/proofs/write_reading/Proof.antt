@@ -32,8 +32,8 @@ write-result-requires c κs =
 reply-word : (s : tie.Start) → Fits w64 (length (s .args .reply .now))
 reply-word s = search needs
 
-add-bytes : tie.Need-add-bytes
-add-bytes c =
+add-result : tie.Need-add-result
+add-result c =
     let at-head = c .before .before .before .before .before .before in
     let at-test = at-head .before .before in
     fits-word _ _ (reply-fits _ _ _ _ _ _ (at-test .before .before .settle .ensures) (at-test .before .is-done .ensures)
@@ -45,12 +45,12 @@ returns-2 c =
     let at-test = at-head .before .before in
     let at-size = at-test .before .before .before in
     result-written _ _ _ _ _ _ (at-test .before .before .settle .ensures) (at-size .result-bytes .ensures _ (at-size .before .before .before .before .pre .1))
-    (at-test .before .is-done .ensures) _ _ _ (at-test .if1 .left) (at-head .write-head .ensures)
-    (lent-tail _ _ _ _ _ refl (c .before .before .write-result .ensures)) refl
+    (at-test .before .is-done .ensures) _ _ (at-test .if1 .left) (at-head .write-head .ensures)
+    (lent-tail _ _ _ _ _ refl (c .before .before .write-result .ensures))
 
 pub write-reading-spec : {M : Type 1} → statement M
 write-reading-spec =
     tie.close
     (tie.spec (λ c κs. search needs) (λ c κs. search needs) (λ c κs. search needs) (λ c κs. search needs) (λ c. search needs)
-    returns (λ c κs. search needs) (λ c. search needs) (λ c. search needs) (λ c. search needs) write-result-requires add-bytes
+    returns (λ c κs. search needs) (λ c. search needs) (λ c. search needs) (λ c. search needs) write-result-requires add-result
     (λ c. search needs) returns-2)
