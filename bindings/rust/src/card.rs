@@ -59,8 +59,8 @@ impl Card {
     /// # Errors
     ///
     /// [`NotSound`] if they are not a sound card. It holds the bytes.
-    pub fn from_bytes(mut bytes: Vec<u8>) -> Result<Self, NotSound> {
-        if is_sound(&mut bytes) {
+    pub fn from_bytes(bytes: Vec<u8>) -> Result<Self, NotSound> {
+        if raw::is_sound(&bytes) == 1 {
             Ok(Self { bytes })
         } else {
             Err(NotSound { bytes })
@@ -143,12 +143,6 @@ impl fmt::Debug for Card {
             .field("length", &self.bytes.len())
             .finish_non_exhaustive()
     }
-}
-
-/// Whether the bytes are a sound card. An empty request does nothing, and a
-/// card answers it if it is sound.
-fn is_sound(bytes: &mut [u8]) -> bool {
-    raw::command(bytes, &[], &mut [0; Reply::HEAD]) != 0
 }
 
 /// Bytes that are not a sound card.

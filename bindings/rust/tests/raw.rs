@@ -10,6 +10,21 @@ fn sound_card() -> Vec<u8> {
 }
 
 #[test]
+fn the_bindings_are_for_version_1() {
+    assert_eq!(raw::version(), 1);
+}
+
+#[test]
+fn a_sound_card_is_told_from_other_bytes() {
+    let sound = sound_card();
+    assert_eq!(raw::is_sound(&sound), 1);
+    assert_eq!(raw::is_sound(&sound[1..]), 0);
+    assert_eq!(raw::is_sound(&[sound, vec![0]].concat()), 0);
+    assert_eq!(raw::is_sound(&[]), 0);
+    assert_eq!(raw::is_sound(&vec![0; raw::card_bytes(2)]), 0);
+}
+
+#[test]
 fn card_bytes_grow_by_one_record_a_member() {
     for members in 1_u8..=16 {
         let length = 28 + 222 * usize::from(members);
