@@ -139,9 +139,7 @@ impl Card {
 impl fmt::Debug for Card {
     /// The length only: the parts hold addresses of guest memory.
     fn fmt(&self, f: &mut fmt::Formatter<'_>) -> fmt::Result {
-        f.debug_struct("Card")
-            .field("length", &self.bytes.len())
-            .finish_non_exhaustive()
+        f.debug_struct("Card").field("length", &self.bytes.len()).finish_non_exhaustive()
     }
 }
 
@@ -161,9 +159,7 @@ impl NotSound {
 
 impl fmt::Debug for NotSound {
     fn fmt(&self, f: &mut fmt::Formatter<'_>) -> fmt::Result {
-        f.debug_struct("NotSound")
-            .field("length", &self.bytes.len())
-            .finish_non_exhaustive()
+        f.debug_struct("NotSound").field("length", &self.bytes.len()).finish_non_exhaustive()
     }
 }
 

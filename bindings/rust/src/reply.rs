@@ -69,10 +69,7 @@ impl<'r> Reply<'r> {
     /// [`Refusal`] if it was not; the card is then unchanged.
     pub fn into_result(self) -> Result<&'r [u8], Refusal> {
         if self.status() != Status::OK {
-            return Err(Refusal {
-                status: self.status(),
-                qualifier: self.qualifier(),
-            });
+            return Err(Refusal { status: self.status(), qualifier: self.qualifier() });
         }
         Ok(self.result())
     }
@@ -90,10 +87,7 @@ pub struct Refusal {
 impl fmt::Display for Refusal {
     fn fmt(&self, f: &mut fmt::Formatter<'_>) -> fmt::Result {
         let Self { status, qualifier } = self;
-        write!(
-            f,
-            "the card refused the command: status {status}, qualifier {qualifier}"
-        )
+        write!(f, "the card refused the command: status {status}, qualifier {qualifier}")
     }
 }
 

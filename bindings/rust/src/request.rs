@@ -72,11 +72,7 @@ impl Frame {
     /// The head of a request to the SR-IOV group.
     #[must_use]
     pub const fn new(opcode: Opcode, member: u64) -> Self {
-        Self {
-            opcode,
-            group_type: GroupType::SRIOV,
-            member,
-        }
+        Self { opcode, group_type: GroupType::SRIOV, member }
     }
 
     /// The bytes of the head; the reserved ones are zero.
@@ -131,9 +127,8 @@ mod tests {
     #[test]
     fn the_head_stands_before_the_data() {
         let frame = Frame::new(Opcode::RESOURCE_OBJ_DESTROY, 0x0102_0304_0506_0708);
-        let expected = [
-            0x0d, 0, 1, 0, 0, 0, 0, 0, 0, 0, 0, 0, 0, 0, 0, 0, 8, 7, 6, 5, 4, 3, 2, 1, 0xaa, 0xbb,
-        ];
+        let expected =
+            [0x0d, 0, 1, 0, 0, 0, 0, 0, 0, 0, 0, 0, 0, 0, 0, 0, 8, 7, 6, 5, 4, 3, 2, 1, 0xaa, 0xbb];
         assert_eq!(frame.request(&[0xaa, 0xbb]).unwrap(), expected);
     }
 
@@ -141,10 +136,7 @@ mod tests {
     fn the_longest_request_is_4096_bytes() {
         let frame = Frame::new(Opcode::DEV_PARTS_SET, 1);
         assert_eq!(frame.request(&vec![0; 4072]).unwrap().len(), 4096);
-        assert_eq!(
-            frame.request(&vec![0; 4073]),
-            Err(RequestTooLong { data: 4073 })
-        );
+        assert_eq!(frame.request(&vec![0; 4073]), Err(RequestTooLong { data: 4073 }));
     }
 
     #[test]

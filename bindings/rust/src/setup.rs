@@ -58,13 +58,7 @@ impl Setup {
         if !Self::OBJECTS.contains(&sets) {
             return Err(SetupError::Sets(sets));
         }
-        Ok(Self {
-            members,
-            queues,
-            gets,
-            sets,
-            features,
-        })
+        Ok(Self { members, queues, gets, sets, features })
     }
 
     /// The number of members; they are counted from 1.

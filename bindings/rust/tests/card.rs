@@ -102,9 +102,7 @@ fn a_reply_buffer_without_room_for_a_head_is_not_written() {
 #[test]
 fn a_member_moves_to_another_card() {
     let mut source = ready_card();
-    source
-        .store(1, PartType::DRV_FEATURES, 0, &[0x5a; 16])
-        .unwrap();
+    source.store(1, PartType::DRV_FEATURES, 0, &[0x5a; 16]).unwrap();
     source.store(1, PartType::VQ_CFG, 0, &[0xa5; 32]).unwrap();
     stop(&mut source, 1).unwrap();
     let parts = capture(&mut source, 1).unwrap();
@@ -174,10 +172,7 @@ fn bytes_that_are_no_card_are_given_back() {
     damaged[0] = 17;
     for bytes in [Vec::new(), cut, zeros, damaged] {
         let error = Card::from_bytes(bytes.clone()).unwrap_err();
-        assert_eq!(
-            error.to_string(),
-            format!("{} bytes that are not a sound card", bytes.len())
-        );
+        assert_eq!(error.to_string(), format!("{} bytes that are not a sound card", bytes.len()));
         assert_eq!(error.into_bytes(), bytes);
     }
 }

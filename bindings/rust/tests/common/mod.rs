@@ -25,13 +25,9 @@ pub fn ready_card() -> Card {
 
 /// Sends a command and gives its result.
 pub fn send(card: &mut Card, opcode: Opcode, member: u64, data: &[u8]) -> Result<Vec<u8>, Refusal> {
-    let request = Frame::new(opcode, member)
-        .request(data)
-        .expect("the data fits in a request");
+    let request = Frame::new(opcode, member).request(data).expect("the data fits in a request");
     let mut buffer = [0; Reply::MAX];
-    let reply = card
-        .command(&request, &mut buffer)
-        .expect("the buffer has room for a head");
+    let reply = card.command(&request, &mut buffer).expect("the buffer has room for a head");
     reply.into_result().map(<[u8]>::to_vec)
 }
 
