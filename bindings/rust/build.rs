@@ -15,13 +15,13 @@ fn main() {
     println!("cargo::rerun-if-env-changed={LIB_DIR}");
     println!("cargo::rerun-if-changed=build.rs");
     println!("cargo::rerun-if-changed={}", archive.display());
-    if archive.is_file() {
-        println!("cargo::rustc-link-search=native={}", directory.display());
-        println!("cargo::rustc-link-lib=static=kajurnat");
-    } else {
+    println!("cargo::rustc-link-search=native={}", directory.display());
+    println!("cargo::rustc-link-lib=static=kajurnat");
+    // A warning only: `cargo check` and `cargo doc` link nothing.
+    if !archive.is_file() {
         println!(
-            "cargo::error={} does not exist. Build it with `rt staticlib kajurnat` at the root \
-             of the repository, or set {LIB_DIR} to the directory that holds {ARCHIVE}.",
+            "cargo::warning={} does not exist. To link, build it with `rt staticlib kajurnat` at \
+             the root of the repository, or set {LIB_DIR} to the directory that holds {ARCHIVE}.",
             archive.display()
         );
     }

@@ -1,100 +1,166 @@
-//! A card that owns its bytes.
+//! A card in memory that it owns or is lent.
 
 use crate::event::EventError;
 use crate::part::PartType;
 use crate::raw;
-use crate::reply::{Reply, ReplyTooShort};
-use crate::setup::Setup;
+use crate::reply::{Refusal, Reply, ReplyTooShort};
+use crate::setup::{Setup, SetupError};
 use alloc::vec;
 use alloc::vec::Vec;
 use core::fmt;
 
-/// A sound card.
+/// A sound card in memory `B`: a `Vec<u8>` of its own, a lent `&mut [u8]`, an
+/// array, or another type that gives its bytes.
 ///
-/// Every card made by [`Card::new`] or taken by [`Card::from_bytes`] is sound,
-/// and every call leaves it so: this is proved of the archive. A refusal
-/// changes nothing.
+/// A card is sound when it is made or taken up, and every call leaves it so:
+/// this is proved of the archive. A refusal changes nothing.
 ///
 /// ```
 /// use kajurnat::{Card, PartType, Setup};
 ///
-/// let mut card = Card::new(&Setup::new(1, 2, 1, 1, [0; 16])?);
-/// card.store(1, PartType::VQ_CFG, 1, &[0; 32])?;
+/// const SETUP: Setup = Setup { members: 1, queues: 2, gets: 1, sets: 1, features: [0; 16] };
 ///
-/// // A card may be kept as bytes and taken up again.
-/// let kept = card.as_bytes().to_vec();
-/// assert_eq!(Card::from_bytes(kept)?, card);
+/// // A card that owns its memory.
+/// let mut card = Card::new(&SETUP)?;
+/// card.store(1, PartType::VQ_CFG, 1, &[7; 32])?;
+///
+/// // A card that is lent an array, for as long as `lent` is used.
+/// let mut memory = [0; SETUP.card_bytes()];
+/// let mut lent = Card::new_in(&SETUP, &mut memory)?;
+/// lent.store(1, PartType::VQ_CFG, 1, &[7; 32])?;
+/// assert_eq!(lent, card);
+///
+/// // The bytes are the whole card. They may be kept, and taken up again.
+/// let mut again = Card::from_bytes(&mut memory)?;
+/// again.reset_member(1)?;
+/// assert_eq!(again, Card::new(&SETUP)?);
 /// # Ok::<(), Box<dyn std::error::Error>>(())
 /// ```
-#[derive(Clone, PartialEq, Eq)]
-pub struct Card {
-    bytes: Vec<u8>,
+///
+/// # Panics
+///
+/// The memory has to give the same bytes each time, as those of the standard
+/// library do. If it gives others, and these are not a sound card, the call
+/// panics.
+#[derive(Clone)]
+pub struct Card<B = Vec<u8>> {
+    memory: B,
 }
 
 impl Card {
-    /// A fresh card: the two list commands are in use; every member runs, has
-    /// no objects, and all its parts are zero but the device features.
-    ///
-    /// # Panics
-    ///
-    /// If the archive refuses a setup that is in range, which it is proved
-    /// not to do.
-    #[must_use]
-    pub fn new(setup: &Setup) -> Self {
-        let mut bytes = vec![0; raw::card_bytes(setup.members().into())];
-        let answer = raw::setup(
-            &mut bytes,
-            setup.members().into(),
-            setup.queues().into(),
-            setup.gets().into(),
-            setup.sets().into(),
-            setup.features(),
-        );
-        assert_eq!(answer, 0, "the archive refused a setup that is in range");
-        Self { bytes }
-    }
-
-    /// The card that these bytes are, as [`Card::as_bytes`] gave them.
+    /// A fresh card in memory of its own: the two list commands are in use;
+    /// every member runs, has no objects, and all its parts are zero but the
+    /// device features.
     ///
     /// # Errors
     ///
-    /// [`NotSound`] if they are not a sound card. It holds the bytes.
-    pub fn from_bytes(mut bytes: Vec<u8>) -> Result<Self, NotSound> {
-        if is_sound(&mut bytes) {
-            Ok(Self { bytes })
-        } else {
-            Err(NotSound { bytes })
+    /// [`SetupError`] names the first number that is out of range.
+    pub fn new(setup: &Setup) -> Result<Self, SetupError> {
+        Self::new_in(setup, vec![0; setup.card_bytes()])
+    }
+}
+
+impl<B: AsRef<[u8]>> Card<B> {
+    /// The card that these bytes are. Bytes that are lent without `mut` are a
+    /// card to look at: they tell its setup.
+    ///
+    /// # Errors
+    ///
+    /// [`NotSound`] if they are not a sound card.
+    pub fn from_bytes(bytes: B) -> Result<Self, NotSound> {
+        match raw::is_sound(bytes.as_ref()) {
+            1 => Ok(Self { memory: bytes }),
+            _ => Err(NotSound),
         }
     }
 
-    /// The bytes of the card, to be kept or moved as they are.
+    /// The setup that the card was made with.
+    #[must_use]
+    pub fn setup(&self) -> Setup {
+        Setup::of_card(self.as_bytes())
+    }
+
+    /// The bytes of the card, to be kept or moved as they are. They are a
+    /// card for the same [`version`](crate::version).
     #[must_use]
     pub fn as_bytes(&self) -> &[u8] {
-        &self.bytes
+        self.memory.as_ref()
     }
 
-    /// The bytes of the card, given up.
+    /// The memory of the card, given up.
     #[must_use]
-    pub fn into_bytes(self) -> Vec<u8> {
-        self.bytes
+    pub fn into_bytes(self) -> B {
+        self.memory
     }
+}
 
-    /// Carries out one command. `request` may be any bytes; a bad one is
-    /// refused in the reply. [`Reply::MAX`] bytes are enough for any reply,
-    /// and the bytes past the reply keep their values.
+impl<B: AsMut<[u8]>> Card<B> {
+    /// A fresh card, as [`Card::new`] makes it, in this memory. What the
+    /// memory held before does not matter.
     ///
     /// # Errors
     ///
-    /// [`ReplyTooShort`] if the reply buffer is under [`Reply::HEAD`] bytes.
-    /// It is then not written, and the card is unchanged.
+    /// [`SetupError`] if a number is out of range or the memory is not
+    /// [`Setup::card_bytes`] long. The memory is then filled with zeros.
+    pub fn new_in(setup: &Setup, mut memory: B) -> Result<Self, SetupError> {
+        let bytes = memory.as_mut();
+        let answer = raw::setup(
+            bytes,
+            setup.members.into(),
+            setup.queues.into(),
+            setup.gets.into(),
+            setup.sets.into(),
+            &setup.features,
+        );
+        match answer {
+            0 => Ok(Self { memory }),
+            _ => Err(SetupError::cause(setup, bytes.len())),
+        }
+    }
+
+    /// Carries out one command and gives its result. The request is a
+    /// [`Request`](crate::Request) or any bytes.
+    ///
+    /// ```
+    /// # use kajurnat::{Card, Opcode, Request, Setup};
+    /// # let setup = Setup { members: 1, queues: 1, gets: 1, sets: 1, features: [0; 16] };
+    /// # let mut card = Card::new(&setup)?;
+    /// let mask = card.send(Request::new(Opcode::LIST_QUERY, 0, &[]))?;
+    /// assert_eq!(mask, Opcode::SUPPORTED.to_le_bytes());
+    /// # Ok::<(), Box<dyn std::error::Error>>(())
+    /// ```
+    ///
+    /// # Errors
+    ///
+    /// [`Refusal`] if the card refuses the command. The card is then
+    /// unchanged.
+    pub fn send(&mut self, request: impl AsRef<[u8]>) -> Result<Vec<u8>, Refusal> {
+        let mut buffer = [0; Reply::MAX];
+        let reply = self.command(request, &mut buffer);
+        let reply = reply.expect("the buffer has room for every reply");
+        reply.result().map(<[u8]>::to_vec)
+    }
+
+    /// Carries out one command, with the reply in a buffer of the caller's:
+    /// what a device does that is handed a request and a place for the reply.
+    /// [`Reply::MAX`] bytes are always enough. The bytes past the reply keep
+    /// their values.
+    ///
+    /// # Errors
+    ///
+    /// [`ReplyTooShort`] if the buffer is under [`Reply::HEAD`] bytes. It is
+    /// then not written, and the card is unchanged.
     pub fn command<'r>(
         &mut self,
-        request: &[u8],
+        request: impl AsRef<[u8]>,
         reply: &'r mut [u8],
     ) -> Result<Reply<'r>, ReplyTooShort> {
         let buffer = reply.len();
-        let written = raw::command(&mut self.bytes, request, reply);
-        Reply::parse(&reply[..written]).ok_or(ReplyTooShort { buffer })
+        if buffer < Reply::HEAD {
+            return Err(ReplyTooShort { buffer });
+        }
+        let written = raw::command(self.memory.as_mut(), request.as_ref(), reply);
+        Ok(Reply::parse(&reply[..written]).expect("a sound card replies to every command"))
     }
 
     /// Makes one member fresh and changes nothing else.
@@ -103,17 +169,13 @@ impl Card {
     ///
     /// [`EventError::NoSuchMember`] if the card has no such member.
     pub fn reset_member(&mut self, member: u64) -> Result<(), EventError> {
-        EventError::from_answer(raw::reset_member(&mut self.bytes, member))
+        EventError::from_answer(raw::reset_member(self.memory.as_mut(), member))
     }
 
     /// Makes the whole card fresh.
-    ///
-    /// # Panics
-    ///
-    /// If the archive refuses a sound card, which it is proved not to do.
     pub fn reset(&mut self) {
-        let answer = raw::reset_card(&mut self.bytes);
-        assert_eq!(answer, 0, "the archive refused to reset a sound card");
+        let answer = raw::reset_card(self.memory.as_mut());
+        EventError::from_answer(answer).expect("a sound card can be reset");
     }
 
     /// Sets one part of one member, running or stopped, as the data path
@@ -131,51 +193,34 @@ impl Card {
         selector: u64,
         value: &[u8],
     ) -> Result<(), EventError> {
-        let answer = raw::store(&mut self.bytes, member, part_type.0, selector, value);
+        let answer = raw::store(self.memory.as_mut(), member, part_type.0, selector, value);
         EventError::from_answer(answer)
     }
 }
 
-impl fmt::Debug for Card {
-    /// The length only: the parts hold addresses of guest memory.
+/// Cards are equal if their bytes are, whatever memory these are in.
+impl<A: AsRef<[u8]>, B: AsRef<[u8]>> PartialEq<Card<B>> for Card<A> {
+    fn eq(&self, other: &Card<B>) -> bool {
+        self.as_bytes() == other.as_bytes()
+    }
+}
+
+impl<B: AsRef<[u8]>> Eq for Card<B> {}
+
+impl<B: AsRef<[u8]>> fmt::Debug for Card<B> {
+    /// The setup only: the parts hold addresses of guest memory.
     fn fmt(&self, f: &mut fmt::Formatter<'_>) -> fmt::Result {
-        f.debug_struct("Card")
-            .field("length", &self.bytes.len())
-            .finish_non_exhaustive()
+        f.debug_struct("Card").field("setup", &self.setup()).finish_non_exhaustive()
     }
 }
 
-/// Whether the bytes are a sound card. An empty request does nothing, and a
-/// card answers it if it is sound.
-fn is_sound(bytes: &mut [u8]) -> bool {
-    raw::command(bytes, &[], &mut [0; Reply::HEAD]) != 0
-}
-
-/// Bytes that are not a sound card.
-#[derive(Clone, PartialEq, Eq)]
-pub struct NotSound {
-    bytes: Vec<u8>,
-}
-
-impl NotSound {
-    /// The bytes as they were given.
-    #[must_use]
-    pub fn into_bytes(self) -> Vec<u8> {
-        self.bytes
-    }
-}
-
-impl fmt::Debug for NotSound {
-    fn fmt(&self, f: &mut fmt::Formatter<'_>) -> fmt::Result {
-        f.debug_struct("NotSound")
-            .field("length", &self.bytes.len())
-            .finish_non_exhaustive()
-    }
-}
+/// Bytes are not a sound card.
+#[derive(Clone, Copy, Debug, PartialEq, Eq)]
+pub struct NotSound;
 
 impl fmt::Display for NotSound {
     fn fmt(&self, f: &mut fmt::Formatter<'_>) -> fmt::Result {
-        write!(f, "{} bytes that are not a sound card", self.bytes.len())
+        f.write_str("the bytes are not a sound card")
     }
 }
 

@@ -8,27 +8,25 @@
 //! part of the proof.
 //!
 //! ```
-//! use kajurnat::{Card, Frame, Opcode, PartType, Reply, Setup};
+//! use kajurnat::{Card, Opcode, PartType, Qualifier, Request, Setup};
 //!
 //! // Two members with one queue each, and room for one get and one set object.
-//! let setup = Setup::new(2, 1, 1, 1, [0; 16])?;
-//! let mut card = Card::new(&setup);
-//! let mut buffer = [0; Reply::MAX];
+//! let setup = Setup { members: 2, queues: 1, gets: 1, sets: 1, features: [0; 16] };
+//! let mut card = Card::new(&setup)?;
 //!
 //! // Put every command in use.
-//! let list_use = Frame::new(Opcode::LIST_USE, 0).request(&Opcode::SUPPORTED.to_le_bytes())?;
-//! card.command(&list_use, &mut buffer)?.into_result()?;
+//! let mask = card.send(Request::new(Opcode::LIST_QUERY, 0, &[]))?;
+//! card.send(Request::new(Opcode::LIST_USE, 0, &mask))?;
 //!
 //! // The data path of member 1 sets the device status.
 //! card.store(1, PartType::DEVICE_STATUS, 0, &[0x0f])?;
 //!
 //! // Stop member 1.
-//! let stop = Frame::new(Opcode::DEV_MODE_SET, 1).request(&[1])?;
-//! card.command(&stop, &mut buffer)?.into_result()?;
+//! card.send(Request::new(Opcode::DEV_MODE_SET, 1, &[1]))?;
 //!
 //! // There is no member 3; the refusal says so.
-//! let stop = Frame::new(Opcode::DEV_MODE_SET, 3).request(&[1])?;
-//! let refusal = card.command(&stop, &mut buffer)?.into_result().unwrap_err();
+//! let refusal = card.send(Request::new(Opcode::DEV_MODE_SET, 3, &[1])).unwrap_err();
+//! assert_eq!(refusal.qualifier, Qualifier::INVALID_MEMBER);
 //! assert_eq!(
 //!     refusal.to_string(),
 //!     "the card refused the command: status 22 (EINVAL), qualifier 5 (INVALID_MEMBER)"
@@ -44,13 +42,7 @@
 //! The build links `libkajurnat.a` from the directory that the environment
 //! variable `KAJURNAT_LIB_DIR` names, or from `target/staticlib` of the
 //! repository, where `rt staticlib kajurnat` writes it. The archive is for
-//! x86-64.
-//!
-//! # Cards in memory of one's own
-//!
-//! A [`Card`] owns its bytes. The functions of [`raw`] take a card that is
-//! lent; [`Reply::parse`] and [`EventError::from_answer`] read what they
-//! answer.
+//! x86-64. `cargo check` and `cargo doc` do without it.
 
 #![no_std]
 #![deny(missing_docs)]
@@ -71,7 +63,8 @@ mod status;
 pub use card::{Card, NotSound};
 pub use event::EventError;
 pub use part::PartType;
+pub use raw::version;
 pub use reply::{Refusal, Reply, ReplyTooShort};
-pub use request::{Frame, GroupType, Opcode, RequestTooLong};
+pub use request::{Opcode, Request};
 pub use setup::{Setup, SetupError};
 pub use status::{Qualifier, Status};

@@ -15,6 +15,10 @@
 /// length.
 mod abi {
     extern "C" {
+        pub fn kajurnat_version() -> u32;
+
+        pub fn kajurnat_is_sound(card: *const u8, card_len: usize) -> u8;
+
         pub fn kajurnat_card_bytes(members: u64) -> usize;
 
         pub fn kajurnat_setup(
@@ -51,6 +55,22 @@ mod abi {
             value_len: usize,
         ) -> u8;
     }
+}
+
+/// The version of a card's bytes. It is raised whenever they change their
+/// meaning: bytes that were kept are a card for the same version only.
+#[must_use]
+pub fn version() -> u32 {
+    // SAFETY: the call is lent no memory.
+    unsafe { abi::kajurnat_version() }
+}
+
+/// Whether the bytes are a sound card: 1, or 0.
+#[must_use]
+pub fn is_sound(card: &[u8]) -> u8 {
+    // SAFETY: pointer and length are those of one slice, which is borrowed
+    // for the call.
+    unsafe { abi::kajurnat_is_sound(card.as_ptr(), card.len()) }
 }
 
 /// The exact length of a card with this many members; 0 if `members` is not

@@ -3,39 +3,40 @@
 use crate::status::{Qualifier, Status};
 use core::fmt;
 
-/// The bytes that a command wrote: a status, a qualifier and a result.
-#[derive(Clone, Copy, Debug, PartialEq, Eq)]
+/// The bytes that a command wrote: a head with status and qualifier, and a
+/// result if the command was carried out.
+#[derive(Clone, Copy, PartialEq, Eq)]
 pub struct Reply<'r> {
     bytes: &'r [u8],
 }
 
 impl<'r> Reply<'r> {
-    /// The length of the head, before the result. A refusal has no more.
+    /// The length of the head. A refusal has no more.
     pub const HEAD: usize = 8;
 
     /// The longest reply of any card: a capture of all parts with four
     /// queues.
     pub const MAX: usize = 453;
 
-    /// Reads the bytes that [`raw::command`](crate::raw::command) wrote; none
-    /// if they are under [`Reply::HEAD`].
+    /// Reads the bytes of one whole reply. None if they are under
+    /// [`Reply::HEAD`], or a refusal with bytes past its head.
     ///
     /// ```
-    /// use kajurnat::{raw, Reply, Status};
+    /// use kajurnat::{Reply, Status};
     ///
-    /// let mut card = [0; 250];
-    /// assert_eq!(raw::setup(&mut card, 1, 1, 0, 0, &[0; 16]), 0);
-    /// let mut buffer = [0; Reply::MAX];
-    /// let written = raw::command(&mut card, b"no request", &mut buffer);
-    /// let reply = Reply::parse(&buffer[..written]).expect("the card is sound");
+    /// let refusal = [22, 0, 5, 0, 0, 0, 0, 0];
+    /// let reply = Reply::parse(&refusal).expect("a refusal is a head");
     /// assert_eq!(reply.status(), Status::EINVAL);
+    /// assert!(reply.result().is_err());
     /// ```
     #[must_use]
-    pub const fn parse(bytes: &'r [u8]) -> Option<Self> {
+    pub fn parse(bytes: &'r [u8]) -> Option<Self> {
         if bytes.len() < Self::HEAD {
             return None;
         }
-        Some(Self { bytes })
+        let reply = Self { bytes };
+        let whole = reply.status() == Status::OK || bytes.len() == Self::HEAD;
+        whole.then_some(reply)
     }
 
     /// What became of the command.
@@ -50,10 +51,16 @@ impl<'r> Reply<'r> {
         Qualifier(u16::from_le_bytes([self.bytes[2], self.bytes[3]]))
     }
 
-    /// The bytes after the head; none in a refusal.
-    #[must_use]
-    pub fn result(&self) -> &'r [u8] {
-        &self.bytes[Self::HEAD..]
+    /// The bytes after the head, if the command was carried out.
+    ///
+    /// # Errors
+    ///
+    /// [`Refusal`] if it was not.
+    pub fn result(&self) -> Result<&'r [u8], Refusal> {
+        match self.status() {
+            Status::OK => Ok(&self.bytes[Self::HEAD..]),
+            status => Err(Refusal { status, qualifier: self.qualifier() }),
+        }
     }
 
     /// The whole reply, head included.
@@ -61,20 +68,16 @@ impl<'r> Reply<'r> {
     pub const fn as_bytes(&self) -> &'r [u8] {
         self.bytes
     }
+}
 
-    /// The result if the command was carried out.
-    ///
-    /// # Errors
-    ///
-    /// [`Refusal`] if it was not; the card is then unchanged.
-    pub fn into_result(self) -> Result<&'r [u8], Refusal> {
-        if self.status() != Status::OK {
-            return Err(Refusal {
-                status: self.status(),
-                qualifier: self.qualifier(),
-            });
-        }
-        Ok(self.result())
+impl fmt::Debug for Reply<'_> {
+    /// The head and the length: a result may hold addresses of guest memory.
+    fn fmt(&self, f: &mut fmt::Formatter<'_>) -> fmt::Result {
+        f.debug_struct("Reply")
+            .field("status", &self.status())
+            .field("qualifier", &self.qualifier())
+            .field("length", &self.bytes.len())
+            .finish_non_exhaustive()
     }
 }
 
@@ -90,10 +93,7 @@ pub struct Refusal {
 impl fmt::Display for Refusal {
     fn fmt(&self, f: &mut fmt::Formatter<'_>) -> fmt::Result {
         let Self { status, qualifier } = self;
-        write!(
-            f,
-            "the card refused the command: status {status}, qualifier {qualifier}"
-        )
+        write!(f, "the card refused the command: status {status}, qualifier {qualifier}")
     }
 }
 
@@ -122,6 +122,7 @@ impl core::error::Error for ReplyTooShort {}
 #[cfg(test)]
 mod tests {
     use super::*;
+    use alloc::format;
     use alloc::string::ToString;
 
     #[test]
@@ -133,21 +134,38 @@ mod tests {
 
     #[test]
     fn a_success_gives_its_result() {
-        let reply = Reply::parse(&[0, 0, 0, 0, 0, 0, 0, 0, 5, 6]).unwrap();
+        let bytes = [0, 0, 0, 0, 0, 0, 0, 0, 5, 6];
+        let reply = Reply::parse(&bytes).unwrap();
         assert_eq!(reply.status(), Status::OK);
         assert_eq!(reply.qualifier(), Qualifier::OK);
-        assert_eq!(reply.into_result(), Ok(&[5, 6][..]));
+        assert_eq!(reply.result(), Ok(&[5, 6][..]));
+        assert_eq!(reply.as_bytes(), bytes);
     }
 
     #[test]
     fn a_refusal_says_why() {
         let reply = Reply::parse(&[22, 0, 2, 0, 0, 0, 0, 0]).unwrap();
-        let refusal = reply.into_result().unwrap_err();
+        let refusal = reply.result().unwrap_err();
         assert_eq!(refusal.status, Status::EINVAL);
         assert_eq!(refusal.qualifier, Qualifier::INVALID_OPCODE);
         assert_eq!(
             refusal.to_string(),
             "the card refused the command: status 22 (EINVAL), qualifier 2 (INVALID_OPCODE)"
+        );
+    }
+
+    #[test]
+    fn a_refusal_with_bytes_past_its_head_is_no_reply() {
+        assert_eq!(Reply::parse(&[22, 0, 2, 0, 0, 0, 0, 0, 5]), None);
+        assert_eq!(Reply::parse(&[0, 1, 0, 0, 0, 0, 0, 0, 5, 6]), None);
+    }
+
+    #[test]
+    fn a_result_is_not_shown() {
+        let reply = Reply::parse(&[0, 0, 0, 0, 0, 0, 0, 0, 0xde, 0xad]).unwrap();
+        assert_eq!(
+            format!("{reply:?}"),
+            "Reply { status: Status(0 (OK)), qualifier: Qualifier(0 (OK)), length: 10, .. }"
         );
     }
 }

@@ -1,4 +1,4 @@
-//! The frame of a request: opcode, group type and member before the data.
+//! Building a request.
 
 use crate::number::wire_number;
 use alloc::vec::Vec;
@@ -35,115 +35,90 @@ impl Opcode {
     pub const SUPPORTED: u64 = 0x3fc03;
 }
 
-wire_number! {
-    /// The kind of group that a request is for.
-    GroupType, "{}",
-    /// SR-IOV, the only group type of a card.
-    SRIOV = 1,
-}
+/// The group type of a request: SR-IOV, the only one of a card.
+const GROUP_SRIOV: u16 = 1;
 
-/// The head of a request, before the data of its command.
+/// The bytes of a request to a card: a head with the opcode and the member,
+/// and the data of the command.
+///
+/// A card takes any bytes for a request. These have a head that is well
+/// formed; whether the rest is, the card says in its reply.
 ///
 /// ```
-/// use kajurnat::{Frame, Opcode};
+/// use kajurnat::{Opcode, Request};
 ///
-/// let stop = Frame::new(Opcode::DEV_MODE_SET, 2).request(&[1])?;
-/// assert_eq!(stop.len(), Frame::BYTES + 1);
-/// # Ok::<(), kajurnat::RequestTooLong>(())
+/// let stop = Request::new(Opcode::DEV_MODE_SET, 2, &[1]);
+/// assert_eq!(stop.as_bytes().len(), Request::HEAD + 1);
 /// ```
-#[derive(Clone, Copy, Debug, PartialEq, Eq)]
-pub struct Frame {
-    /// The command asked for.
-    pub opcode: Opcode,
-    /// The group asked; a card has [`GroupType::SRIOV`] only.
-    pub group_type: GroupType,
-    /// The member concerned, counted from 1. The two list commands do not
-    /// read it.
-    pub member: u64,
+#[derive(Clone, PartialEq, Eq)]
+pub struct Request {
+    bytes: Vec<u8>,
 }
 
-impl Frame {
+impl Request {
     /// The length of the head.
-    pub const BYTES: usize = 24;
+    pub const HEAD: usize = 24;
 
-    /// The longest request that a card takes, head included.
-    pub const REQUEST_MAX: usize = 4096;
+    /// The longest request that a card does not refuse for its length.
+    pub const MAX: usize = 4096;
 
-    /// The head of a request to the SR-IOV group.
+    /// A request to the SR-IOV group. The reserved bytes of the head are
+    /// zero. Members are numbered from 1; the two list commands do not read
+    /// the member.
     #[must_use]
-    pub const fn new(opcode: Opcode, member: u64) -> Self {
-        Self {
-            opcode,
-            group_type: GroupType::SRIOV,
-            member,
-        }
+    pub fn new(opcode: Opcode, member: u64, data: &[u8]) -> Self {
+        let mut head = [0; Self::HEAD];
+        head[0..2].copy_from_slice(&opcode.0.to_le_bytes());
+        head[2..4].copy_from_slice(&GROUP_SRIOV.to_le_bytes());
+        head[16..24].copy_from_slice(&member.to_le_bytes());
+        Self { bytes: [&head[..], data].concat() }
     }
 
-    /// The bytes of the head; the reserved ones are zero.
+    /// The whole request, head included.
     #[must_use]
-    pub fn to_bytes(self) -> [u8; Self::BYTES] {
-        let mut head = [0; Self::BYTES];
-        head[0..2].copy_from_slice(&self.opcode.0.to_le_bytes());
-        head[2..4].copy_from_slice(&self.group_type.0.to_le_bytes());
-        head[16..24].copy_from_slice(&self.member.to_le_bytes());
-        head
-    }
-
-    /// The whole request: the head, then the data as given.
-    ///
-    /// # Errors
-    ///
-    /// [`RequestTooLong`] if it would be over [`Frame::REQUEST_MAX`] bytes.
-    pub fn request(self, data: &[u8]) -> Result<Vec<u8>, RequestTooLong> {
-        if data.len() > Self::REQUEST_MAX - Self::BYTES {
-            return Err(RequestTooLong { data: data.len() });
-        }
-        Ok([&self.to_bytes()[..], data].concat())
+    pub fn as_bytes(&self) -> &[u8] {
+        &self.bytes
     }
 }
 
-/// The data of a request does not fit behind its head.
-#[derive(Clone, Copy, Debug, PartialEq, Eq)]
-pub struct RequestTooLong {
-    /// The length of the data.
-    pub data: usize,
+impl AsRef<[u8]> for Request {
+    fn as_ref(&self) -> &[u8] {
+        &self.bytes
+    }
 }
 
-impl fmt::Display for RequestTooLong {
+impl fmt::Debug for Request {
+    /// The opcode and the length: the data may hold addresses of guest
+    /// memory.
     fn fmt(&self, f: &mut fmt::Formatter<'_>) -> fmt::Result {
-        write!(
-            f,
-            "{} bytes of data are too long for a request: it holds {} at most",
-            self.data,
-            Frame::REQUEST_MAX - Frame::BYTES
-        )
+        let opcode = Opcode(u16::from_le_bytes([self.bytes[0], self.bytes[1]]));
+        f.debug_struct("Request")
+            .field("opcode", &opcode)
+            .field("length", &self.bytes.len())
+            .finish_non_exhaustive()
     }
 }
-
-impl core::error::Error for RequestTooLong {}
 
 #[cfg(test)]
 mod tests {
     use super::*;
     use alloc::format;
-    use alloc::vec;
 
     #[test]
     fn the_head_stands_before_the_data() {
-        let frame = Frame::new(Opcode::RESOURCE_OBJ_DESTROY, 0x0102_0304_0506_0708);
-        let expected = [
-            0x0d, 0, 1, 0, 0, 0, 0, 0, 0, 0, 0, 0, 0, 0, 0, 0, 8, 7, 6, 5, 4, 3, 2, 1, 0xaa, 0xbb,
-        ];
-        assert_eq!(frame.request(&[0xaa, 0xbb]).unwrap(), expected);
+        let member = 0x0102_0304_0506_0708;
+        let request = Request::new(Opcode::RESOURCE_OBJ_DESTROY, member, &[0xaa, 0xbb]);
+        let expected =
+            [0x0d, 0, 1, 0, 0, 0, 0, 0, 0, 0, 0, 0, 0, 0, 0, 0, 8, 7, 6, 5, 4, 3, 2, 1, 0xaa, 0xbb];
+        assert_eq!(request.as_bytes(), expected);
     }
 
     #[test]
-    fn the_longest_request_is_4096_bytes() {
-        let frame = Frame::new(Opcode::DEV_PARTS_SET, 1);
-        assert_eq!(frame.request(&vec![0; 4072]).unwrap().len(), 4096);
+    fn the_data_is_not_shown() {
+        let request = Request::new(Opcode::DEV_PARTS_SET, 1, &[0xde, 0xad]);
         assert_eq!(
-            frame.request(&vec![0; 4073]),
-            Err(RequestTooLong { data: 4073 })
+            format!("{request:?}"),
+            "Request { opcode: Opcode(0x10 (DEV_PARTS_SET)), length: 26, .. }"
         );
     }
 

@@ -1,28 +1,34 @@
-//! The setup of a card, checked before a card is made of it.
+//! The setup of a card.
 
 use core::fmt;
 use core::ops::RangeInclusive;
 
 /// The numbers and the device features that a card is made with.
 ///
-/// A value of this type is in range, so [`Card::new`](crate::Card::new) takes
-/// it without fail.
+/// Any numbers may be written down; a card is made of those in range.
 ///
 /// ```
-/// use kajurnat::{Setup, SetupError};
+/// use kajurnat::{Card, Setup, SetupError};
 ///
-/// let setup = Setup::new(16, 4, 8, 8, [0; 16])?;
-/// assert_eq!(setup.queues(), 4);
-/// assert_eq!(Setup::new(17, 4, 8, 8, [0; 16]), Err(SetupError::Members(17)));
+/// let setup = Setup { members: 16, queues: 4, gets: 8, sets: 8, features: [0; 16] };
+/// assert_eq!(Card::new(&setup)?.setup(), setup);
+///
+/// let refused = Card::new(&Setup { members: 17, ..setup });
+/// assert_eq!(refused, Err(SetupError::Members(17)));
 /// # Ok::<(), SetupError>(())
 /// ```
 #[derive(Clone, Copy, Debug, PartialEq, Eq)]
 pub struct Setup {
-    members: u8,
-    queues: u8,
-    gets: u8,
-    sets: u8,
-    features: [u8; 16],
+    /// The number of members, 1 to 16. They are numbered from 1.
+    pub members: u8,
+    /// The number of queues of each member, 1 to 4. They are numbered from 0.
+    pub queues: u8,
+    /// How many get objects each member has room for, 0 to 8.
+    pub gets: u8,
+    /// How many set objects each member has room for, 0 to 8.
+    pub sets: u8,
+    /// The device features of every member.
+    pub features: [u8; 16],
 }
 
 impl Setup {
@@ -33,72 +39,23 @@ impl Setup {
     /// How many get objects, and how many set objects, each member may have.
     pub const OBJECTS: RangeInclusive<u8> = 0..=8;
 
-    /// A setup of `members` members, each with `queues` queues and room for
-    /// `gets` get objects and `sets` set objects.
-    ///
-    /// # Errors
-    ///
-    /// [`SetupError`] names the first number that is out of range.
-    pub fn new(
-        members: u8,
-        queues: u8,
-        gets: u8,
-        sets: u8,
-        features: [u8; 16],
-    ) -> Result<Self, SetupError> {
-        if !Self::MEMBERS.contains(&members) {
-            return Err(SetupError::Members(members));
-        }
-        if !Self::QUEUES.contains(&queues) {
-            return Err(SetupError::Queues(queues));
-        }
-        if !Self::OBJECTS.contains(&gets) {
-            return Err(SetupError::Gets(gets));
-        }
-        if !Self::OBJECTS.contains(&sets) {
-            return Err(SetupError::Sets(sets));
-        }
-        Ok(Self {
-            members,
-            queues,
-            gets,
-            sets,
-            features,
-        })
+    /// The exact length of a card of this setup, also as a constant for the
+    /// sizes of arrays.
+    #[must_use]
+    pub const fn card_bytes(&self) -> usize {
+        28 + 222 * self.members as usize
     }
 
-    /// The number of members; they are counted from 1.
-    #[must_use]
-    pub const fn members(&self) -> u8 {
-        self.members
-    }
-
-    /// The number of queues of each member; they are counted from 0.
-    #[must_use]
-    pub const fn queues(&self) -> u8 {
-        self.queues
-    }
-
-    /// How many get objects each member has room for.
-    #[must_use]
-    pub const fn gets(&self) -> u8 {
-        self.gets
-    }
-
-    /// How many set objects each member has room for.
-    #[must_use]
-    pub const fn sets(&self) -> u8 {
-        self.sets
-    }
-
-    /// The device features of every member.
-    #[must_use]
-    pub const fn features(&self) -> &[u8; 16] {
-        &self.features
+    /// The setup that the head of a sound card holds: the four numbers, one
+    /// byte each, and the features.
+    pub(crate) fn of_card(card: &[u8]) -> Self {
+        let mut features = [0; 16];
+        features.copy_from_slice(&card[4..20]);
+        Self { members: card[0], queues: card[1], gets: card[2], sets: card[3], features }
     }
 }
 
-/// A number of a setup is out of range.
+/// Why no card is made: the first cause in the order written here.
 #[derive(Clone, Copy, Debug, PartialEq, Eq)]
 pub enum SetupError {
     /// The number of members is not in [`Setup::MEMBERS`].
@@ -109,6 +66,30 @@ pub enum SetupError {
     Gets(u8),
     /// The number of set objects is not in [`Setup::OBJECTS`].
     Sets(u8),
+    /// The memory for the card is not [`Setup::card_bytes`] long.
+    Length {
+        /// The length of the memory.
+        memory: usize,
+        /// The length of the card.
+        card: usize,
+    },
+}
+
+impl SetupError {
+    /// Why the archive refuses this setup in memory of this length.
+    pub(crate) fn cause(setup: &Setup, memory: usize) -> Self {
+        if !Setup::MEMBERS.contains(&setup.members) {
+            Self::Members(setup.members)
+        } else if !Setup::QUEUES.contains(&setup.queues) {
+            Self::Queues(setup.queues)
+        } else if !Setup::OBJECTS.contains(&setup.gets) {
+            Self::Gets(setup.gets)
+        } else if !Setup::OBJECTS.contains(&setup.sets) {
+            Self::Sets(setup.sets)
+        } else {
+            Self::Length { memory, card: setup.card_bytes() }
+        }
+    }
 }
 
 impl fmt::Display for SetupError {
@@ -118,6 +99,9 @@ impl fmt::Display for SetupError {
             Self::Queues(number) => (number, "queues", Setup::QUEUES),
             Self::Gets(number) => (number, "get objects", Setup::OBJECTS),
             Self::Sets(number) => (number, "set objects", Setup::OBJECTS),
+            Self::Length { memory, card } => {
+                return write!(f, "{memory} bytes of memory: a card of this setup has {card}");
+            }
         };
         let (least, most) = range.into_inner();
         write!(f, "{number} {what}: a setup has {least} to {most}")
@@ -129,31 +113,12 @@ impl core::error::Error for SetupError {}
 #[cfg(test)]
 mod tests {
     use super::*;
-    use alloc::format;
-
-    fn with(members: u8, queues: u8, gets: u8, sets: u8) -> Result<Setup, SetupError> {
-        Setup::new(members, queues, gets, sets, [0; 16])
-    }
-
-    #[test]
-    fn the_ends_of_each_range_are_taken() {
-        assert!(with(1, 1, 0, 0).is_ok());
-        assert!(with(16, 4, 8, 8).is_ok());
-    }
-
-    #[test]
-    fn each_number_out_of_range_is_named() {
-        assert_eq!(with(0, 1, 0, 0), Err(SetupError::Members(0)));
-        assert_eq!(with(17, 5, 9, 9), Err(SetupError::Members(17)));
-        assert_eq!(with(1, 0, 0, 0), Err(SetupError::Queues(0)));
-        assert_eq!(with(1, 5, 9, 9), Err(SetupError::Queues(5)));
-        assert_eq!(with(1, 1, 9, 9), Err(SetupError::Gets(9)));
-        assert_eq!(with(1, 1, 8, 9), Err(SetupError::Sets(9)));
-    }
+    use alloc::string::ToString;
 
     #[test]
     fn an_error_says_what_would_do() {
-        let error = with(17, 1, 1, 1).unwrap_err();
-        assert_eq!(format!("{error}"), "17 members: a setup has 1 to 16");
+        assert_eq!(SetupError::Members(17).to_string(), "17 members: a setup has 1 to 16");
+        let error = SetupError::Length { memory: 100, card: 250 };
+        assert_eq!(error.to_string(), "100 bytes of memory: a card of this setup has 250");
     }
 }

@@ -50,10 +50,7 @@ mod tests {
     #[test]
     fn a_known_number_shows_its_name() {
         assert_eq!(format!("{}", Status::EINVAL), "22 (EINVAL)");
-        assert_eq!(
-            format!("{:?}", Qualifier(2)),
-            "Qualifier(2 (INVALID_OPCODE))"
-        );
+        assert_eq!(format!("{:?}", Qualifier(2)), "Qualifier(2 (INVALID_OPCODE))");
     }
 
     #[test]

@@ -2,10 +2,12 @@
 
 mod common;
 
-use common::{capture, create, fresh_card, ready_card, restore, send, stop, use_all, GET};
+use common::{
+    capture, capture_request, create, fresh_card, ready_card, restore, stop, use_all, GET, SETUP,
+};
 use kajurnat::{
-    Card, EventError, Frame, Opcode, PartType, Qualifier, Refusal, Reply, ReplyTooShort, Setup,
-    Status,
+    Card, EventError, NotSound, Opcode, PartType, Qualifier, Refusal, Reply, ReplyTooShort,
+    Request, Setup, SetupError, Status,
 };
 
 /// A refusal by its two numbers.
@@ -14,14 +16,16 @@ fn refused<T>(status: Status, qualifier: Qualifier) -> Result<T, Refusal> {
 }
 
 #[test]
-fn every_setup_in_range_makes_a_sound_card() {
+fn a_card_of_any_setup_is_sound_and_tells_it() {
+    let features = *b"sixteen features";
     for members in Setup::MEMBERS {
         for queues in Setup::QUEUES {
             for gets in Setup::OBJECTS {
                 for sets in Setup::OBJECTS {
-                    let setup = Setup::new(members, queues, gets, sets, [7; 16]).unwrap();
-                    let bytes = Card::new(&setup).into_bytes();
-                    assert!(Card::from_bytes(bytes).is_ok());
+                    let setup = Setup { members, queues, gets, sets, features };
+                    let card = Card::new(&setup).unwrap();
+                    assert_eq!(card.setup(), setup);
+                    assert!(Card::from_bytes(card.as_bytes()).is_ok());
                 }
             }
         }
@@ -29,9 +33,33 @@ fn every_setup_in_range_makes_a_sound_card() {
 }
 
 #[test]
+fn a_card_in_use_tells_its_setup() {
+    let mut card = ready_card();
+    card.store(1, PartType::DRV_FEATURES, 0, &[0x5a; 16]).unwrap();
+    stop(&mut card, 2).unwrap();
+    assert_eq!(card.setup(), SETUP);
+    assert_eq!(Card::from_bytes(card.into_bytes()).unwrap().setup(), SETUP);
+}
+
+#[test]
+fn the_first_number_out_of_range_is_named() {
+    let error = |members, queues, gets, sets| {
+        let setup = Setup { members, queues, gets, sets, features: [0; 16] };
+        Card::new(&setup).unwrap_err()
+    };
+    assert_eq!(error(0, 1, 0, 0), SetupError::Members(0));
+    assert_eq!(error(17, 5, 9, 9), SetupError::Members(17));
+    assert_eq!(error(255, 1, 0, 0), SetupError::Members(255));
+    assert_eq!(error(1, 0, 0, 0), SetupError::Queues(0));
+    assert_eq!(error(1, 5, 9, 9), SetupError::Queues(5));
+    assert_eq!(error(1, 1, 9, 9), SetupError::Gets(9));
+    assert_eq!(error(1, 1, 8, 9), SetupError::Sets(9));
+}
+
+#[test]
 fn a_fresh_card_lists_its_commands() {
-    let mask = send(&mut fresh_card(), Opcode::LIST_QUERY, 0, &[]).unwrap();
-    assert_eq!(mask, Opcode::SUPPORTED.to_le_bytes());
+    let mask = fresh_card().send(Request::new(Opcode::LIST_QUERY, 0, &[]));
+    assert_eq!(mask.unwrap(), Opcode::SUPPORTED.to_le_bytes());
 }
 
 #[test]
@@ -39,8 +67,8 @@ fn a_command_has_to_be_in_use() {
     let mut card = fresh_card();
     let unused = refused(Status::EINVAL, Qualifier::INVALID_OPCODE);
     assert_eq!(create(&mut card, 1, 0, GET), unused);
-    use_all(&mut card);
-    assert!(create(&mut card, 1, 0, GET).is_ok());
+    use_all(&mut card).unwrap();
+    assert_eq!(create(&mut card, 1, 0, GET), Ok(Vec::new()));
 }
 
 #[test]
@@ -60,26 +88,51 @@ fn each_refusal_is_read_by_its_numbers() {
 }
 
 #[test]
+fn any_bytes_are_a_request() {
+    let mut card = fresh_card();
+    let bad_length = refused(Status::EINVAL, Qualifier::INVALID_COMMAND);
+    assert_eq!(card.send(b"no request"), bad_length);
+    assert_eq!(card.send(Vec::new()), bad_length);
+    assert_eq!(card.send(vec![0; Request::MAX + 1]), bad_length);
+    let bad_group = refused(Status::EINVAL, Qualifier::INVALID_GROUP);
+    assert_eq!(card.send([0; Request::HEAD]), bad_group);
+    assert_eq!(card.send(vec![0; Request::MAX]), bad_group);
+}
+
+#[test]
+fn a_request_sent_gives_the_result_in_the_reply() {
+    let mut card = ready_card();
+    let mut other = card.clone();
+    let mut buffer = [0; Reply::MAX];
+    for request in
+        [Request::new(Opcode::DEV_MODE_SET, 1, &[1]), capture_request(1), capture_request(3)]
+    {
+        let result = card.send(&request);
+        let reply = other.command(&request, &mut buffer).unwrap();
+        assert_eq!(reply.result().map(<[u8]>::to_vec), result);
+        assert_eq!(other, card);
+    }
+}
+
+#[test]
 fn a_reply_buffer_may_be_as_long_as_the_reply() {
     let mut card = ready_card();
-    let mut data = [0; 16];
-    data[8] = 1;
-    let request = Frame::new(Opcode::DEV_PARTS_GET, 1).request(&data).unwrap();
     let mut buffer = [0xee; 237];
 
-    let reply = card.command(&request, &mut buffer[..236]).unwrap();
+    let reply = card.command(capture_request(1), &mut buffer[..236]);
     let short = refused(Status::ENOMEM, Qualifier::NORESOURCE);
-    assert_eq!(reply.into_result(), short);
+    assert_eq!(reply.unwrap().result(), short);
     assert!(buffer[Reply::HEAD..].iter().all(|&byte| byte == 0xee));
 
-    let reply = card.command(&request, &mut buffer).unwrap();
-    assert_eq!(reply.into_result().unwrap().len(), 229);
+    let reply = card.command(capture_request(1), &mut buffer);
+    assert_eq!(reply.unwrap().result().unwrap().len(), 229);
 }
 
 #[test]
 fn the_longest_reply_is_a_capture_of_four_queues() {
-    let mut card = Card::new(&Setup::new(1, 4, 1, 0, [0; 16]).unwrap());
-    use_all(&mut card);
+    let setup = Setup { queues: 4, ..SETUP };
+    let mut card = Card::new(&setup).unwrap();
+    use_all(&mut card).unwrap();
     create(&mut card, 1, 0, GET).unwrap();
     let parts = capture(&mut card, 1).unwrap();
     assert_eq!(Reply::HEAD + parts.len(), Reply::MAX);
@@ -89,7 +142,7 @@ fn the_longest_reply_is_a_capture_of_four_queues() {
 fn a_reply_buffer_without_room_for_a_head_is_not_written() {
     let mut card = fresh_card();
     let before = card.clone();
-    let request = Frame::new(Opcode::LIST_USE, 0).request(&[0; 8]).unwrap();
+    let request = Request::new(Opcode::LIST_USE, 0, &[0; 8]);
     for length in 0..Reply::HEAD {
         let mut buffer = vec![0xee; length];
         let answer = card.command(&request, &mut buffer);
@@ -100,11 +153,24 @@ fn a_reply_buffer_without_room_for_a_head_is_not_written() {
 }
 
 #[test]
+fn no_address_of_a_guest_is_shown() {
+    let mut card = ready_card();
+    let mut buffer = [0; Reply::MAX];
+    let shown = |card: &mut Card, buffer: &mut [u8]| {
+        let capture = capture(card, 1).unwrap();
+        let restore = Request::new(Opcode::DEV_PARTS_SET, 1, &capture);
+        let reply = card.command(capture_request(1), buffer).unwrap();
+        format!("{reply:?} {restore:?} {card:?}")
+    };
+    let fresh = shown(&mut card, &mut buffer);
+    card.store(1, PartType::VQ_CFG, 0, &[0xa5; 32]).unwrap();
+    assert_eq!(shown(&mut card, &mut buffer), fresh);
+}
+
+#[test]
 fn a_member_moves_to_another_card() {
     let mut source = ready_card();
-    source
-        .store(1, PartType::DRV_FEATURES, 0, &[0x5a; 16])
-        .unwrap();
+    source.store(1, PartType::DRV_FEATURES, 0, &[0x5a; 16]).unwrap();
     source.store(1, PartType::VQ_CFG, 0, &[0xa5; 32]).unwrap();
     stop(&mut source, 1).unwrap();
     let parts = capture(&mut source, 1).unwrap();
@@ -166,18 +232,13 @@ fn a_card_is_kept_as_bytes() {
 }
 
 #[test]
-fn bytes_that_are_no_card_are_given_back() {
+fn bytes_that_are_no_card_are_refused() {
     let sound = ready_card().into_bytes();
     let cut = sound[..sound.len() - 1].to_vec();
     let zeros = vec![0; sound.len()];
     let mut damaged = sound;
     damaged[0] = 17;
     for bytes in [Vec::new(), cut, zeros, damaged] {
-        let error = Card::from_bytes(bytes.clone()).unwrap_err();
-        assert_eq!(
-            error.to_string(),
-            format!("{} bytes that are not a sound card", bytes.len())
-        );
-        assert_eq!(error.into_bytes(), bytes);
+        assert_eq!(Card::from_bytes(bytes).unwrap_err(), NotSound);
     }
 }

@@ -1,6 +1,6 @@
 //! The functions of the archive on lent slices.
 
-use kajurnat::raw;
+use kajurnat::{raw, Setup};
 
 /// A sound card with two members.
 fn sound_card() -> Vec<u8> {
@@ -10,10 +10,26 @@ fn sound_card() -> Vec<u8> {
 }
 
 #[test]
+fn the_bindings_are_for_version_1() {
+    assert_eq!(raw::version(), 1);
+}
+
+#[test]
+fn a_sound_card_is_told_from_other_bytes() {
+    let sound = sound_card();
+    assert_eq!(raw::is_sound(&sound), 1);
+    assert_eq!(raw::is_sound(&sound[1..]), 0);
+    assert_eq!(raw::is_sound(&[sound, vec![0]].concat()), 0);
+    assert_eq!(raw::is_sound(&[]), 0);
+    assert_eq!(raw::is_sound(&vec![0; raw::card_bytes(2)]), 0);
+}
+
+#[test]
 fn card_bytes_grow_by_one_record_a_member() {
-    for members in 1_u8..=16 {
-        let length = 28 + 222 * usize::from(members);
-        assert_eq!(raw::card_bytes(members.into()), length);
+    for members in Setup::MEMBERS {
+        let setup = Setup { members, queues: 1, gets: 0, sets: 0, features: [0; 16] };
+        assert_eq!(raw::card_bytes(members.into()), setup.card_bytes());
+        assert_eq!(setup.card_bytes(), 28 + 222 * usize::from(members));
     }
     for members in [0, 17, (1 << 32) + 1, u64::MAX] {
         assert_eq!(raw::card_bytes(members), 0);
