@@ -2,37 +2,19 @@
 //! device, with everything that a call shows compared after each.
 
 use std::fmt;
-use std::time::Instant;
 
 use plain_card::bytes::{self, HEADER, RECORD};
 use plain_card::Card;
 
 use crate::call::Call;
 use crate::coverage::Coverage;
-use crate::device::{see, Device, Plain, Seen};
-use crate::draw;
+use crate::device::{see, Device, Make, Plain, Seen};
+use crate::draw::{self, Favoured};
 use crate::faults::{Fault, Faulty};
+use crate::limit::Limit;
+use crate::memory::Buffer;
 use crate::random::Random;
 use crate::shrink::{shrink, simplify};
-
-/// Makes the device that the plain card is compared with.
-pub type Make<'a> = &'a dyn Fn() -> Box<dyn Device>;
-
-/// When to stop.
-#[derive(Clone, Copy, Debug)]
-pub struct Limit {
-    /// After so many calls, or trials.
-    pub count: u64,
-    /// At this time, even if some are left.
-    pub until: Option<Instant>,
-}
-
-impl Limit {
-    /// Whether it is time to stop after `count` of them.
-    pub fn reached(&self, count: u64) -> bool {
-        count >= self.count || self.until.is_some_and(|until| Instant::now() >= until)
-    }
-}
 
 /// A difference between plain card and device.
 pub struct Difference {
@@ -82,11 +64,16 @@ impl Difference {
         let difference = |calls: &[Call]| Pair::new(fault, make).replay(calls);
         let mut calls = shrink(calls, |calls| difference(calls).is_some());
         for at in 0..calls.len() {
-            let Call::Card(bytes) = &calls[at] else { continue };
+            let mut usual = calls.clone();
+            usual[at] = calls[at].at_usual_places();
+            if difference(&usual).is_some() {
+                calls = usual;
+            }
+            let Call::Card(Buffer { bytes, place }) = &calls[at] else { continue };
             let Some(card) = bytes::read(bytes).filter(Card::is_sound) else { continue };
             let with = |card: &Card| {
                 let mut calls = calls.clone();
-                calls[at] = Call::Card(bytes::write(card));
+                calls[at] = Call::Card(Buffer { bytes: bytes::write(card), place: *place });
                 calls
             };
             calls = with(&simplify(card, |card| difference(&with(card)).is_some()));
@@ -111,6 +98,7 @@ impl Pair {
     /// Makes random calls up to the first difference and tells them.
     fn run(&mut self, random: &mut Random, coverage: &mut Coverage) -> Vec<Call> {
         let length = 1 + random.below(80);
+        let favoured = Favoured::draw(random);
         let mut calls = vec![draw::first(random)];
         loop {
             let call = &calls[calls.len() - 1];
@@ -119,7 +107,7 @@ impl Pair {
             if self.difference.is_some() || calls.len() == length {
                 return calls;
             }
-            calls.push(draw::next(random, card.as_ref()));
+            calls.push(draw::next(random, card.as_ref(), favoured));
         }
     }
 
@@ -144,7 +132,9 @@ impl Pair {
             let answer = differs("answer or bytes written", expected.answer, seen.answer);
             let reply = first_difference("reply", &expected.reply, &seen.reply);
             let card = first_difference("card", &expected.card, &seen.card);
-            self.difference = Some([answer, reply, card].concat());
+            let sound = differs("is sound", expected.sound, seen.sound);
+            let harm = seen.harm.iter().map(|harm| format!("  {harm}\n")).collect();
+            self.difference = Some([answer, reply, card, sound, harm].concat());
         } else if read != self.plain.plain {
             self.difference = Some("the card read from the bytes differs".into());
         }

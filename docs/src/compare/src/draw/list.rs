@@ -1,11 +1,16 @@
 //! Random lists of parts, asked and given.
 
+use plain_card::frame::LONGEST;
 use plain_card::opcode::Opcode;
-use plain_card::part::{inventory, Part, OPTIONAL};
+use plain_card::part::{inventory, Part, HEADER, OPTIONAL};
 use plain_card::Card;
 
 use crate::random::Random;
 use crate::request::{any_part, part, request, unread_selector};
+
+/// How many parts a long list has; the longest request takes 254 without
+/// values, or 253 headers.
+const LONG: [usize; 15] = [15, 16, 17, 18, 32, 33, 41, 64, 65, 127, 128, 129, 200, 253, 254];
 
 /// The headers of a parts get.
 pub fn asked(random: &mut Random, card: &Card) -> Vec<u8> {
@@ -22,7 +27,25 @@ pub fn asked(random: &mut Random, card: &Card) -> Vec<u8> {
         };
         insert(random, &mut headers, bad);
     }
+    if random.chance(2) {
+        headers = many_headers(random, card);
+    }
     headers.concat()
+}
+
+/// Many headers: one for each part and then some that make the list bad.
+fn many_headers(random: &mut Random, card: &Card) -> Vec<Vec<u8>> {
+    let mut headers: Vec<Vec<u8>> =
+        inventory(card.setup.queues).map(|part| part.header().to_vec()).collect();
+    random.shuffle(&mut headers);
+    let known = headers.clone();
+    for _ in headers.len()..random.pick(&LONG) {
+        headers.push(match random.chance(70) {
+            true => repeated(random, &known),
+            false => unknown_part(random, card, OPTIONAL)[..HEADER].to_vec(),
+        });
+    }
+    headers
 }
 
 /// The parts of a parts set: those of a member, or of random values.
@@ -47,6 +70,9 @@ pub fn given(random: &mut Random, card: &Card) -> Vec<u8> {
         if random.chance(30) {
             insert(random, &mut parts, skipped);
         }
+    }
+    if random.chance(5) {
+        make_long(random, card, &mut parts);
     }
     if random.chance(40) {
         make_bad(random, card, &mut parts);
@@ -155,6 +181,26 @@ fn make_bad(random: &mut Random, card: &Card, parts: &mut Vec<Vec<u8>>) {
     }
 }
 
+/// Brings a given list to many parts by some that are skipped. Parts that leave
+/// no room for them go.
+fn make_long(random: &mut Random, card: &Card, parts: &mut Vec<Vec<u8>>) {
+    let count = random.pick(&LONG);
+    let room = LONGEST - request(Opcode::PartsSet, 0, &[0; 8]).len();
+    let fits = |parts: &[Vec<u8>]| {
+        let skipped = HEADER * count.saturating_sub(parts.len());
+        skipped + parts.concat().len() <= room
+    };
+    while !fits(parts) {
+        parts.pop();
+    }
+    while parts.len() < count {
+        let mut skipped = unknown_part(random, card, OPTIONAL);
+        skipped.truncate(HEADER);
+        skipped[12..].fill(0);
+        insert(random, parts, skipped);
+    }
+}
+
 /// Brings the request to the longest length, or one byte beyond.
 fn fill_up(random: &mut Random, parts: &mut Vec<Vec<u8>>) {
     let length = request(Opcode::PartsSet, 0, &[0; 8]).len() + parts.concat().len();
@@ -167,4 +213,55 @@ fn fill_up(random: &mut Random, parts: &mut Vec<Vec<u8>>) {
 fn insert(random: &mut Random, parts: &mut Vec<Vec<u8>>, part: Vec<u8>) {
     let at = random.below(parts.len() + 1);
     parts.insert(at, part);
+}
+
+#[cfg(test)]
+mod tests {
+    use super::*;
+    use crate::draw::sound_card;
+    use plain_card::list;
+
+    #[test]
+    fn long_lists_of_every_length_are_drawn_and_some_are_good() {
+        let mut random = Random::new(1, 0);
+        let mut good = [false; LONG.len()];
+        for _ in 0..20_000 {
+            let card = sound_card(&mut random);
+            let mut parts = vec![];
+            make_long(&mut random, &card, &mut parts);
+            let values = &card.members[0].values;
+            assert!(list::given(&parts.concat(), values, card.setup.queues).is_ok());
+            good[LONG.iter().position(|count| *count == parts.len()).unwrap()] = true;
+            if good == [true; LONG.len()] {
+                return;
+            }
+        }
+        panic!("not drawn: {good:?}");
+    }
+
+    #[test]
+    fn long_lists_hold_known_parts_behind_many_others() {
+        let mut random = Random::new(1, 0);
+        let card = sound_card(&mut random);
+        let status = part(Part::DeviceStatus, &[7]);
+        let behind_128 = (0..1_000).any(|_| {
+            let mut parts = vec![status.clone()];
+            make_long(&mut random, &card, &mut parts);
+            parts.iter().position(|part| *part == status).is_some_and(|at| at > 128)
+        });
+        assert!(behind_128);
+    }
+
+    #[test]
+    fn many_headers_start_with_every_part() {
+        let mut random = Random::new(1, 0);
+        for _ in 0..200 {
+            let card = sound_card(&mut random);
+            let queues = card.setup.queues;
+            let headers = many_headers(&mut random, &card);
+            let count = inventory(queues).count();
+            assert!(list::asked(&headers[..count].concat(), queues).is_ok());
+            assert_eq!(list::asked(&headers.concat(), queues).is_ok(), headers.len() == count);
+        }
+    }
 }
