@@ -9,6 +9,7 @@
 //! | [`trial`], [`limit`] | how properties are tried on one device, and for how long |
 //! | [`isolation`] | demand 3, tried on random pairs of sequences |
 //! | [`round_trip`] | the round trip of demand 2, tried on random cards |
+//! | [`exchange`] | neighbouring calls for different members, tried in both orders |
 //! | [`shrink`], [`show`] | the shortest sequence found that shows a difference, as text |
 //! | [`faults`] | planted faults that the above have to find |
 //! | [`fast`] | the fastest plain Rust over bytes, for the timing |
@@ -21,6 +22,7 @@ pub mod call;
 pub mod coverage;
 pub mod device;
 pub mod draw;
+pub mod exchange;
 pub mod fast;
 pub mod faults;
 pub mod isolation;

@@ -3,6 +3,7 @@
 
 use compare::call::Call;
 use compare::device::{Archive, Device, Lending, Slip};
+use compare::exchange::Exchange;
 use compare::isolation::Pair;
 use compare::limit::Limit;
 use compare::memory::Place;
@@ -89,5 +90,6 @@ fn trials_of_properties_tell_harm_too() {
     }
     let written = "bytes ahead of the reply buffer were written";
     assert_eq!(told::<Pair>(change_value), "the value was changed");
+    assert_eq!(told::<Exchange>(change_value), "the value was changed");
     assert!(told::<RoundTrip>(write_ahead_of_reply).contains(written));
 }

@@ -1,11 +1,13 @@
 //! Compares the archive with the plain card on random sequences of calls, and
-//! tries isolation (demand 3) and the round trip (demand 2) on the archive.
+//! tries isolation (demand 3), the round trip (demand 2) and exchanges of
+//! neighbouring calls on the archive.
 
 use std::process::ExitCode;
 use std::time::{Duration, Instant};
 
 use compare::arguments::{self, Options};
 use compare::device::{Archive, Device, Make};
+use compare::exchange::Exchange;
 use compare::faults::{self, Fault, Faulty, Plant, Property};
 use compare::isolation::Pair;
 use compare::limit::Limit;
@@ -18,11 +20,11 @@ compare [--seed N] [--calls N] [--seconds N] [--planted-faults] [--help]
   --seed N          another seed (default 1)
   --calls N         calls to compare (default 1000000, at least 1); for every 250
                     calls one pair of sequences is tried for isolation, for every
-                    100 one round trip
+                    100 one round trip and one exchange of neighbouring calls
   --seconds N       instead, as many as can be made in so many seconds (at least
-                    1), a third each
+                    1), a quarter each
   --planted-faults  instead, plant each fault in the plain card and tell how many
-                    calls, pairs or round trips it takes to find it
+                    calls, pairs, round trips or exchanges it takes to find it
   --help            print this";
 
 fn main() -> ExitCode {
@@ -49,28 +51,28 @@ impl Run {
     fn trials(&self, property: Property) -> Limit {
         match property {
             Property::Isolation => self.limit(250),
-            Property::RoundTrip => self.limit(100),
+            Property::RoundTrip | Property::Exchange => self.limit(100),
         }
     }
 
-    /// The limit of one of the three checks, from now on: one for every so many
+    /// The limit of one of the four checks, from now on: one for every so many
     /// calls.
     fn limit(&self, calls_each: u64) -> Limit {
         let default = if self.options.seconds.is_some() { u64::MAX } else { 1_000_000 };
-        let third = |seconds| Instant::now() + Duration::from_secs(seconds) / 3;
+        let quarter = |seconds| Instant::now() + Duration::from_secs(seconds) / 4;
         Limit {
             count: self.options.calls.unwrap_or(default).div_ceil(calls_each),
-            until: self.options.seconds.map(third),
+            until: self.options.seconds.map(quarter),
         }
     }
 
-    /// Runs the three checks on the archive.
+    /// Runs the four checks on the archive.
     fn all_alike(&self) -> bool {
         let seed = self.options.seed;
         let comparison = compare(seed, self.calls(), None, &archive);
         print!("{}", comparison.coverage);
         let alike = report(seed, "calls compared", comparison.calls, comparison.difference);
-        let properties = [Property::Isolation, Property::RoundTrip];
+        let properties = [Property::Isolation, Property::RoundTrip, Property::Exchange];
         properties.map(|property| self.holds(property)).iter().all(|holds| *holds) && alike
     }
 
@@ -85,6 +87,7 @@ impl Run {
         match property {
             Property::Isolation => self.check_trials::<Pair>(property, make),
             Property::RoundTrip => self.check_trials::<RoundTrip>(property, make),
+            Property::Exchange => self.check_trials::<Exchange>(property, make),
         }
     }
 
@@ -130,6 +133,7 @@ fn name(property: Property) -> &'static str {
     match property {
         Property::Isolation => "isolation pairs",
         Property::RoundTrip => "round trips",
+        Property::Exchange => "exchanges",
     }
 }
 

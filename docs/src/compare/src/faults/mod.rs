@@ -10,6 +10,7 @@
 #![allow(clippy::ptr_arg)]
 
 mod events;
+mod exchange;
 mod frame;
 mod length;
 mod memory;
@@ -46,6 +47,8 @@ pub enum Property {
     RoundTrip,
     /// Demand 3.
     Isolation,
+    /// Neighbouring calls for different members in either order.
+    Exchange,
 }
 
 /// How a fault is planted.
@@ -89,6 +92,8 @@ pub struct Memory {
     made: BTreeMap<(u64, u8), usize>,
     /// Whether a command has changed the card.
     obeyed: bool,
+    /// The member that was named last.
+    named: Option<u64>,
 }
 
 /// The plain card, with a fault or without.
@@ -217,6 +222,7 @@ pub fn all() -> Vec<&'static Fault> {
         objects::FAULTS,
         parts::FAULTS,
         events::FAULTS,
+        exchange::FAULTS,
         soundness::FAULTS,
         memory::FAULTS,
     ]

@@ -16,7 +16,7 @@ use crate::call::Call;
 pub const FAULTS: &[Fault] = &[
     fault("trade: every id ever made counts", Plant::Leave(every_id_counts)),
     breaking(
-        &[Property::Isolation],
+        &[Property::Isolation, Property::Exchange],
         "objects: limits over all members",
         Plant::Refuse(shared_limits),
     ),
