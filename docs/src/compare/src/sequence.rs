@@ -177,7 +177,9 @@ fn place(at: usize) -> String {
 
 impl fmt::Display for Difference {
     fn fmt(&self, f: &mut fmt::Formatter) -> fmt::Result {
-        writeln!(f, "sequence {}, shortened to {} calls:", self.sequence, self.calls.len())?;
+        let count = self.calls.len();
+        let calls = if count == 1 { "call" } else { "calls" };
+        writeln!(f, "sequence {}, shortened to {count} {calls}:", self.sequence)?;
         for call in &self.calls {
             writeln!(f, "  {call}")?;
         }

@@ -1,7 +1,7 @@
 //! The fast card of the timing gives what the plain card gives.
 
 use compare::call::Call;
-use compare::device::{Device, Plain};
+use compare::device::Device;
 use compare::fast;
 use compare::limit::Limit;
 use compare::memory::Lent;
@@ -39,7 +39,7 @@ impl Device for Fast {
     }
 
     fn is_sound(&mut self) -> u8 {
-        Plain::from_bytes(&self.0).is_sound().into()
+        exported::is_sound(&self.0)
     }
 }
 
