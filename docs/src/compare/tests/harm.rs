@@ -79,7 +79,7 @@ fn a_write_beside_the_reply_shows_at_the_usual_place() {
 #[test]
 fn a_changed_value_is_told() {
     let Difference { calls, what, .. } = difference(change_value);
-    assert_eq!(what, "  the value was changed\n");
+    assert_eq!(what, "  bytes of the value were changed\n");
     assert_eq!(calls.len(), 1);
 }
 
@@ -89,7 +89,7 @@ fn trials_of_properties_tell_harm_too() {
         check::<T>(3, LIMIT, &with(slip)).1.expect("the slip is found").what
     }
     let written = "bytes ahead of the reply buffer were written";
-    assert_eq!(told::<Pair>(change_value), "the value was changed");
-    assert_eq!(told::<Exchange>(change_value), "the value was changed");
+    assert_eq!(told::<Pair>(change_value), "bytes of the value were changed");
+    assert_eq!(told::<Exchange>(change_value), "bytes of the value were changed");
     assert!(told::<RoundTrip>(write_ahead_of_reply).contains(written));
 }

@@ -69,7 +69,7 @@ impl Device for Archive {
             slip(call, &mut Lending { card: &mut self.card, input: &mut input, reply });
         }
         if *input.bytes() != **sent {
-            self.harm.push(format!("the {name} was changed"));
+            self.harm.push(format!("bytes of the {name} were changed"));
         }
         self.harm.extend(input.harm(name));
         answer
@@ -92,7 +92,7 @@ impl Device for Archive {
 
 /// What the archive answers if asked whether the bytes are a sound card.
 #[allow(unsafe_code)]
-fn is_sound(card: &[u8]) -> u8 {
+pub fn is_sound(card: &[u8]) -> u8 {
     extern "C" {
         fn kajurnat_is_sound(card: *const u8, card_len: usize) -> u8;
     }

@@ -3,7 +3,7 @@
 mod archive;
 mod plain;
 
-pub use archive::{Archive, Lending, Slip};
+pub use archive::{is_sound, Archive, Lending, Slip};
 pub use plain::Plain;
 
 use crate::call::Call;
