@@ -27,7 +27,7 @@ pub fn asked(random: &mut Random, card: &Card) -> Vec<u8> {
         };
         insert(random, &mut headers, bad);
     }
-    if random.chance(2) {
+    if random.chance(4) {
         headers = many_headers(random, card);
     }
     headers.concat()
@@ -113,20 +113,28 @@ fn add_noise(random: &mut Random, part: &mut [u8]) {
 /// A part that the members have not got.
 fn unknown_part(random: &mut Random, card: &Card, flags: u8) -> Vec<u8> {
     let queues = u64::from(card.setup.queues);
-    let (part_type, selector) = match random.below(6) {
+    let (part_type, selector) = match random.below(7) {
         0 => (0x104 + random.below(2) as u16, queues + random.below(3) as u64),
         1 => (0x104 + random.below(2) as u16, random.below(4) as u64 | 1 << (8 + random.below(8))),
         2 => (0x102, random.pick(&[1, 4, 12, 18, 20, 23, 8 | 1 << 16, 16 | 1 << 31])),
         3 => (random.pick(&[0, 0xff, 0x106, 0x1ff, 0x200, 0x5ff]), 0),
+        // The low byte is that of a part.
+        4 => (random.pick(&[0, 0x200, 0x500]) + random.below(6) as u16, 0),
         _ => (random.below(0x100) as u16, random.bits()),
     };
     let length = random.pick(&[0, 1, 4, 8, 16, 32]);
     any_part(part_type, flags, selector, &random.bytes(length))
 }
 
-/// One of the parts again, perhaps under other unread selector bytes.
+/// One of the parts again, of a known type if there is one, perhaps under other
+/// unread selector bytes.
 fn repeated(random: &mut Random, parts: &[Vec<u8>]) -> Vec<u8> {
-    let mut again = parts[random.below(parts.len())].clone();
+    let known: Vec<&Vec<u8>> =
+        parts.iter().filter(|part| matches!(part[..2], [0..=5, 1])).collect();
+    let mut again = match known.is_empty() {
+        true => parts[random.below(parts.len())].clone(),
+        false => random.pick(&known).clone(),
+    };
     if random.chance(40) {
         add_noise(random, &mut again);
     }
@@ -149,7 +157,8 @@ fn make_bad(random: &mut Random, card: &Card, parts: &mut Vec<Vec<u8>>) {
         }
         1 => {
             // Another length, with as many value bytes.
-            let given = random.pick(&[0, value.saturating_sub(1), value + 1, 16, 40]);
+            let cut = value + 256 * (1 + random.below(4));
+            let given = random.pick(&[0, value.saturating_sub(1), value + 1, 16, 40, cut, cut]);
             parts[at].resize(16 + given, 0);
             parts[at][12..16].copy_from_slice(&(given as u32).to_le_bytes());
         }

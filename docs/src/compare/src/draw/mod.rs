@@ -149,12 +149,13 @@ fn store(random: &mut Random, card: &Card, favoured: Favoured) -> Call {
         }
     }
     if random.chance(30) {
-        match random.below(6) {
+        match random.below(7) {
             0 => member = any_member(random, card, favoured),
             1 => part_type = random.pick(&[0x100, 0x106, 0xff, 0x600, 0x101, 0x104]),
-            2 => selector[random.below(8)] = random.byte(),
-            3 => value.push(0),
-            4 => value.resize(length::wrong(random, value.len()), 0),
+            2 => part_type ^= random.pick(&[0x100, 0x300, 0x400, 0x8000]),
+            3 => selector[random.below(8)] = random.byte(),
+            4 => value.push(0),
+            5 => value.resize(length::wrong(random, value.len()), 0),
             _ => value.truncate(random.below(value.len())),
         }
     }

@@ -1,11 +1,14 @@
-//! Lengths held in too few bits, and limits that document 01 has not.
+//! Lengths and other numbers held in too few bits, and limits that document 01
+//! has not.
 
+use plain_card::frame::DATA;
+use plain_card::opcode::Opcode;
 use plain_card::operation::Operation;
 use plain_card::part::HEADER;
 use plain_card::status::Refusal;
 use plain_card::Card;
 
-use super::tools::{list_start, named, operation, parts};
+use super::tools::{each_part, framed, list_start, named, operation, parts};
 use super::{fault, Fault, Plant};
 use crate::call::Call;
 
@@ -28,8 +31,13 @@ pub const FAULTS: &[Fault] = &[
     fault("length: set of over 40 parts refused", Plant::Refuse(over_40_parts)),
     fault("length: set of over 4,000 bytes refused", Plant::Refuse(over_4000_bytes)),
     fault("length: parts past the 128th not set", Plant::Mishear(past_128)),
-    fault("length: repeats past the 32nd not found", Plant::Mishear(repeats_past_32)),
+    fault("length: repeats past the 32nd missed", Plant::Mishear(repeats_past_32)),
     fault("length: asked headers past the 15th unread", Plant::Mishear(headers_unread)),
+    fault("numbers: part length compared in 8 bits", Plant::Mishear(part_cut)),
+    fault("numbers: type of a part cut to 8 bits", Plant::Mishear(type_cut)),
+    fault("numbers: type of a store cut to 8 bits", Plant::Replace(stored_type_cut)),
+    fault("numbers: mask of list use cut to 32 bits", Plant::Mishear(mask_cut)),
+    fault("numbers: flags of an object cut to 32 bits", Plant::Mishear(flags_cut)),
 ];
 
 /// The bytes that are left of a length in so many bits.
@@ -112,4 +120,47 @@ fn headers_unread(card: &Card, request: &mut Vec<u8>) {
         let read = list_start(operation).unwrap_or_default() + HEADER * HEADERS_READ;
         request.truncate(read);
     }
+}
+
+/// A known part that is longer by a multiple of 256 has its length in the
+/// table; what follows the table's length is skipped.
+fn part_cut(card: &Card, request: &mut Vec<u8>) {
+    if !sets(card, request) {
+        return;
+    }
+    for range in parts(card, request).into_iter().rev() {
+        let Some(name) = named(card, &request[range.clone()]) else { continue };
+        let (length, wanted) = (range.len() - HEADER, name.length() as usize);
+        if length > wanted && (length - wanted) % 256 == 0 {
+            request[range.start + 12..range.start + 16]
+                .copy_from_slice(&name.length().to_le_bytes());
+            request.drain(range.start + HEADER + wanted..range.end);
+        }
+    }
+}
+
+/// The high byte of a type is taken for that of the parts.
+fn type_cut(card: &Card, request: &mut Vec<u8>) {
+    each_part(card, request, |part| part[1] = 1);
+}
+
+fn stored_type_cut(call: &mut Call) {
+    if let Call::Store { part_type, .. } = call {
+        *part_type = *part_type & 0xff | 0x100;
+    }
+}
+
+/// Clears four bytes of the data of a request that steps 2 to 6 let pass.
+fn clear(card: &Card, request: &mut [u8], of: &[Opcode], at: usize) {
+    if framed(card, request).is_some_and(|(_, opcode)| of.contains(&opcode)) {
+        request[DATA + at..DATA + at + 4].fill(0);
+    }
+}
+
+fn mask_cut(card: &Card, request: &mut Vec<u8>) {
+    clear(card, request, &[Opcode::ListUse], 4);
+}
+
+fn flags_cut(card: &Card, request: &mut Vec<u8>) {
+    clear(card, request, &[Opcode::Create, Opcode::Modify, Opcode::Query], 12);
 }
