@@ -85,8 +85,8 @@ impl fmt::Display for Place {
         match self {
             Place::Offset(0) => Ok(()),
             Place::Offset(offset) => write!(f, " (at offset {offset})"),
-            Place::AfterPage => write!(f, " (right after a closed page)"),
-            Place::BeforePage => write!(f, " (right before a closed page)"),
+            Place::AfterPage => write!(f, " (right after a guard page)"),
+            Place::BeforePage => write!(f, " (right before a guard page)"),
         }
     }
 }

@@ -15,7 +15,7 @@ use crate::draw::{self, Favoured};
 use crate::random::Random;
 use crate::show::CardBytes;
 use crate::shrink::{shrink, simplify};
-use crate::trial::{apply, Side, Trial};
+use crate::trial::{apply, draw_calls, Side, Trial};
 
 /// A card and a sequence with two neighbours that change places.
 #[derive(Clone, Debug)]
@@ -33,19 +33,10 @@ impl Trial for Exchange {
         let second = (first + 1 + random.below(card.members.len() - 1)) % card.members.len();
         let favoured = Favoured::members(first as u64 + 1, second as u64 + 1);
         let mut now = card.clone();
-        let sequence = |random: &mut Random, now: &mut Card| -> Vec<Call> {
-            (0..random.below(20))
-                .map(|_| {
-                    let call = draw::on_card(random, now, favoured);
-                    apply(now, &call);
-                    call
-                })
-                .collect()
-        };
-        let before = sequence(random, &mut now);
+        let before = draw_calls(random, &mut now, favoured, 20);
         let neighbours = neighbours(random, &now, favoured);
         neighbours.iter().for_each(|call| apply(&mut now, call));
-        let after = sequence(random, &mut now);
+        let after = draw_calls(random, &mut now, favoured, 20);
         Exchange { card, before, neighbours, after }
     }
 
@@ -73,7 +64,7 @@ impl Trial for Exchange {
         if one.card() != other.card() {
             return Some("another card at the end".into());
         }
-        one.harm().or(other.harm())
+        one.violations().or(other.violations())
     }
 
     fn shorten(mut self, make: Make) -> Exchange {
@@ -105,14 +96,31 @@ fn several_members(random: &mut Random) -> Card {
 
 /// Two calls that name different members, drawn on the same card.
 fn neighbours(random: &mut Random, card: &Card, favoured: Favoured) -> [Call; 2] {
+    let first = neighbour(random, card, favoured, None);
+    let second = neighbour(random, card, favoured, first.named());
+    [first, second]
+}
+
+/// A call that names a member, but not this one; more often a call that changes
+/// the card, if a few draws give one.
+fn neighbour(random: &mut Random, card: &Card, favoured: Favoured, not: Option<u64>) -> Call {
+    let mut draws = if random.chance(70) { 20 } else { 0 };
     loop {
-        let pair = [(); 2].map(|()| draw::on_card(random, card, favoured));
-        if let [Some(first), Some(second)] = pair.each_ref().map(Call::named) {
-            if first != second {
-                return pair;
+        let call = draw::on_card(random, card, favoured);
+        if call.named().is_some_and(|member| Some(member) != not) {
+            if draws == 0 || changes(card, &call) {
+                return call;
             }
+            draws -= 1;
         }
     }
+}
+
+/// Whether the call changes the card.
+fn changes(card: &Card, call: &Call) -> bool {
+    let mut after = card.clone();
+    apply(&mut after, call);
+    after != *card
 }
 
 impl fmt::Display for Exchange {
@@ -131,6 +139,20 @@ mod tests {
     use super::*;
     use plain_card::opcode::Opcode;
     use std::collections::BTreeSet;
+
+    /// Whether each of the two calls changes the card if it comes first.
+    fn both_change(exchange: &Exchange) -> bool {
+        let mut now = exchange.card.clone();
+        exchange.before.iter().for_each(|call| apply(&mut now, call));
+        exchange.neighbours.iter().all(|call| changes(&now, call))
+    }
+
+    #[test]
+    fn both_neighbours_often_change_the_card() {
+        let trials = (0..2_000).map(|index| Exchange::draw(&mut Random::new(1, index)));
+        let changing = trials.filter(both_change).count();
+        assert!(changing > 600, "{changing} of 2,000");
+    }
 
     #[test]
     fn neighbours_name_different_members_in_every_pair_of_kinds() {

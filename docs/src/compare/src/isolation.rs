@@ -16,7 +16,7 @@ use crate::draw::{self, Favoured};
 use crate::random::Random;
 use crate::show::CardBytes;
 use crate::shrink::{shrink, simplify};
-use crate::trial::{apply, Side, Trial};
+use crate::trial::{apply, draw_calls, Side, Trial};
 
 /// A call before the reset, and which of the two sequences have it.
 #[derive(Clone, Debug)]
@@ -52,13 +52,7 @@ impl Trial for Pair {
             .collect();
         let reset = if random.chance(75) { Call::ResetMember(member) } else { Call::ResetCard };
         apply(&mut cards[0], &reset);
-        let after = (0..random.below(40))
-            .map(|_| {
-                let call = draw::on_card(random, &cards[0], favoured);
-                apply(&mut cards[0], &call);
-                call
-            })
-            .collect();
+        let after = draw_calls(random, &mut cards[0], favoured, 40);
         Pair { member, left, right, before, reset, after }
     }
 
@@ -77,7 +71,7 @@ impl Trial for Pair {
                 return Some(format!("different replies or cards after the reset: {call}"));
             }
         }
-        left.harm().or(right.harm())
+        left.violations().or(right.violations())
     }
 
     fn shorten(mut self, make: Make) -> Pair {

@@ -64,7 +64,7 @@ impl Trial for RoundTrip {
         if target.reply(&capture(self.to, self.target_get)) != (length, captured) {
             return Some("another capture after the parts are set".into());
         }
-        source.harm().or(target.harm())
+        source.violations().or(target.violations())
     }
 }
 

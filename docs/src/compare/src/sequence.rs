@@ -133,8 +133,8 @@ impl Pair {
             let reply = first_difference("reply", &expected.reply, &seen.reply);
             let card = first_difference("card", &expected.card, &seen.card);
             let sound = differs("is sound", expected.sound, seen.sound);
-            let harm = seen.harm.iter().map(|harm| format!("  {harm}\n")).collect();
-            self.difference = Some([answer, reply, card, sound, harm].concat());
+            let violations = seen.violations.iter().map(|what| format!("  {what}\n")).collect();
+            self.difference = Some([answer, reply, card, sound, violations].concat());
         } else if read != self.plain.plain {
             self.difference = Some("the card read from the bytes differs".into());
         }

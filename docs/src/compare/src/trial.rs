@@ -6,6 +6,7 @@ use plain_card::{bytes, Card};
 
 use crate::call::Call;
 use crate::device::{see, Device, Make, Plain, Seen};
+use crate::draw::{self, Favoured};
 use crate::limit::Limit;
 use crate::random::Random;
 
@@ -53,6 +54,22 @@ pub fn check<T: Trial>(seed: u64, limit: Limit, make: Make) -> (u64, Option<Fail
     unreachable!("the indices do not end")
 }
 
+/// Calls drawn one after the other on a card, fewer than `most`.
+pub fn draw_calls(
+    random: &mut Random,
+    card: &mut Card,
+    favoured: Favoured,
+    most: usize,
+) -> Vec<Call> {
+    (0..random.below(most))
+        .map(|_| {
+            let call = draw::on_card(random, card, favoured);
+            apply(card, &call);
+            call
+        })
+        .collect()
+}
+
 /// Makes a call on a plain card, for the calls that are drawn next.
 pub fn apply(card: &mut Card, call: &Call) {
     let mut plain = Plain::Card(card.clone());
@@ -65,13 +82,13 @@ pub fn apply(card: &mut Card, call: &Call) {
 /// A device in a trial, with a card of its own.
 pub struct Side {
     device: Box<dyn Device>,
-    harm: Vec<String>,
+    violations: Vec<String>,
 }
 
 impl Side {
     /// A new device with this card.
     pub fn new(make: Make, card: &Card) -> Side {
-        let mut side = Side { device: make(), harm: vec![] };
+        let mut side = Side { device: make(), violations: vec![] };
         side.see(&Call::Card(bytes::write(card).into()));
         side
     }
@@ -82,7 +99,7 @@ impl Side {
         if let Call::Command { .. } = call {
             seen.reply.truncate(seen.answer);
         }
-        self.harm.append(&mut seen.harm);
+        self.violations.append(&mut seen.violations);
         seen
     }
 
@@ -97,8 +114,8 @@ impl Side {
         self.device.card()
     }
 
-    /// What the calls did to memory that may not be touched or changed.
-    pub fn harm(&self) -> Option<String> {
-        (!self.harm.is_empty()).then(|| self.harm.join("; "))
+    /// What the calls did to memory that may not be accessed or changed.
+    pub fn violations(&self) -> Option<String> {
+        (!self.violations.is_empty()).then(|| self.violations.join("; "))
     }
 }

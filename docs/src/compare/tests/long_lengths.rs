@@ -1,69 +1,13 @@
 //! Lengths past 32 bits, which random sequences do not reach: the archive
 //! beside the plain card, with buffers of 4 GiB and a valid length.
-//!
-//! The memory is mapped and hardly touched, so it takes only a few pages.
-
-use std::ffi::{c_int, c_void};
-use std::ptr;
 
 use compare::device::is_sound;
+use compare::memory::Huge;
 use compare::request::{object_and_type, request};
 use kajurnat::raw;
 use plain_card::object::Kind;
 use plain_card::opcode::{Opcode, SUPPORTED};
 use plain_card::{bytes, exported, Card, Setup};
-
-const WRAP: usize = 1 << 32;
-/// Room behind 4 GiB for every valid length below.
-const BEHIND: usize = 1 << 16;
-
-/// More than 4 GiB of zeros.
-struct Huge(*mut c_void);
-
-impl Huge {
-    fn new() -> Huge {
-        extern "C" {
-            fn mmap(
-                at: *mut c_void,
-                length: usize,
-                p: c_int,
-                f: c_int,
-                d: c_int,
-                o: i64,
-            ) -> *mut c_void;
-        }
-        const READ_WRITE: c_int = 3;
-        const PRIVATE_ANONYMOUS_NORESERVE: c_int = 0x4022;
-        // SAFETY: the mapping is new.
-        let start = unsafe {
-            let flags = PRIVATE_ANONYMOUS_NORESERVE;
-            mmap(ptr::null_mut(), WRAP + BEHIND, READ_WRITE, flags, -1, 0)
-        };
-        assert!(start.addr() != usize::MAX, "4 GiB cannot be mapped");
-        Huge(start)
-    }
-
-    /// The first bytes are these, all others zero, and it is as long as they
-    /// are and 4 GiB.
-    fn with(&mut self, bytes: &[u8]) -> &mut [u8] {
-        assert!(bytes.len() <= BEHIND);
-        // SAFETY: so many bytes are mapped, and `self` is borrowed mutably.
-        let slice =
-            unsafe { std::slice::from_raw_parts_mut(self.0.cast::<u8>(), WRAP + bytes.len()) };
-        slice[..bytes.len()].copy_from_slice(bytes);
-        slice
-    }
-}
-
-impl Drop for Huge {
-    fn drop(&mut self) {
-        extern "C" {
-            fn munmap(at: *mut c_void, length: usize) -> c_int;
-        }
-        // SAFETY: it is what `new` mapped, and no slice of it is left.
-        unsafe { munmap(self.0, WRAP + BEHIND) };
-    }
-}
 
 /// The bytes of a card with a get object and every command in use.
 fn card() -> Vec<u8> {
@@ -91,7 +35,7 @@ fn same<T: PartialEq + std::fmt::Debug>(
 #[test]
 fn a_request_is_refused() {
     let mut huge = Huge::new();
-    let request = huge.with(&capture());
+    let request = huge.starting_with(&capture());
     let mut replies = [[7; 600]; 2];
     let [left, right] = &mut replies;
     let written = same(
@@ -106,7 +50,7 @@ fn a_request_is_refused() {
 fn a_reply_buffer_is_long_enough() {
     let (mut left, mut right) = (Huge::new(), Huge::new());
     for few in [0, 7, 8, 452] {
-        let (left, right) = (left.with(&vec![7; few]), right.with(&vec![7; few]));
+        let (left, right) = (left.starting_with(&vec![7; few]), right.starting_with(&vec![7; few]));
         let written = same(
             |card| raw::command(card, &capture(), left),
             |card| exported::command(card, &capture(), right),
@@ -120,7 +64,7 @@ fn a_reply_buffer_is_long_enough() {
 fn a_stored_value_has_a_wrong_length() {
     let mut huge = Huge::new();
     for length in [0, 16] {
-        let value = huge.with(&vec![7; length]);
+        let value = huge.starting_with(&vec![7; length]);
         let answer = same(
             |card| raw::store(card, 1, 0x101, 0, value),
             |card| exported::store(card, 1, 0x101, 0, value),
@@ -132,7 +76,7 @@ fn a_stored_value_has_a_wrong_length() {
 #[test]
 fn features_have_a_wrong_length() {
     let mut huge = Huge::new();
-    let features = huge.with(&[7; 16]);
+    let features = huge.starting_with(&[7; 16]);
     let answer = same(
         |card| raw::setup(card, 2, 4, 1, 1, features),
         |card| exported::setup(card, 2, 4, 1, 1, features),
@@ -144,7 +88,7 @@ fn features_have_a_wrong_length() {
 fn a_card_is_not_sound() {
     let mut huge = Huge::new();
     let length = card().len();
-    let card = huge.with(&card());
+    let card = huge.starting_with(&card());
     let mut reply = [7; 600];
     assert_eq!(raw::command(card, &capture(), &mut reply), 0);
     assert_eq!(raw::reset_member(card, 1), 9);

@@ -108,11 +108,11 @@ impl Run {
     /// Whether the checks find the fault: the comparison, and those of the
     /// properties that it breaks.
     fn finds(&self, fault: &'static Fault) -> bool {
-        let slip = match fault.plant {
-            Plant::Slip(slip) => Some(slip),
+        let misuse = match fault.plant {
+            Plant::Misuse(misuse) => Some(misuse),
             _ => None,
         };
-        let archive = || -> Box<dyn Device> { Box::new(Archive::new(slip)) };
+        let archive = || -> Box<dyn Device> { Box::new(Archive::new(misuse)) };
         let comparison = compare(self.options.seed, self.calls(), Some(fault), &archive);
         let faulty = || -> Box<dyn Device> { Box::new(Faulty::new(Some(fault))) };
         let mut found = comparison.difference.is_some();

@@ -6,16 +6,16 @@ use super::Device;
 use crate::call::Call;
 use crate::memory::{Buffer, Lent, Place};
 
-/// The verified archive, with a planted slip or without.
+/// The verified archive, with a planted misuse or without.
 pub struct Archive {
     card: Lent,
-    slip: Option<Slip>,
-    harm: Vec<String>,
+    misuse: Option<Misuse>,
+    violations: Vec<String>,
 }
 
-/// A planted fault: what a wrong program would do with its buffers besides
-/// what the archive does.
-pub type Slip = fn(&Call, &mut Lending);
+/// A planted fault: what a wrong program does with its buffers besides what the
+/// archive does.
+pub type Misuse = fn(&Call, &mut Lending);
 
 /// The buffers of a call, once the archive has answered.
 pub struct Lending<'a> {
@@ -32,8 +32,8 @@ const NOTHING: &Buffer = &Buffer { bytes: Vec::new(), place: Place::USUAL };
 
 impl Archive {
     /// An archive without a card: no bytes.
-    pub fn new(slip: Option<Slip>) -> Archive {
-        Archive { card: Lent::patterned(0.into()), slip, harm: vec![] }
+    pub fn new(misuse: Option<Misuse>) -> Archive {
+        Archive { card: Lent::patterned(0.into()), misuse, violations: vec![] }
     }
 
     /// The answer of the archive.
@@ -65,13 +65,13 @@ impl Device for Archive {
         let (name, sent) = call.input().unwrap_or(("nothing", NOTHING));
         let mut input = Lent::holding(sent);
         let answer = self.answer(call, input.bytes(), reply.bytes_mut());
-        if let Some(slip) = self.slip {
-            slip(call, &mut Lending { card: &mut self.card, input: &mut input, reply });
+        if let Some(misuse) = self.misuse {
+            misuse(call, &mut Lending { card: &mut self.card, input: &mut input, reply });
         }
         if *input.bytes() != **sent {
-            self.harm.push(format!("bytes of the {name} were changed"));
+            self.violations.push(format!("bytes of the {name} were changed"));
         }
-        self.harm.extend(input.harm(name));
+        self.violations.extend(input.violations(name));
         answer
     }
 
@@ -83,10 +83,10 @@ impl Device for Archive {
         is_sound(self.card.bytes())
     }
 
-    fn harm(&mut self) -> Vec<String> {
-        let mut harm = std::mem::take(&mut self.harm);
-        harm.extend(self.card.harm("card"));
-        harm
+    fn violations(&mut self) -> Vec<String> {
+        let mut violations = std::mem::take(&mut self.violations);
+        violations.extend(self.card.violations("card"));
+        violations
     }
 }
 

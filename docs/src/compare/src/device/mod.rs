@@ -3,7 +3,7 @@
 mod archive;
 mod plain;
 
-pub use archive::{is_sound, Archive, Lending, Slip};
+pub use archive::{is_sound, Archive, Lending, Misuse};
 pub use plain::Plain;
 
 use crate::call::Call;
@@ -20,8 +20,8 @@ pub trait Device {
     /// 1 if it says that the card is sound, 0 if not.
     fn is_sound(&mut self) -> u8;
 
-    /// What it did since last asked to memory that it may not touch or change.
-    fn harm(&mut self) -> Vec<String> {
+    /// What it did since last asked to memory that it may not access or change.
+    fn violations(&mut self) -> Vec<String> {
         vec![]
     }
 }
@@ -40,8 +40,8 @@ pub struct Seen {
     pub card: Vec<u8>,
     /// 1 if the device says that this card is sound, 0 if not.
     pub sound: u8,
-    /// What was done to memory that may not be touched or changed.
-    pub harm: Vec<String>,
+    /// What was done to memory that may not be accessed or changed.
+    pub violations: Vec<String>,
 }
 
 /// Makes a call with a reply buffer that holds the pattern.
@@ -49,7 +49,7 @@ pub fn see(device: &mut dyn Device, call: &Call) -> Seen {
     let mut reply = Lent::patterned(call.room());
     let answer = device.call(call, &mut reply);
     let sound = device.is_sound();
-    let mut harm = device.harm();
-    harm.extend(reply.harm("reply buffer"));
-    Seen { answer, reply: reply.bytes().to_vec(), card: device.card(), sound, harm }
+    let mut violations = device.violations();
+    violations.extend(reply.violations("reply buffer"));
+    Seen { answer, reply: reply.bytes().to_vec(), card: device.card(), sound, violations }
 }

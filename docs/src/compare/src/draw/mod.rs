@@ -44,8 +44,7 @@ impl Favoured {
     }
 }
 
-/// Where a buffer lies: at any offset, or beside a page that cannot be
-/// touched.
+/// Where a buffer lies: at any offset, or beside a guard page.
 fn place(random: &mut Random) -> Place {
     match random.weighted(&[40, 20, 40]) {
         0 => Place::Offset(random.below(16)),

@@ -27,7 +27,7 @@ use plain_card::status::Refusal;
 use plain_card::Card;
 
 use crate::call::Call;
-use crate::device::{Device, Plain, Slip};
+use crate::device::{Device, Misuse, Plain};
 use crate::memory::Lent;
 
 /// A planted fault.
@@ -64,9 +64,9 @@ pub enum Plant {
     /// Takes other bytes for the card before each call.
     Repair(fn(&mut Vec<u8>)),
     /// Takes other bytes for the card if asked whether it is sound.
-    Judge(fn(&mut Vec<u8>)),
+    IsSound(fn(&mut Vec<u8>)),
     /// Does something with its buffers besides; planted around the archive.
-    Slip(Slip),
+    Misuse(Misuse),
 }
 
 /// What the plain card left, to be changed.
@@ -147,7 +147,7 @@ impl Faulty {
     /// Hears a call and tells the bytes written, or the answer of an event.
     fn hear(&mut self, call: &Call, reply: &mut [u8]) -> usize {
         match self.fault.map(|fault| &fault.plant) {
-            None | Some(Plant::Judge(_) | Plant::Slip(_)) => self.plain.hear(call, reply),
+            None | Some(Plant::IsSound(_) | Plant::Misuse(_)) => self.plain.hear(call, reply),
             Some(Plant::Refuse(early)) => match self.refuse(*early, call, reply) {
                 Some(refusal) => {
                     reply[..8].copy_from_slice(&refusal.reply());
@@ -203,7 +203,7 @@ impl Device for Faulty {
     }
 
     fn is_sound(&mut self) -> u8 {
-        let Some(Plant::Judge(change)) = self.fault.map(|fault| &fault.plant) else {
+        let Some(Plant::IsSound(change)) = self.fault.map(|fault| &fault.plant) else {
             return self.plain.is_sound().into();
         };
         let mut bytes = self.plain.to_bytes();

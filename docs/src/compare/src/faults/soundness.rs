@@ -14,13 +14,13 @@ pub const FAULTS: &[Fault] = &[
     fault("sound: queue count not looked at", Plant::Repair(queues)),
     fault("sound: member's features not compared", Plant::Repair(features)),
     fault("sound: bytes behind the last record", Plant::Repair(length)),
-    fault("is sound: yes whenever the setup is", Plant::Judge(setup_alone)),
-    fault("is sound: list bits not looked at", Plant::Judge(list_bits)),
-    fault("is sound: mode byte not looked at", Plant::Judge(mode_byte)),
-    fault("is sound: set objects not counted", Plant::Judge(sets)),
-    fault("is sound: features of member 16 skipped", Plant::Judge(last_features)),
-    fault("is sound: members past the 8th skipped", Plant::Judge(past_8)),
-    fault("is sound: a stopped last member is not", Plant::Judge(stopped_last)),
+    fault("is sound: yes whenever the setup is", Plant::IsSound(setup_alone)),
+    fault("is sound: list bits not looked at", Plant::IsSound(list_bits)),
+    fault("is sound: mode byte not looked at", Plant::IsSound(mode_byte)),
+    fault("is sound: set objects not counted", Plant::IsSound(sets)),
+    fault("is sound: features of member 16 skipped", Plant::IsSound(last_features)),
+    fault("is sound: members past the 8th skipped", Plant::IsSound(past_8)),
+    fault("is sound: a stopped last member is not", Plant::IsSound(stopped_last)),
 ];
 
 fn list_bits(card: &mut Vec<u8>) {

@@ -1,12 +1,16 @@
 //! Buffers lent to a card, where what a call does beside them shows.
 //!
-//! A call must touch nothing that it was not lent (demand 1). A buffer lies
-//! between two pages that cannot be touched: right behind the first, right
-//! ahead of the second, or away from both at any offset. Bytes of the buffer's
-//! own pages that lie beside it hold a pattern, which is looked at after the
-//! call.
+//! A call must access nothing that it was not lent (demand 1). A buffer lies
+//! between two guard pages: right behind the first, right ahead of the second,
+//! or away from both at any offset. Bytes of the buffer's own pages that lie
+//! beside it hold a pattern, which is looked at after the call.
 
+mod huge;
+#[allow(unsafe_code)]
+mod libc;
 mod pages;
+
+pub use huge::Huge;
 
 use std::ops::{Deref, Range};
 
@@ -25,11 +29,11 @@ pub fn pattern(at: usize) -> u8 {
 /// Where a buffer lies.
 #[derive(Clone, Copy, Debug, PartialEq, Eq)]
 pub enum Place {
-    /// Away from both pages, so many bytes behind a multiple of 16.
+    /// Away from both guard pages, so many bytes behind a multiple of 16.
     Offset(usize),
-    /// Right behind a page that cannot be touched.
+    /// Right behind a guard page.
     AfterPage,
-    /// Right ahead of a page that cannot be touched.
+    /// Right ahead of a guard page.
     BeforePage,
 }
 
@@ -87,7 +91,7 @@ impl From<usize> for Room {
     }
 }
 
-/// A buffer between two pages that cannot be touched.
+/// A buffer between two guard pages.
 pub struct Lent {
     pages: Pages,
     range: Range<usize>,
@@ -144,17 +148,17 @@ impl Lent {
 
     /// What was done beside the buffer, which has this name, since it was lent
     /// or last asked.
-    pub fn harm(&mut self, name: &str) -> Vec<String> {
-        let mut harm = vec![];
+    pub fn violations(&mut self, name: &str) -> Vec<String> {
+        let mut violations = vec![];
         for (side, range) in [("ahead of", self.before()), ("behind", self.behind())] {
             if !self.stands(range) {
-                harm.push(format!("bytes {side} the {name} were written"));
+                violations.push(format!("bytes {side} the {name} were written"));
             }
         }
-        if self.pages.touched() {
-            harm.push(format!("a page beside the {name} was touched"));
+        if self.pages.accessed() {
+            violations.push(format!("a guard page beside the {name} was accessed"));
         }
-        harm
+        violations
     }
 
     /// The bytes ahead of the buffer that are looked at.
@@ -189,14 +193,14 @@ mod tests {
     }
 
     #[test]
-    fn a_buffer_that_is_used_as_lent_comes_to_no_harm() {
+    fn a_buffer_that_is_used_as_lent_shows_no_violation() {
         for (length, place) in LENGTHS.into_iter().flat_map(|l| places().map(move |p| (l, p))) {
             let mut lent = lent(length, place);
             assert!(lent.bytes().iter().zip(0..).all(|(byte, at)| *byte == pattern(at)));
             lent.bytes_mut().fill(7);
             assert!(lent.bytes().iter().all(|byte| *byte == 7));
             assert_eq!(lent.bytes().len(), length);
-            assert_eq!(lent.harm("buffer"), [""; 0]);
+            assert_eq!(lent.violations("buffer"), [""; 0]);
         }
     }
 
@@ -206,7 +210,7 @@ mod tests {
             for at in [-1, length as isize] {
                 let mut lent = lent(length, place);
                 lent.write_beside(at, !lent.read_beside(at));
-                assert_eq!(lent.harm("buffer").len(), 1, "{length} {place:?} {at}");
+                assert_eq!(lent.violations("buffer").len(), 1, "{length} {place:?} {at}");
             }
         }
     }
@@ -216,13 +220,16 @@ mod tests {
         for length in LENGTHS {
             let mut after = lent(length, Place::AfterPage);
             after.read_beside(-1);
-            assert_eq!(after.harm("buffer"), ["a page beside the buffer was touched"]);
-            assert_eq!(after.harm("buffer"), [""; 0]);
+            assert_eq!(after.violations("buffer"), ["a guard page beside the buffer was accessed"]);
+            assert_eq!(after.violations("buffer"), [""; 0]);
             let mut before = lent(length, Place::BeforePage);
             before.read_beside(length as isize);
-            assert_eq!(before.harm("buffer"), ["a page beside the buffer was touched"]);
+            assert_eq!(
+                before.violations("buffer"),
+                ["a guard page beside the buffer was accessed"]
+            );
             before.read_beside(length as isize + 4095);
-            assert_eq!(before.harm("buffer").len(), 1);
+            assert_eq!(before.violations("buffer").len(), 1);
         }
     }
 

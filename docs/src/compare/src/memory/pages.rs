@@ -1,6 +1,6 @@
-//! Pages between two that cannot be touched (x86-64 Linux).
+//! Pages between two guard pages, which cannot be accessed.
 //!
-//! A page that is touched all the same is noted and then opened, so that the
+//! An access of a guard page is noted and the page is then opened, so that the
 //! call goes on and is reported and shortened like any other difference.
 
 #![allow(unsafe_code)]
@@ -10,57 +10,19 @@ use std::ptr;
 use std::sync::atomic::{AtomicBool, AtomicUsize, Ordering};
 use std::sync::{Mutex, MutexGuard, OnceLock, PoisonError};
 
+use super::libc;
+
 const PAGE: usize = 4096;
-/// How many bytes lie between the two pages.
+/// How many bytes lie between the two guard pages.
 pub const ROOM: usize = 40 * PAGE;
 const STRIDE: usize = PAGE + ROOM + PAGE;
 /// How many buffers can be lent at a time.
 const COUNT: usize = 128;
 
-/// What the C library gives.
-mod libc {
-    use super::{c_int, c_void};
-
-    pub const PROT_NONE: c_int = 0;
-    pub const PROT_READ_WRITE: c_int = 3;
-    pub const MAP_PRIVATE_ANONYMOUS: c_int = 0x22;
-    pub const SIGSEGV: c_int = 11;
-    pub const SIG_DFL: usize = 0;
-    pub const SA_SIGINFO_ONSTACK: c_int = 0x0800_0004;
-
-    #[repr(C)]
-    pub struct SigInfo {
-        pub numbers: [c_int; 4],
-        pub address: usize,
-    }
-
-    #[repr(C)]
-    pub struct SigAction {
-        pub handler: extern "C" fn(c_int, *const SigInfo, *mut c_void),
-        pub mask: [u64; 16],
-        pub flags: c_int,
-        pub restorer: usize,
-    }
-
-    extern "C" {
-        pub fn mmap(
-            address: *mut c_void,
-            length: usize,
-            protection: c_int,
-            flags: c_int,
-            file: c_int,
-            offset: i64,
-        ) -> *mut c_void;
-        pub fn mprotect(address: *mut c_void, length: usize, protection: c_int) -> c_int;
-        pub fn sigaction(number: c_int, new: *const SigAction, old: *mut SigAction) -> c_int;
-        pub fn signal(number: c_int, handler: usize) -> usize;
-    }
-}
-
 /// Where the first of all pages starts.
 static BASE: AtomicUsize = AtomicUsize::new(0);
-/// Whether a page beside the `index`-th was touched.
-static TOUCHED: [AtomicBool; COUNT] = [const { AtomicBool::new(false) }; COUNT];
+/// Whether a guard page of the `index`-th was accessed.
+static ACCESSED: [AtomicBool; COUNT] = [const { AtomicBool::new(false) }; COUNT];
 
 /// Pages that nobody else has until they are dropped.
 pub struct Pages {
@@ -73,7 +35,7 @@ impl Pages {
         Pages { index: free().pop().expect("there are free pages") }
     }
 
-    /// The bytes between the two pages that cannot be touched.
+    /// The bytes between the two guard pages.
     pub fn bytes(&self) -> &[u8] {
         // SAFETY: the bytes are mapped for the life of the process, and no
         // other `Pages` has this index.
@@ -86,28 +48,27 @@ impl Pages {
         unsafe { std::slice::from_raw_parts_mut(self.start(), ROOM) }
     }
 
-    /// The byte at `at`, which may be one of a page that cannot be touched.
+    /// The byte at `at`, which may be one of a guard page.
     pub fn read(&self, at: isize) -> u8 {
-        // SAFETY: the byte is mapped; the page is opened if it cannot be
-        // touched.
+        // SAFETY: the byte is mapped; if it is one of a guard page, that is
+        // opened.
         unsafe { ptr::read_volatile(self.place(at)) }
     }
 
-    /// Writes the byte at `at`, which may be one of a page that cannot be
-    /// touched.
+    /// Writes the byte at `at`, which may be one of a guard page.
     pub fn write(&mut self, at: isize, byte: u8) {
         // SAFETY: as for `read`, and `self` is borrowed mutably.
         unsafe { ptr::write_volatile(self.place(at), byte) }
     }
 
-    /// Whether one of the two pages was touched since last asked. They cannot
-    /// be touched again afterwards.
-    pub fn touched(&mut self) -> bool {
-        let touched = TOUCHED[self.index].swap(false, Ordering::SeqCst);
-        if touched {
+    /// Whether a guard page was accessed since last asked. It cannot be
+    /// accessed again afterwards.
+    pub fn accessed(&mut self) -> bool {
+        let accessed = ACCESSED[self.index].swap(false, Ordering::SeqCst);
+        if accessed {
             close(self.index);
         }
-        touched
+        accessed
     }
 
     fn start(&self) -> *mut u8 {
@@ -123,7 +84,7 @@ impl Pages {
 
 impl Drop for Pages {
     fn drop(&mut self) {
-        self.touched();
+        self.accessed();
         free().push(self.index);
     }
 }
@@ -132,60 +93,49 @@ impl Drop for Pages {
 fn free() -> MutexGuard<'static, Vec<usize>> {
     static FREE: OnceLock<Mutex<Vec<usize>>> = OnceLock::new();
     let free = FREE.get_or_init(|| {
-        map();
+        map_all();
         Mutex::new((0..COUNT).collect())
     });
     free.lock().unwrap_or_else(PoisonError::into_inner)
 }
 
-/// Maps all pages and has touches of those that cannot be touched noted.
-fn map() {
-    // SAFETY: the mapping is new, and the handler does only what a handler may.
-    unsafe {
-        let base = libc::mmap(
-            ptr::null_mut(),
-            STRIDE * COUNT,
-            libc::PROT_READ_WRITE,
-            libc::MAP_PRIVATE_ANONYMOUS,
-            -1,
-            0,
-        );
-        assert!(base.addr() != usize::MAX, "no memory can be mapped");
-        BASE.store(base.expose_provenance(), Ordering::SeqCst);
-        let action = libc::SigAction {
-            handler: note,
-            mask: [0; 16],
-            flags: libc::SA_SIGINFO_ONSTACK,
-            restorer: 0,
-        };
-        let set = libc::sigaction(libc::SIGSEGV, &action, ptr::null_mut());
-        assert!(set == 0, "touches of pages cannot be noted");
-    }
+/// Maps all pages and has accesses of guard pages noted.
+fn map_all() {
+    BASE.store(libc::map(STRIDE * COUNT, 0).expose_provenance(), Ordering::SeqCst);
+    let action = libc::SigAction {
+        handler: note,
+        mask: [0; 16],
+        flags: libc::SA_SIGINFO_ONSTACK,
+        restorer: 0,
+    };
+    // SAFETY: the handler does only what a handler may.
+    let set = unsafe { libc::sigaction(libc::SIGSEGV, &action, ptr::null_mut()) };
+    assert!(set == 0, "accesses of guard pages cannot be noted");
     (0..COUNT).for_each(close);
 }
 
-/// Makes the pages on both sides such that they cannot be touched.
+/// Makes the pages on both sides guard pages, at first or again.
 fn close(index: usize) {
     let before = BASE.load(Ordering::SeqCst) + STRIDE * index;
     for page in [before, before + PAGE + ROOM] {
-        assert!(protect(page, libc::PROT_NONE), "a page cannot be closed");
+        assert!(protect(page, libc::PROT_NONE), "a guard page cannot be made");
     }
 }
 
 fn protect(page: usize, protection: c_int) -> bool {
     let page = ptr::with_exposed_provenance_mut::<c_void>(page);
-    // SAFETY: the page is one of those that `map` mapped, and none of `bytes`.
+    // SAFETY: the page is mapped and is none of those that `bytes` gives.
     unsafe { libc::mprotect(page, PAGE, protection) == 0 }
 }
 
-/// Notes a touch of a page that cannot be touched and opens it. Any other
-/// fault ends the process, as it would without this.
+/// Notes an access of a guard page and opens the page. Any other fault ends
+/// the process, as it would without this.
 extern "C" fn note(_: c_int, info: *const libc::SigInfo, _: *mut c_void) {
     // SAFETY: the kernel gives the address of the fault.
     let address = unsafe { (*info).address };
     let at = address.wrapping_sub(BASE.load(Ordering::SeqCst));
     let opened = at < STRIDE * COUNT && {
-        TOUCHED[at / STRIDE].store(true, Ordering::SeqCst);
+        ACCESSED[at / STRIDE].store(true, Ordering::SeqCst);
         protect(address - address % PAGE, libc::PROT_READ_WRITE)
     };
     if !opened {

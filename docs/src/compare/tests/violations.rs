@@ -2,7 +2,7 @@
 //! any other difference.
 
 use compare::call::Call;
-use compare::device::{Archive, Device, Lending, Slip};
+use compare::device::{Archive, Device, Lending, Misuse};
 use compare::exchange::Exchange;
 use compare::isolation::Pair;
 use compare::limit::Limit;
@@ -13,12 +13,12 @@ use compare::trial::{check, Trial};
 
 const LIMIT: Limit = Limit { count: 20_000, until: None };
 
-fn with(slip: Slip) -> impl Fn() -> Box<dyn Device> {
-    move || Box::new(Archive::new(Some(slip)))
+fn with(misuse: Misuse) -> impl Fn() -> Box<dyn Device> {
+    move || Box::new(Archive::new(Some(misuse)))
 }
 
-fn difference(slip: Slip) -> Difference {
-    compare(3, LIMIT, None, &with(slip)).difference.expect("the slip is found")
+fn difference(misuse: Misuse) -> Difference {
+    compare(3, LIMIT, None, &with(misuse)).difference.expect("it is found")
 }
 
 fn read_behind_request(call: &Call, lending: &mut Lending) {
@@ -48,7 +48,7 @@ fn read_ahead_of_card(call: &Call, lending: &mut Lending) {
 #[test]
 fn a_read_beside_the_request_is_shortened_to_one_command() {
     let Difference { calls, what, .. } = difference(read_behind_request);
-    assert_eq!(what, "  a page beside the request was touched\n");
+    assert_eq!(what, "  a guard page beside the request was accessed\n");
     let [Call::Command { request, .. }] = &calls[..] else { panic!("{calls:?}") };
     assert_eq!(request.place, Place::BeforePage);
 }
@@ -56,7 +56,7 @@ fn a_read_beside_the_request_is_shortened_to_one_command() {
 #[test]
 fn a_read_beside_the_card_keeps_the_card_where_it_shows() {
     let Difference { calls, what, .. } = difference(read_ahead_of_card);
-    assert_eq!(what, "  a page beside the card was touched\n");
+    assert_eq!(what, "  a guard page beside the card was accessed\n");
     let [Call::Card(_) | Call::Setup { .. }, Call::ResetCard] = &calls[..] else {
         panic!("{calls:?}")
     };
@@ -84,9 +84,9 @@ fn a_changed_value_is_told() {
 }
 
 #[test]
-fn trials_of_properties_tell_harm_too() {
-    fn told<T: Trial>(slip: Slip) -> String {
-        check::<T>(3, LIMIT, &with(slip)).1.expect("the slip is found").what
+fn trials_of_properties_tell_violations_too() {
+    fn told<T: Trial>(misuse: Misuse) -> String {
+        check::<T>(3, LIMIT, &with(misuse)).1.expect("it is found").what
     }
     let written = "bytes ahead of the reply buffer were written";
     assert_eq!(told::<Pair>(change_value), "bytes of the value were changed");
