@@ -14,6 +14,7 @@ use plain_card::Card;
 use crate::call::Call;
 use crate::device::Make;
 use crate::draw;
+use crate::memory::{Buffer, Place, Room};
 use crate::random::Random;
 use crate::request::{object_and_parts, object_and_type, request};
 use crate::show::CardBytes;
@@ -57,8 +58,8 @@ impl Trial for RoundTrip {
             return Some("the capture is refused".into());
         }
         let data = object_and_parts(self.target_set, &captured[8..]);
-        let request = request(Opcode::PartsSet, self.to, &data).into();
-        if target.reply(&Call::Command { request, room: 8.into() }) != (8, vec![0; 8]) {
+        let set = command(request(Opcode::PartsSet, self.to, &data), 8);
+        if target.reply(&set) != (8, vec![0; 8]) {
             return Some("the captured parts are not accepted".into());
         }
         if target.reply(&capture(self.to, self.target_get)) != (length, captured) {
@@ -97,8 +98,13 @@ fn live(random: &mut Random, card: &mut Card, member: u64, kind: Kind) -> u32 {
 
 /// A full capture, with a buffer long enough for four queues.
 fn capture(member: u64, id: u32) -> Call {
-    let request = request(Opcode::PartsGet, member, &object_and_type(id, 1, &[])).into();
-    Call::Command { request, room: (8 + 157 + 72 * 4).into() }
+    command(request(Opcode::PartsGet, member, &object_and_type(id, 1, &[])), 8 + 157 + 72 * 4)
+}
+
+/// A command whose buffers lie right before guard pages.
+fn command(request: Vec<u8>, length: usize) -> Call {
+    let place = Place::BeforePage;
+    Call::Command { request: Buffer { bytes: request, place }, room: Room { length, place } }
 }
 
 impl fmt::Display for RoundTrip {

@@ -62,25 +62,42 @@ impl Difference {
         make: Make,
     ) -> Difference {
         let difference = |calls: &[Call]| Pair::new(fault, make).replay(calls);
-        let mut calls = shrink(calls, |calls| difference(calls).is_some());
+        let shows = |calls: &[Call]| difference(calls).is_some();
+        let mut calls = shrink(calls, shows);
         for at in 0..calls.len() {
-            let mut usual = calls.clone();
-            usual[at] = calls[at].at_usual_places();
-            if difference(&usual).is_some() {
-                calls = usual;
-            }
-            let Call::Card(Buffer { bytes, place }) = &calls[at] else { continue };
-            let Some(card) = bytes::read(bytes).filter(Card::is_sound) else { continue };
-            let with = |card: &Card| {
-                let mut calls = calls.clone();
-                calls[at] = Call::Card(Buffer { bytes: bytes::write(card), place: *place });
-                calls
-            };
-            calls = with(&simplify(card, |card| difference(&with(card)).is_some()));
+            calls[at] = at_usual_places(&calls, at, shows);
+            calls[at] = with_simpler_card(&calls, at, shows);
         }
         let what = difference(&calls).unwrap_or_default();
         Difference { sequence, calls, what }
     }
+}
+
+/// The calls with another one at `at`.
+fn with(calls: &[Call], at: usize, call: Call) -> Vec<Call> {
+    let mut calls = calls.to_vec();
+    calls[at] = call;
+    calls
+}
+
+/// The call at `at` with its buffers at the usual places, if that still shows
+/// it.
+fn at_usual_places(calls: &[Call], at: usize, shows: impl Fn(&[Call]) -> bool) -> Call {
+    let usual = calls[at].at_usual_places();
+    if shows(&with(calls, at, usual.clone())) {
+        usual
+    } else {
+        calls[at].clone()
+    }
+}
+
+/// The call at `at`; if it is a sound card, with as much of it fresh as still
+/// shows it.
+fn with_simpler_card(calls: &[Call], at: usize, shows: impl Fn(&[Call]) -> bool) -> Call {
+    let Call::Card(Buffer { bytes, place }) = &calls[at] else { return calls[at].clone() };
+    let Some(card) = bytes::read(bytes).filter(Card::is_sound) else { return calls[at].clone() };
+    let call = |card: &Card| Call::Card(Buffer { bytes: bytes::write(card), place: *place });
+    call(&simplify(card, |card| shows(&with(calls, at, call(card)))))
 }
 
 /// The plain card and the device it is compared with.

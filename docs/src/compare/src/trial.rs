@@ -8,6 +8,7 @@ use crate::call::Call;
 use crate::device::{see, Device, Make, Plain, Seen};
 use crate::draw::{self, Favoured};
 use crate::limit::Limit;
+use crate::memory::{Buffer, Place};
 use crate::random::Random;
 
 /// A trial of a property.
@@ -86,10 +87,11 @@ pub struct Side {
 }
 
 impl Side {
-    /// A new device with this card.
+    /// A new device with this card, right before a guard page.
     pub fn new(make: Make, card: &Card) -> Side {
         let mut side = Side { device: make(), violations: vec![] };
-        side.see(&Call::Card(bytes::write(card).into()));
+        let card = Buffer { bytes: bytes::write(card), place: Place::BeforePage };
+        side.see(&Call::Card(card));
         side
     }
 
