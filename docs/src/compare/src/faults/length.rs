@@ -8,7 +8,7 @@ use plain_card::part::HEADER;
 use plain_card::status::Refusal;
 use plain_card::Card;
 
-use super::tools::{each_part, framed, list_start, named, operation, parts};
+use super::tools::{each_part, framed, given, list_start, named, operation, parts};
 use super::{fault, Fault, Plant};
 use crate::call::Call;
 
@@ -78,12 +78,12 @@ fn sets(card: &Card, request: &[u8]) -> bool {
 }
 
 fn over_40_parts(card: &Card, request: &[u8], _: usize) -> Option<Refusal> {
-    let long = sets(card, request) && parts(card, request).len() > 40;
-    long.then_some(Refusal::BadList)
+    (given(card, request)?.len() > 40).then_some(Refusal::BadList)
 }
 
 fn over_4000_bytes(card: &Card, request: &[u8], _: usize) -> Option<Refusal> {
-    (sets(card, request) && request.len() > 4000).then_some(Refusal::BadList)
+    given(card, request)?;
+    (request.len() > 4000).then_some(Refusal::BadList)
 }
 
 /// Parts behind the 128th are taken for unknown ones that are skipped.

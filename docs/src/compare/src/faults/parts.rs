@@ -11,7 +11,7 @@ use plain_card::part::{inventory, Part, HEADER, OPTIONAL, RESERVED_TYPES};
 use plain_card::status::Refusal;
 use plain_card::Card;
 
-use super::tools::{each_part, list_start, named, operation, parts};
+use super::tools::{each_part, given, list_start, named, operation, parts};
 use super::{breaking, fault, Fault, Outcome, Plant, Property};
 use crate::call::Call;
 use crate::device::Plain;
@@ -71,16 +71,6 @@ fn repeats_dropped(card: &Card, request: &mut Vec<u8>) {
             request.drain(range);
         }
     }
-}
-
-/// Headers of the parts that a set command gives on a stopped member.
-fn given<'a>(card: &Card, request: &'a [u8]) -> Option<Vec<&'a [u8]>> {
-    let mut copy = card.clone();
-    let mut reply = [0; 8];
-    command(&mut copy, request, &mut reply);
-    let set = matches!(operation(card, request)?, (_, Operation::PartsSet(..)));
-    let parts = parts(card, request).into_iter().map(|range| &request[range]).collect();
-    (set && reply == [0; 8]).then_some(parts)
 }
 
 fn optional_refused(card: &Card, request: &[u8], _: usize) -> Option<Refusal> {
