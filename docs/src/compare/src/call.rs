@@ -4,6 +4,7 @@ use std::fmt;
 
 use plain_card::frame::{Frame, GROUP};
 
+use crate::memory::{Buffer, Place, Room};
 use crate::show::{CardBytes, Hex};
 
 /// A call, or the card that a sequence goes on with.
@@ -11,40 +12,94 @@ use crate::show::{CardBytes, Hex};
 pub enum Call {
     /// The length of a card with so many members.
     CardBytes(u64),
-    /// Setup in a buffer of `length` bytes.
-    Setup { numbers: [u64; 4], features: Vec<u8>, length: usize },
+    /// Setup in a buffer.
+    Setup { numbers: [u64; 4], features: Buffer, card: Room },
     /// These bytes become the card.
-    Card(Vec<u8>),
-    /// A command with a reply buffer of `room` bytes.
-    Command { request: Vec<u8>, room: usize },
+    Card(Buffer),
+    /// A command with a reply buffer.
+    Command { request: Buffer, room: Room },
     /// Reset of one member.
     ResetMember(u64),
     /// Reset of the whole card.
     ResetCard,
     /// Card store.
-    Store { member: u64, part_type: u16, selector: u64, value: Vec<u8> },
+    Store { member: u64, part_type: u16, selector: u64, value: Buffer },
 }
 
 impl Call {
-    /// The length of the reply buffer.
-    pub fn room(&self) -> usize {
+    /// The reply buffer.
+    pub fn room(&self) -> Room {
         match self {
             Call::Command { room, .. } => *room,
-            _ => 0,
+            _ => 0.into(),
         }
     }
 
-    /// Whether the call "names m" in the sense of document 01.
-    pub fn names(&self, m: u64) -> bool {
+    /// The bytes that the call only reads, and what they are.
+    pub fn input(&self) -> Option<(&'static str, &Buffer)> {
         match self {
-            Call::Command { request, .. } => Frame::read(request).is_ok_and(|frame| {
-                frame.group_type == GROUP
-                    && (0x0a..=0x11).contains(&frame.opcode)
-                    && frame.member == m
-            }),
-            Call::Store { member, .. } => *member == m,
-            _ => false,
+            Call::Setup { features, .. } => Some(("features", features)),
+            Call::Command { request, .. } => Some(("request", request)),
+            Call::Store { value, .. } => Some(("value", value)),
+            _ => None,
         }
+    }
+
+    /// The member that the call names in the sense of document 01, whether the
+    /// card has it or not.
+    pub fn named(&self) -> Option<u64> {
+        match self {
+            Call::Command { request, .. } => {
+                let frame = Frame::read(request).ok()?;
+                let names = frame.group_type == GROUP && (0x0a..=0x11).contains(&frame.opcode);
+                names.then_some(frame.member)
+            }
+            Call::Store { member, .. } => Some(*member),
+            _ => None,
+        }
+    }
+
+    /// The call with its buffers where they lie if nothing depends on it.
+    pub fn at_usual_places(&self) -> Call {
+        let mut call = self.clone();
+        match &mut call {
+            Call::Setup { features, card, .. } => {
+                features.place = Place::USUAL;
+                card.place = Place::USUAL;
+            }
+            Call::Card(bytes) => bytes.place = Place::USUAL,
+            Call::Command { request, room } => {
+                request.place = Place::USUAL;
+                room.place = Place::USUAL;
+            }
+            Call::Store { value, .. } => value.place = Place::USUAL,
+            Call::CardBytes(_) | Call::ResetMember(_) | Call::ResetCard => {}
+        }
+        call
+    }
+}
+
+impl fmt::Display for Place {
+    /// Nothing for the usual place.
+    fn fmt(&self, f: &mut fmt::Formatter) -> fmt::Result {
+        match self {
+            Place::Offset(0) => Ok(()),
+            Place::Offset(offset) => write!(f, " (at offset {offset})"),
+            Place::AfterPage => write!(f, " (right after a guard page)"),
+            Place::BeforePage => write!(f, " (right before a guard page)"),
+        }
+    }
+}
+
+impl fmt::Display for Buffer {
+    fn fmt(&self, f: &mut fmt::Formatter) -> fmt::Result {
+        write!(f, "{}{}", Hex(self), self.place)
+    }
+}
+
+impl fmt::Display for Room {
+    fn fmt(&self, f: &mut fmt::Formatter) -> fmt::Result {
+        write!(f, "{}{}", self.length, self.place)
     }
 }
 
@@ -52,21 +107,55 @@ impl fmt::Display for Call {
     fn fmt(&self, f: &mut fmt::Formatter) -> fmt::Result {
         match self {
             Call::CardBytes(members) => write!(f, "length of a card with {members} members"),
-            Call::Setup { numbers: [n, q, g, s], features, length } => {
-                write!(f, "setup N={n} Q={q} G={g} S={s}, features {}", Hex(features))?;
-                write!(f, ", in a buffer of {length}")
+            Call::Setup { numbers: [n, q, g, s], features, card } => {
+                write!(f, "setup N={n} Q={q} G={g} S={s}, features {features}")?;
+                write!(f, ", in a buffer of {card}")
             }
-            Call::Card(bytes) => write!(f, "{}", CardBytes(bytes)),
+            Call::Card(bytes) => write!(f, "{}{}", CardBytes(bytes), bytes.place),
             Call::Command { request, room } => {
-                write!(f, "command of {} bytes: {}", request.len(), Hex(request))?;
+                write!(f, "command of {} bytes: {request}", request.len())?;
                 write!(f, ", reply buffer of {room}")
             }
             Call::ResetMember(member) => write!(f, "reset of member {member}"),
             Call::ResetCard => write!(f, "reset of the whole card"),
             Call::Store { member, part_type, selector, value } => {
                 write!(f, "store, member {member}, type {part_type:#x}, selector {selector:#x}")?;
-                write!(f, ", value {}", Hex(value))
+                write!(f, ", value of {} bytes: {value}", value.len())
             }
         }
+    }
+}
+
+#[cfg(test)]
+mod tests {
+    use super::*;
+    use crate::request::request;
+    use plain_card::opcode::Opcode;
+
+    fn command(request: Vec<u8>) -> Call {
+        Call::Command { request: request.into(), room: 8.into() }
+    }
+
+    #[test]
+    fn a_command_names_its_member_if_it_has_one() {
+        for opcode in Opcode::ALL {
+            let named = opcode.names_member().then_some(7);
+            assert_eq!(command(request(opcode, 7, &[])).named(), named);
+        }
+        let good = request(Opcode::Query, 7, &[]);
+        assert_eq!(command(good[..23].to_vec()).named(), None);
+        let mut other_group = good.clone();
+        other_group[2] = 2;
+        assert_eq!(command(other_group).named(), None);
+        assert_eq!(command([good, vec![0; 4073]].concat()).named(), None);
+    }
+
+    #[test]
+    fn a_store_names_its_member_and_a_reset_does_not() {
+        let value = vec![].into();
+        let store = Call::Store { member: 99, part_type: 0, selector: 0, value };
+        assert_eq!(store.named(), Some(99));
+        assert_eq!(Call::ResetMember(1).named(), None);
+        assert_eq!(Call::ResetCard.named(), None);
     }
 }

@@ -28,15 +28,17 @@ const COMMANDS: [&str; 11] = [
     "mode set",
     "other requests",
 ];
-const EVENTS: [&str; 4] = ["setup", "reset of a member", "reset of the card", "card store"];
+const EVENTS: [&str; 5] =
+    ["setup", "reset of a member", "reset of the card", "card store", "is sound"];
 
 /// How often a kind of call was answered in one way.
 #[derive(Default)]
 pub struct Coverage(BTreeMap<(&'static str, String), u64>);
 
 impl Coverage {
-    /// Counts a call and its answer.
+    /// Counts a call and its answer, and whether the card after it is sound.
     pub fn note(&mut self, call: &Call, seen: &Seen) {
+        self.count(EVENTS[4], seen.sound.to_string());
         let (kind, answer) = match call {
             Call::CardBytes(_) | Call::Card(_) => return,
             Call::Command { request, .. } => (command(request), status(seen)),
@@ -45,6 +47,10 @@ impl Coverage {
             Call::ResetCard => (EVENTS[2], seen.answer.to_string()),
             Call::Store { .. } => (EVENTS[3], seen.answer.to_string()),
         };
+        self.count(kind, answer);
+    }
+
+    fn count(&mut self, kind: &'static str, answer: String) {
         *self.0.entry((kind, answer)).or_default() += 1;
     }
 

@@ -12,16 +12,17 @@ use plain_card::opcode::Opcode;
 use plain_card::Card;
 
 use crate::call::Call;
-use crate::device::see;
+use crate::device::Make;
 use crate::draw;
+use crate::memory::{Buffer, Place, Room};
 use crate::random::Random;
 use crate::request::{object_and_parts, object_and_type, request};
-use crate::sequence::{Limit, Make};
 use crate::show::CardBytes;
+use crate::trial::{Side, Trial};
 
 /// A source with a live get object and a target with a live object of each
 /// kind, which is stopped. The ids are those of the live objects.
-pub struct Trial {
+pub struct RoundTrip {
     source: Card,
     from: u64,
     source_get: u32,
@@ -31,22 +32,8 @@ pub struct Trial {
     target_set: u32,
 }
 
-/// Tries cards on a device. Tells how many, and the first that fails.
-pub fn check(seed: u64, limit: Limit, make: Make) -> (u64, Option<Trial>) {
-    for index in 0.. {
-        if limit.reached(index) {
-            return (index, None);
-        }
-        let trial = Trial::draw(&mut Random::new(seed, index));
-        if !trial.holds(make) {
-            return (index + 1, Some(trial));
-        }
-    }
-    unreachable!("the indices do not end")
-}
-
-impl Trial {
-    fn draw(random: &mut Random) -> Trial {
+impl Trial for RoundTrip {
+    fn draw(random: &mut Random) -> RoundTrip {
         let mut source = card_with_objects(random);
         source.in_use |= Opcode::PartsGet.bit();
         let mut target = source.clone();
@@ -60,25 +47,25 @@ impl Trial {
         let target_get = live(random, &mut target, to, Kind::Get);
         let target_set = live(random, &mut target, to, Kind::Set);
         target.member_mut(to).mode = Mode::Stopped;
-        Trial { source, from, source_get, target, to, target_get, target_set }
+        RoundTrip { source, from, source_get, target, to, target_get, target_set }
     }
 
-    /// Whether the device takes the capture and gives it back.
-    fn holds(&self, make: Make) -> bool {
-        let mut source = make();
-        let mut target = make();
-        see(source.as_mut(), &Call::Card(bytes::write(&self.source)));
-        see(target.as_mut(), &Call::Card(bytes::write(&self.target)));
-        let captured = see(source.as_mut(), &capture(self.from, self.source_get));
-        let parts = &captured.reply[8..captured.answer.max(8)];
-        let data = object_and_parts(self.target_set, parts);
-        let request = request(Opcode::PartsSet, self.to, &data);
-        let accepted = see(target.as_mut(), &Call::Command { request, room: 8 });
-        let again = see(target.as_mut(), &capture(self.to, self.target_get));
-        captured.reply[..8] == [0; 8]
-            && accepted.reply == [0; 8]
-            && again.answer == captured.answer
-            && again.reply == captured.reply
+    fn failure(&self, make: Make) -> Option<String> {
+        let mut source = Side::new(make, &self.source);
+        let mut target = Side::new(make, &self.target);
+        let (length, captured) = source.reply(&capture(self.from, self.source_get));
+        if captured.get(..8) != Some(&[0; 8]) {
+            return Some("the capture is refused".into());
+        }
+        let data = object_and_parts(self.target_set, &captured[8..]);
+        let set = command(request(Opcode::PartsSet, self.to, &data), 8);
+        if target.reply(&set) != (8, vec![0; 8]) {
+            return Some("the captured parts are not accepted".into());
+        }
+        if target.reply(&capture(self.to, self.target_get)) != (length, captured) {
+            return Some("another capture after the parts are set".into());
+        }
+        source.violations().or(target.violations())
     }
 }
 
@@ -111,13 +98,18 @@ fn live(random: &mut Random, card: &mut Card, member: u64, kind: Kind) -> u32 {
 
 /// A full capture, with a buffer long enough for four queues.
 fn capture(member: u64, id: u32) -> Call {
-    let request = request(Opcode::PartsGet, member, &object_and_type(id, 1, &[]));
-    Call::Command { request, room: 8 + 157 + 72 * 4 }
+    command(request(Opcode::PartsGet, member, &object_and_type(id, 1, &[])), 8 + 157 + 72 * 4)
 }
 
-impl fmt::Display for Trial {
+/// A command whose buffers lie right before guard pages.
+fn command(request: Vec<u8>, length: usize) -> Call {
+    let place = Place::BeforePage;
+    Call::Command { request: Buffer { bytes: request, place }, room: Room { length, place } }
+}
+
+impl fmt::Display for RoundTrip {
     fn fmt(&self, f: &mut fmt::Formatter) -> fmt::Result {
-        let Trial { from, source_get, to, target_get, target_set, .. } = self;
+        let RoundTrip { from, source_get, to, target_get, target_set, .. } = self;
         writeln!(f, "from member {from}, get object {source_get}")?;
         writeln!(f, "  {}", CardBytes(&bytes::write(&self.source)))?;
         writeln!(f, "to member {to}, get object {target_get}, set object {target_set}")?;

@@ -2,37 +2,19 @@
 //! device, with everything that a call shows compared after each.
 
 use std::fmt;
-use std::time::Instant;
 
 use plain_card::bytes::{self, HEADER, RECORD};
 use plain_card::Card;
 
 use crate::call::Call;
 use crate::coverage::Coverage;
-use crate::device::{see, Device, Plain, Seen};
-use crate::draw;
+use crate::device::{see, Device, Make, Plain, Seen};
+use crate::draw::{self, Favoured};
 use crate::faults::{Fault, Faulty};
+use crate::limit::Limit;
+use crate::memory::Buffer;
 use crate::random::Random;
 use crate::shrink::{shrink, simplify};
-
-/// Makes the device that the plain card is compared with.
-pub type Make<'a> = &'a dyn Fn() -> Box<dyn Device>;
-
-/// When to stop.
-#[derive(Clone, Copy, Debug)]
-pub struct Limit {
-    /// After so many calls, or trials.
-    pub count: u64,
-    /// At this time, even if some are left.
-    pub until: Option<Instant>,
-}
-
-impl Limit {
-    /// Whether it is time to stop after `count` of them.
-    pub fn reached(&self, count: u64) -> bool {
-        count >= self.count || self.until.is_some_and(|until| Instant::now() >= until)
-    }
-}
 
 /// A difference between plain card and device.
 pub struct Difference {
@@ -80,20 +62,42 @@ impl Difference {
         make: Make,
     ) -> Difference {
         let difference = |calls: &[Call]| Pair::new(fault, make).replay(calls);
-        let mut calls = shrink(calls, |calls| difference(calls).is_some());
+        let shows = |calls: &[Call]| difference(calls).is_some();
+        let mut calls = shrink(calls, shows);
         for at in 0..calls.len() {
-            let Call::Card(bytes) = &calls[at] else { continue };
-            let Some(card) = bytes::read(bytes).filter(Card::is_sound) else { continue };
-            let with = |card: &Card| {
-                let mut calls = calls.clone();
-                calls[at] = Call::Card(bytes::write(card));
-                calls
-            };
-            calls = with(&simplify(card, |card| difference(&with(card)).is_some()));
+            calls[at] = at_usual_places(&calls, at, shows);
+            calls[at] = with_simpler_card(&calls, at, shows);
         }
         let what = difference(&calls).unwrap_or_default();
         Difference { sequence, calls, what }
     }
+}
+
+/// The calls with another one at `at`.
+fn with(calls: &[Call], at: usize, call: Call) -> Vec<Call> {
+    let mut calls = calls.to_vec();
+    calls[at] = call;
+    calls
+}
+
+/// The call at `at` with its buffers at the usual places, if that still shows
+/// it.
+fn at_usual_places(calls: &[Call], at: usize, shows: impl Fn(&[Call]) -> bool) -> Call {
+    let usual = calls[at].at_usual_places();
+    if shows(&with(calls, at, usual.clone())) {
+        usual
+    } else {
+        calls[at].clone()
+    }
+}
+
+/// The call at `at`; if it is a sound card, with as much of it fresh as still
+/// shows it.
+fn with_simpler_card(calls: &[Call], at: usize, shows: impl Fn(&[Call]) -> bool) -> Call {
+    let Call::Card(Buffer { bytes, place }) = &calls[at] else { return calls[at].clone() };
+    let Some(card) = bytes::read(bytes).filter(Card::is_sound) else { return calls[at].clone() };
+    let call = |card: &Card| Call::Card(Buffer { bytes: bytes::write(card), place: *place });
+    call(&simplify(card, |card| shows(&with(calls, at, call(card)))))
 }
 
 /// The plain card and the device it is compared with.
@@ -111,6 +115,7 @@ impl Pair {
     /// Makes random calls up to the first difference and tells them.
     fn run(&mut self, random: &mut Random, coverage: &mut Coverage) -> Vec<Call> {
         let length = 1 + random.below(80);
+        let favoured = Favoured::draw(random);
         let mut calls = vec![draw::first(random)];
         loop {
             let call = &calls[calls.len() - 1];
@@ -119,7 +124,7 @@ impl Pair {
             if self.difference.is_some() || calls.len() == length {
                 return calls;
             }
-            calls.push(draw::next(random, card.as_ref()));
+            calls.push(draw::next(random, card.as_ref(), favoured));
         }
     }
 
@@ -144,7 +149,9 @@ impl Pair {
             let answer = differs("answer or bytes written", expected.answer, seen.answer);
             let reply = first_difference("reply", &expected.reply, &seen.reply);
             let card = first_difference("card", &expected.card, &seen.card);
-            self.difference = Some([answer, reply, card].concat());
+            let sound = differs("is sound", expected.sound, seen.sound);
+            let violations = seen.violations.iter().map(|what| format!("  {what}\n")).collect();
+            self.difference = Some([answer, reply, card, sound, violations].concat());
         } else if read != self.plain.plain {
             self.difference = Some("the card read from the bytes differs".into());
         }
@@ -187,7 +194,9 @@ fn place(at: usize) -> String {
 
 impl fmt::Display for Difference {
     fn fmt(&self, f: &mut fmt::Formatter) -> fmt::Result {
-        writeln!(f, "sequence {}, shortened to {} calls:", self.sequence, self.calls.len())?;
+        let count = self.calls.len();
+        let calls = if count == 1 { "call" } else { "calls" };
+        writeln!(f, "sequence {}, shortened to {count} {calls}:", self.sequence)?;
         for call in &self.calls {
             writeln!(f, "  {call}")?;
         }

@@ -3,7 +3,9 @@
 use compare::call::Call;
 use compare::device::Device;
 use compare::fast;
-use compare::sequence::{compare, Limit};
+use compare::limit::Limit;
+use compare::memory::Lent;
+use compare::sequence::compare;
 use plain_card::exported;
 
 /// The fast card over its bytes.
@@ -11,19 +13,19 @@ use plain_card::exported;
 struct Fast(Vec<u8>);
 
 impl Device for Fast {
-    fn call(&mut self, call: &Call, reply: &mut [u8]) -> usize {
+    fn call(&mut self, call: &Call, reply: &mut Lent) -> usize {
         let card = &mut self.0;
         match call {
             Call::CardBytes(members) => exported::card_bytes(*members),
-            Call::Setup { numbers: [n, q, g, s], features, length } => {
-                card.resize(*length, 0);
+            Call::Setup { numbers: [n, q, g, s], features, card: room } => {
+                card.resize(room.length, 0);
                 exported::setup(card, *n, *q, *g, *s, features).into()
             }
             Call::Card(bytes) => {
-                card.clone_from(bytes);
+                card.clone_from(&bytes.bytes);
                 0
             }
-            Call::Command { request, .. } => fast::command(card, request, reply),
+            Call::Command { request, .. } => fast::command(card, request, reply.bytes_mut()),
             Call::ResetMember(member) => exported::reset_member(card, *member).into(),
             Call::ResetCard => exported::reset_card(card).into(),
             Call::Store { member, part_type, selector, value } => {
@@ -34,6 +36,10 @@ impl Device for Fast {
 
     fn card(&self) -> Vec<u8> {
         self.0.clone()
+    }
+
+    fn is_sound(&mut self) -> u8 {
+        exported::is_sound(&self.0)
     }
 }
 

@@ -1,4 +1,4 @@
-//! The archive's six functions, over the card's bytes, by the plain card.
+//! The archive's functions, over the card's bytes, by the plain card.
 //!
 //! A card is read from its bytes, the plain card does its work, and the bytes
 //! are written back. Bytes that say no card are those of a card not sound.
@@ -42,6 +42,11 @@ pub fn setup(
             answer(Err(EventError::BadSetup))
         }
     }
+}
+
+/// Whether the bytes are a sound card: 1 or 0.
+pub fn is_sound(card: &[u8]) -> u8 {
+    read(card).is_some_and(|card| card.is_sound()).into()
 }
 
 /// Hears a command; tells the bytes written to `reply`.

@@ -15,7 +15,7 @@
 //! | [`command`](mod@command), [`effect`] | the twelve steps, and what a command does |
 //! | [`event`] | resets and card store |
 //! | [`status`] | the numbers of the answers |
-//! | [`bytes`], [`exported`] | the card as bytes, and the archive's six functions over them |
+//! | [`bytes`], [`exported`] | the card as bytes, and the archive's functions over them |
 
 #![forbid(unsafe_code)]
 #![deny(missing_docs)]

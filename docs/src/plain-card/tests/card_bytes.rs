@@ -17,6 +17,7 @@ fn sound(card: &[u8]) -> bool {
     let mut copy = card.to_vec();
     let sound = bytes::read(card).is_some_and(|card| card.is_sound());
     // Every entry agrees on it, and refuses without a change.
+    assert_eq!(exported::is_sound(card), u8::from(sound));
     let mut reply = [PATTERN; 8];
     assert_eq!(exported::command(&mut copy, &[], &mut reply) != 0, sound);
     assert_eq!(exported::store(&mut copy, 0, 0, 0, &[]) != 9, sound);

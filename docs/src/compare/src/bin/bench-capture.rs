@@ -2,8 +2,10 @@
 //! plain Rust over bytes, with the same input in the same process.
 
 use std::hint::black_box;
+use std::process::ExitCode;
 use std::time::Instant;
 
+use compare::arguments;
 use compare::fast;
 use compare::random::Random;
 use compare::request::{object_and_type, request};
@@ -24,7 +26,20 @@ const REPLY: usize = 8 + 157 + 72 * QUEUES as usize;
 /// Hears a request and tells the bytes written.
 type Hear = Box<dyn FnMut(&[u8], &mut [u8]) -> usize>;
 
-fn main() {
+const USAGE: &str = "\
+bench-capture [--help]
+  times full captures by the archive and by two plain Rust programs, and prints
+  the ratios";
+
+fn main() -> ExitCode {
+    if let Err(stop) = arguments::none(arguments::of_process()) {
+        return stop.tell(USAGE);
+    }
+    print_times();
+    ExitCode::SUCCESS
+}
+
+fn print_times() {
     let card = full_card();
     let requests: Vec<Vec<u8>> = (1..=MEMBERS)
         .map(|member| request(Opcode::PartsGet, member, &object_and_type(0, 1, &[])))

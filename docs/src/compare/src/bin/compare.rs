@@ -1,91 +1,153 @@
 //! Compares the archive with the plain card on random sequences of calls, and
-//! tries isolation (demand 3) and the round trip (demand 2) on the archive.
+//! tries isolation (demand 3), the round trip (demand 2) and exchanges of
+//! neighbouring calls on the archive.
 
 use std::process::ExitCode;
 use std::time::{Duration, Instant};
 
-use compare::device::{Archive, Device};
-use compare::faults::{self, Demand, Fault, Faulty};
-use compare::sequence::{compare, Limit};
-use compare::{isolation, round_trip};
+use compare::arguments::{self, Options};
+use compare::device::{Archive, Device, Make};
+use compare::exchange::Exchange;
+use compare::faults::{self, Fault, Faulty, Plant, Property};
+use compare::isolation::Pair;
+use compare::limit::Limit;
+use compare::round_trip::RoundTrip;
+use compare::sequence::compare;
+use compare::trial::{check, Trial};
 
 const USAGE: &str = "\
-compare [--seed N] [--calls N] [--seconds N] [--teeth]
-  --seed N     another seed (default 1)
-  --calls N    calls to compare (default 1000000); for every 250 calls one pair of
-               sequences is tried for isolation, for every 100 one round trip
-  --seconds N  instead, as many as can be made in so many seconds, a third each
-  --teeth      instead, plant each fault in the plain card and tell how many
-               calls, pairs or round trips it takes to find it";
-
-/// What the command line asks.
-struct Options {
-    seed: u64,
-    calls: Option<u64>,
-    seconds: Option<u64>,
-    teeth: bool,
-}
+compare [--seed N] [--calls N] [--seconds N] [--planted-faults] [--help]
+  --seed N          another seed (default 1)
+  --calls N         calls to compare (default 1000000, at least 1); for every 250
+                    calls one pair of sequences is tried for isolation, for every
+                    100 one round trip and one exchange of neighbouring calls
+  --seconds N       instead, as many as can be made in so many seconds (at least
+                    1), a quarter each
+  --planted-faults  instead, plant each fault in the plain card and tell how many
+                    calls, pairs, round trips or exchanges it takes to find it
+  --help            print this";
 
 fn main() -> ExitCode {
-    let Some(options) = options(std::env::args().skip(1)) else {
-        eprintln!("{USAGE}");
-        return ExitCode::from(2);
+    let options = match Options::read(arguments::of_process()) {
+        Ok(options) => options,
+        Err(stop) => return stop.tell(USAGE),
     };
-    let good = if options.teeth { teeth(&options) } else { all_alike(&options) };
+    let run = Run { options };
+    let good = if run.options.planted_faults { run.all_found() } else { run.all_alike() };
     ExitCode::from(u8::from(!good))
 }
 
-fn options(mut arguments: impl Iterator<Item = String>) -> Option<Options> {
-    let mut options = Options { seed: 1, calls: None, seconds: None, teeth: false };
-    while let Some(argument) = arguments.next() {
-        match argument.as_str() {
-            "--seed" => options.seed = arguments.next()?.parse().ok()?,
-            "--calls" => options.calls = Some(arguments.next()?.parse().ok()?),
-            "--seconds" => options.seconds = Some(arguments.next()?.parse().ok()?),
-            "--teeth" => options.teeth = true,
-            _ => return None,
-        }
-    }
-    Some(options)
+/// A run with the options of the command line.
+struct Run {
+    options: Options,
 }
 
-impl Options {
-    /// A limit for one of the three checks, from now on.
-    fn limit(&self, count: u64) -> Limit {
-        let third = |seconds| Instant::now() + Duration::from_secs(seconds) / 3;
-        Limit { count, until: self.seconds.map(third) }
+impl Run {
+    fn calls(&self) -> Limit {
+        self.limit(1)
     }
 
-    fn calls(&self) -> u64 {
-        let default = if self.seconds.is_some() { u64::MAX } else { 1_000_000 };
-        self.calls.unwrap_or(default)
+    /// How long a property is tried.
+    fn trials(&self, property: Property) -> Limit {
+        match property {
+            Property::Isolation => self.limit(250),
+            Property::RoundTrip | Property::Exchange => self.limit(100),
+        }
     }
 
-    fn pairs(&self) -> u64 {
-        self.calls().div_ceil(250)
+    /// The limit of one of the four checks, from now on: one for every so many
+    /// calls.
+    fn limit(&self, calls_each: u64) -> Limit {
+        let default = if self.options.seconds.is_some() { u64::MAX } else { 1_000_000 };
+        let quarter = |seconds| Instant::now() + Duration::from_secs(seconds) / 4;
+        Limit {
+            count: self.options.calls.unwrap_or(default).div_ceil(calls_each),
+            until: self.options.seconds.map(quarter),
+        }
     }
 
-    fn round_trips(&self) -> u64 {
-        self.calls().div_ceil(100)
+    /// Runs the four checks on the archive.
+    fn all_alike(&self) -> bool {
+        let seed = self.options.seed;
+        let comparison = compare(seed, self.calls(), None, &archive);
+        print!("{}", comparison.coverage);
+        let alike = report(seed, "calls compared", comparison.calls, comparison.difference);
+        let properties = [Property::Isolation, Property::RoundTrip, Property::Exchange];
+        properties.map(|property| self.holds(property)).iter().all(|holds| *holds) && alike
+    }
+
+    /// Tries a property on the archive and reports it.
+    fn holds(&self, property: Property) -> bool {
+        let (count, failure) = self.check(property, &archive);
+        report(self.options.seed, &format!("{} tried", name(property)), count, failure)
+    }
+
+    /// Tries a property on a device. Tells how often, and the first failure.
+    fn check(&self, property: Property, make: Make) -> (u64, Option<String>) {
+        match property {
+            Property::Isolation => self.check_trials::<Pair>(property, make),
+            Property::RoundTrip => self.check_trials::<RoundTrip>(property, make),
+            Property::Exchange => self.check_trials::<Exchange>(property, make),
+        }
+    }
+
+    fn check_trials<T: Trial>(&self, property: Property, make: Make) -> (u64, Option<String>) {
+        let (count, failure) = check::<T>(self.options.seed, self.trials(property), make);
+        (count, failure.map(|failure| failure.to_string()))
+    }
+
+    /// Plants each fault in turn and tells what it takes to find it.
+    fn all_found(&self) -> bool {
+        println!("{:<46} {:>10}  besides", "planted fault", "calls");
+        let all = faults::all();
+        let missed = all.iter().filter(|fault| !self.finds(fault)).count();
+        println!("{} planted faults, {missed} not found", all.len());
+        missed == 0
+    }
+
+    /// Whether the checks find the fault: the comparison, and those of the
+    /// properties that it breaks.
+    fn finds(&self, fault: &'static Fault) -> bool {
+        let misuse = match fault.plant {
+            Plant::Misuse(misuse) => Some(misuse),
+            _ => None,
+        };
+        let archive = || -> Box<dyn Device> { Box::new(Archive::new(misuse)) };
+        let comparison = compare(self.options.seed, self.calls(), Some(fault), &archive);
+        let faulty = || -> Box<dyn Device> { Box::new(Faulty::new(Some(fault))) };
+        let mut found = comparison.difference.is_some();
+        let calls = number(comparison.calls, found);
+        let mut besides = vec![];
+        for property in fault.breaks {
+            let (count, failure) = self.check(*property, &faulty);
+            besides.push(format!("{}: {}", name(*property), number(count, failure.is_some())));
+            found &= failure.is_some();
+        }
+        println!("{:<46} {calls:>10}  {}", fault.name, besides.join(", "));
+        found
+    }
+}
+
+/// What a property is tried on.
+fn name(property: Property) -> &'static str {
+    match property {
+        Property::Isolation => "isolation pairs",
+        Property::RoundTrip => "round trips",
+        Property::Exchange => "exchanges",
+    }
+}
+
+/// How many it took to find a fault.
+fn number(count: u64, found: bool) -> String {
+    if found {
+        count.to_string()
+    } else {
+        "not found".into()
     }
 }
 
 fn archive() -> Box<dyn Device> {
-    Box::new(Archive::new())
-}
-
-/// Runs the three checks on the archive.
-fn all_alike(options: &Options) -> bool {
-    let seed = options.seed;
-    let comparison = compare(seed, options.limit(options.calls()), None, &archive);
-    print!("{}", comparison.coverage);
-    let alike = report(seed, "calls compared", comparison.calls, comparison.difference);
-    let (pairs, leak) = isolation::check(seed, options.limit(options.pairs()), &archive);
-    let isolated = report(seed, "pairs of sequences tried for isolation", pairs, leak);
-    let limit = options.limit(options.round_trips());
-    let (trips, lost) = round_trip::check(seed, limit, &archive);
-    let restored = report(seed, "round trips tried", trips, lost);
-    alike && isolated && restored
+    Box::new(Archive::new(None))
 }
 
 fn report(seed: u64, what: &str, count: u64, failure: Option<impl std::fmt::Display>) -> bool {
@@ -94,45 +156,4 @@ fn report(seed: u64, what: &str, count: u64, failure: Option<impl std::fmt::Disp
         Some(failure) => println!("seed {seed}: a difference after {count} {what}\n{failure}"),
     }
     failure.is_none()
-}
-
-/// Plants each fault in turn and tells what it takes to find it.
-fn teeth(options: &Options) -> bool {
-    println!("{:<46} {:>10}  besides", "planted fault", "calls");
-    let missed = faults::all().into_iter().filter(|fault| !found(fault, options)).count();
-    println!("{} planted faults, {missed} not found", faults::all().len());
-    missed == 0
-}
-
-/// Whether the checks find the fault: the comparison, and that of the demand
-/// that it breaks.
-fn found(fault: &'static Fault, options: &Options) -> bool {
-    let limit = options.limit(options.calls());
-    let comparison = compare(options.seed, limit, Some(fault), &archive);
-    let compared = comparison.difference.is_some();
-    let (breaks, besides) = match fault.breaks {
-        None => (true, String::new()),
-        Some(demand) => breaking(fault, demand, options),
-    };
-    let calls = if compared { comparison.calls.to_string() } else { "not found".into() };
-    println!("{:<46} {calls:>10}  {besides}", fault.name);
-    compared && breaks
-}
-
-/// Whether the check of a demand finds the fault, and after how many trials.
-fn breaking(fault: &'static Fault, demand: Demand, options: &Options) -> (bool, String) {
-    let faulty = || -> Box<dyn Device> { Box::new(Faulty::new(Some(fault))) };
-    let (count, found, what) = match demand {
-        Demand::Isolation => {
-            let limit = options.limit(options.pairs());
-            let (count, trial) = isolation::check(options.seed, limit, &faulty);
-            (count, trial.is_some(), "isolation pairs")
-        }
-        Demand::RoundTrip => {
-            let limit = options.limit(options.round_trips());
-            let (count, trial) = round_trip::check(options.seed, limit, &faulty);
-            (count, trial.is_some(), "round trips")
-        }
-    };
-    (found, format!("{what}: {}", if found { count.to_string() } else { "not found".into() }))
 }

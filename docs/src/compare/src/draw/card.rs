@@ -7,11 +7,16 @@ use plain_card::opcode::SUPPORTED;
 use plain_card::part::{inventory, Part, MAX_QUEUES};
 use plain_card::{Card, Setup};
 
+use super::length;
 use crate::random::Random;
 
 /// The numbers of a setup in range, more often at an end of it.
 pub fn setup_numbers(random: &mut Random) -> [u64; 4] {
-    let members = random.pick(&[1, 1, 2, 2, 2, 3, 5, 16]);
+    let members = match random.weighted(&[60, 10, 30]) {
+        0 => random.pick(&[1, 1, 2, 2, 2, 3]),
+        1 => 16,
+        _ => 1 + random.below(16) as u64,
+    };
     let queues = 1 + random.below(4) as u64;
     let objects = [0, 1, 1, 2, 3, 5, 8];
     [members, queues, random.pick(&objects), random.pick(&objects)]
@@ -82,9 +87,12 @@ pub fn any_bytes(random: &mut Random) -> Vec<u8> {
     card
 }
 
-/// Breaks one rule of soundness, if the setup leaves room for it.
+/// Breaks one rule of soundness, if the setup leaves room for it; of a record
+/// more often in the last one.
 fn break_rule(random: &mut Random, card: &mut [u8]) {
-    let record = HEADER + RECORD * random.below((card.len() - HEADER) / RECORD);
+    let last = (card.len() - HEADER) / RECORD - 1;
+    let member = if random.chance(40) { last } else { random.below(last + 1) };
+    let record = HEADER + RECORD * member;
     let (objects, features) = (record + 1, record + 17);
     let valid = usize::from(card[2] + card[3]);
     match random.below(9) {
@@ -103,9 +111,10 @@ fn break_rule(random: &mut Random, card: &mut [u8]) {
 fn change_length(random: &mut Random, card: &mut Vec<u8>) {
     let length = card.len();
     let lengths = [0, 4, HEADER - 1, HEADER, length - 1, length + 1];
-    let wrong = match random.below(3) {
+    let wrong = match random.below(4) {
         0 => length - RECORD,
         1 => length + RECORD,
+        2 => length::wrong(random, length),
         _ => random.pick(&lengths),
     };
     card.resize(wrong, 0);

@@ -5,8 +5,9 @@ use plain_card::object::{Kind, IDS};
 use plain_card::opcode::{Opcode, SUPPORTED};
 use plain_card::Card;
 
-use super::{list, member, spoil};
+use super::{length, list, member, place, placed, spoil, Favoured};
 use crate::call::Call;
+use crate::memory::Room;
 use crate::random::Random;
 use crate::request::{
     object, object_and_flags, object_and_parts, object_and_type, object_of_kind, request,
@@ -16,13 +17,17 @@ use crate::request::{
 const LARGE: usize = 480;
 
 /// A command: a good request, spoiled at no, one or a few places.
-pub fn command(random: &mut Random, card: &Card) -> Call {
-    let mut request = if random.chance(1) { any_request(random) } else { good(random, card) };
+pub fn command(random: &mut Random, card: &Card, favoured: Favoured) -> Call {
+    let mut request = match random.chance(1) {
+        true => any_request(random),
+        false => good(random, card, favoured),
+    };
     for _ in 0..random.weighted(&[66, 20, 9, 5]) {
-        spoil::spoil(random, card, &mut request);
+        spoil::spoil(random, card, favoured, &mut request);
     }
-    let room = room(random, card, &request);
-    Call::Command { request, room }
+    let length = room(random, card, &request);
+    let request = placed(random, request);
+    Call::Command { request, room: Room { length, place: place(random) } }
 }
 
 /// Random bytes.
@@ -34,18 +39,20 @@ fn any_request(random: &mut Random) -> Vec<u8> {
 /// The length of the reply buffer: often exactly what is needed, or a byte
 /// more or less.
 fn room(random: &mut Random, card: &Card, request: &[u8]) -> usize {
-    match random.weighted(&[60, 20, 20]) {
+    let need = || plain_card::command(&mut card.clone(), request, &mut [0; LARGE]);
+    match random.weighted(&[59, 20, 20, 1]) {
         0 => LARGE,
         1 => random.pick(&[0, 7, 8, 9, 15, 16, 17, 24, 100, 160]),
-        _ => {
-            let need = plain_card::command(&mut card.clone(), request, &mut [0; LARGE]);
+        2 => {
+            let need = need();
             random.pick(&[need, need.saturating_sub(1), need + 1])
         }
+        _ => length::long_room(random, need()),
     }
 }
 
 /// A request that is likely to succeed.
-fn good(random: &mut Random, card: &Card) -> Vec<u8> {
+fn good(random: &mut Random, card: &Card, favoured: Favoured) -> Vec<u8> {
     match opcode(random, card) {
         opcode @ Opcode::ListQuery => request(opcode, member_unread(random), &[]),
         opcode @ Opcode::ListUse => {
@@ -54,14 +61,14 @@ fn good(random: &mut Random, card: &Card) -> Vec<u8> {
         }
         opcode @ Opcode::ModeSet => {
             let stop = u8::from(random.chance(65));
-            request(opcode, member(random, card), &[stop])
+            request(opcode, member(random, card, favoured), &[stop])
         }
-        opcode => on_object(random, card, opcode),
+        opcode => on_object(random, card, favoured, opcode),
     }
 }
 
 /// A request for an object that is as the command needs it.
-fn on_object(random: &mut Random, card: &Card, opcode: Opcode) -> Vec<u8> {
+fn on_object(random: &mut Random, card: &Card, favoured: Favoured, opcode: Opcode) -> Vec<u8> {
     let kind = random.pick(&[Kind::Get, Kind::Set]);
     let wanted = match opcode {
         Opcode::Create => None,
@@ -69,7 +76,8 @@ fn on_object(random: &mut Random, card: &Card, opcode: Opcode) -> Vec<u8> {
         Opcode::PartsSet => Some(Kind::Set),
         _ => Some(kind),
     };
-    let (member, id) = member_and_id(random, card, wanted, opcode == Opcode::PartsSet);
+    let stopped = opcode == Opcode::PartsSet;
+    let (member, id) = member_and_id(random, card, favoured, wanted, stopped);
     let data = match opcode {
         Opcode::Query => object_and_flags(id),
         Opcode::Destroy => object(id),
@@ -107,10 +115,12 @@ fn mask(random: &mut Random) -> u64 {
 }
 
 /// A member and an id that is free, or live and of a kind, on it; and the
-/// member stopped, if that is asked. Sometimes, or if there is none, any.
+/// member stopped, if that is asked; more often a favoured one. Sometimes, or
+/// if there is none, any.
 fn member_and_id(
     random: &mut Random,
     card: &Card,
+    favoured: Favoured,
     wanted: Option<Kind>,
     stopped: bool,
 ) -> (u64, u32) {
@@ -122,8 +132,11 @@ fn member_and_id(
             fitting.extend(ids.map(|id| (member, id)));
         }
     }
+    if random.chance(60) && fitting.iter().any(|(member, _)| favoured.has(*member, card)) {
+        fitting.retain(|(member, _)| favoured.has(*member, card));
+    }
     if fitting.is_empty() || random.chance(20) {
-        (member(random, card), random.below(valid as usize + 1) as u32)
+        (member(random, card, favoured), random.below(valid as usize + 1) as u32)
     } else {
         random.pick(&fitting)
     }

@@ -1,11 +1,16 @@
 //! Random lists of parts, asked and given.
 
+use plain_card::frame::LONGEST;
 use plain_card::opcode::Opcode;
-use plain_card::part::{inventory, Part, OPTIONAL};
+use plain_card::part::{inventory, Part, HEADER, OPTIONAL};
 use plain_card::Card;
 
 use crate::random::Random;
 use crate::request::{any_part, part, request, unread_selector};
+
+/// How many parts a long list has; the longest request takes 254 without
+/// values, or 253 headers.
+const LONG: [usize; 15] = [15, 16, 17, 18, 32, 33, 41, 64, 65, 127, 128, 129, 200, 253, 254];
 
 /// The headers of a parts get.
 pub fn asked(random: &mut Random, card: &Card) -> Vec<u8> {
@@ -22,7 +27,25 @@ pub fn asked(random: &mut Random, card: &Card) -> Vec<u8> {
         };
         insert(random, &mut headers, bad);
     }
+    if random.chance(4) {
+        headers = many_headers(random, card);
+    }
     headers.concat()
+}
+
+/// Many headers: one for each part and then some that make the list bad.
+fn many_headers(random: &mut Random, card: &Card) -> Vec<Vec<u8>> {
+    let mut headers: Vec<Vec<u8>> =
+        inventory(card.setup.queues).map(|part| part.header().to_vec()).collect();
+    random.shuffle(&mut headers);
+    let known = headers.clone();
+    for _ in headers.len()..random.pick(&LONG) {
+        headers.push(match random.chance(70) {
+            true => repeated(random, &known),
+            false => unknown_part(random, card, OPTIONAL)[..HEADER].to_vec(),
+        });
+    }
+    headers
 }
 
 /// The parts of a parts set: those of a member, or of random values.
@@ -47,6 +70,9 @@ pub fn given(random: &mut Random, card: &Card) -> Vec<u8> {
         if random.chance(30) {
             insert(random, &mut parts, skipped);
         }
+    }
+    if random.chance(5) {
+        make_long(random, card, &mut parts);
     }
     if random.chance(40) {
         make_bad(random, card, &mut parts);
@@ -87,20 +113,28 @@ fn add_noise(random: &mut Random, part: &mut [u8]) {
 /// A part that the members have not got.
 fn unknown_part(random: &mut Random, card: &Card, flags: u8) -> Vec<u8> {
     let queues = u64::from(card.setup.queues);
-    let (part_type, selector) = match random.below(6) {
+    let (part_type, selector) = match random.below(7) {
         0 => (0x104 + random.below(2) as u16, queues + random.below(3) as u64),
         1 => (0x104 + random.below(2) as u16, random.below(4) as u64 | 1 << (8 + random.below(8))),
         2 => (0x102, random.pick(&[1, 4, 12, 18, 20, 23, 8 | 1 << 16, 16 | 1 << 31])),
         3 => (random.pick(&[0, 0xff, 0x106, 0x1ff, 0x200, 0x5ff]), 0),
+        // The low byte is that of a part.
+        4 => (random.pick(&[0, 0x200, 0x500]) + random.below(6) as u16, 0),
         _ => (random.below(0x100) as u16, random.bits()),
     };
     let length = random.pick(&[0, 1, 4, 8, 16, 32]);
     any_part(part_type, flags, selector, &random.bytes(length))
 }
 
-/// One of the parts again, perhaps under other unread selector bytes.
+/// One of the parts again, of a known type if there is one, perhaps under other
+/// unread selector bytes.
 fn repeated(random: &mut Random, parts: &[Vec<u8>]) -> Vec<u8> {
-    let mut again = parts[random.below(parts.len())].clone();
+    let known: Vec<&Vec<u8>> =
+        parts.iter().filter(|part| matches!(part[..2], [0..=5, 1])).collect();
+    let mut again = match known.is_empty() {
+        true => parts[random.below(parts.len())].clone(),
+        false => random.pick(&known).clone(),
+    };
     if random.chance(40) {
         add_noise(random, &mut again);
     }
@@ -123,7 +157,8 @@ fn make_bad(random: &mut Random, card: &Card, parts: &mut Vec<Vec<u8>>) {
         }
         1 => {
             // Another length, with as many value bytes.
-            let given = random.pick(&[0, value.saturating_sub(1), value + 1, 16, 40]);
+            let cut = value + 256 * (1 + random.below(4));
+            let given = random.pick(&[0, value.saturating_sub(1), value + 1, 16, 40, cut, cut]);
             parts[at].resize(16 + given, 0);
             parts[at][12..16].copy_from_slice(&(given as u32).to_le_bytes());
         }
@@ -155,6 +190,26 @@ fn make_bad(random: &mut Random, card: &Card, parts: &mut Vec<Vec<u8>>) {
     }
 }
 
+/// Brings a given list to many parts by some that are skipped. Parts that leave
+/// no room for them go.
+fn make_long(random: &mut Random, card: &Card, parts: &mut Vec<Vec<u8>>) {
+    let count = random.pick(&LONG);
+    let room = LONGEST - request(Opcode::PartsSet, 0, &[0; 8]).len();
+    let fits = |parts: &[Vec<u8>]| {
+        let skipped = HEADER * count.saturating_sub(parts.len());
+        skipped + parts.concat().len() <= room
+    };
+    while !fits(parts) {
+        parts.pop();
+    }
+    while parts.len() < count {
+        let mut skipped = unknown_part(random, card, OPTIONAL);
+        skipped.truncate(HEADER);
+        skipped[12..].fill(0);
+        insert(random, parts, skipped);
+    }
+}
+
 /// Brings the request to the longest length, or one byte beyond.
 fn fill_up(random: &mut Random, parts: &mut Vec<Vec<u8>>) {
     let length = request(Opcode::PartsSet, 0, &[0; 8]).len() + parts.concat().len();
@@ -167,4 +222,55 @@ fn fill_up(random: &mut Random, parts: &mut Vec<Vec<u8>>) {
 fn insert(random: &mut Random, parts: &mut Vec<Vec<u8>>, part: Vec<u8>) {
     let at = random.below(parts.len() + 1);
     parts.insert(at, part);
+}
+
+#[cfg(test)]
+mod tests {
+    use super::*;
+    use crate::draw::sound_card;
+    use plain_card::list;
+
+    #[test]
+    fn long_lists_of_every_length_are_drawn_and_some_are_good() {
+        let mut random = Random::new(1, 0);
+        let mut good = [false; LONG.len()];
+        for _ in 0..20_000 {
+            let card = sound_card(&mut random);
+            let mut parts = vec![];
+            make_long(&mut random, &card, &mut parts);
+            let values = &card.members[0].values;
+            assert!(list::given(&parts.concat(), values, card.setup.queues).is_ok());
+            good[LONG.iter().position(|count| *count == parts.len()).unwrap()] = true;
+            if good == [true; LONG.len()] {
+                return;
+            }
+        }
+        panic!("not drawn: {good:?}");
+    }
+
+    #[test]
+    fn long_lists_hold_known_parts_behind_many_others() {
+        let mut random = Random::new(1, 0);
+        let card = sound_card(&mut random);
+        let status = part(Part::DeviceStatus, &[7]);
+        let behind_128 = (0..1_000).any(|_| {
+            let mut parts = vec![status.clone()];
+            make_long(&mut random, &card, &mut parts);
+            parts.iter().position(|part| *part == status).is_some_and(|at| at > 128)
+        });
+        assert!(behind_128);
+    }
+
+    #[test]
+    fn many_headers_start_with_every_part() {
+        let mut random = Random::new(1, 0);
+        for _ in 0..200 {
+            let card = sound_card(&mut random);
+            let queues = card.setup.queues;
+            let headers = many_headers(&mut random, &card);
+            let count = inventory(queues).count();
+            assert!(list::asked(&headers[..count].concat(), queues).is_ok());
+            assert_eq!(list::asked(&headers.concat(), queues).is_ok(), headers.len() == count);
+        }
+    }
 }

@@ -2,6 +2,7 @@
 
 mod card;
 mod command;
+mod length;
 mod list;
 mod spoil;
 
@@ -12,21 +13,70 @@ use plain_card::part::{inventory, Part, MAX_QUEUES};
 use plain_card::Card;
 
 use crate::call::Call;
+use crate::memory::{Buffer, Place, Room};
 use crate::random::Random;
+
+/// Members that the calls of a sequence name more often than others, as
+/// numbers from 0 that are taken modulo the number of members.
+#[derive(Clone, Copy, Debug)]
+pub struct Favoured([u64; 2]);
+
+impl Favoured {
+    /// Any two, which may be the same.
+    pub fn draw(random: &mut Random) -> Favoured {
+        Favoured([(); 2].map(|()| random.bits() >> 1))
+    }
+
+    /// These two.
+    pub fn members(first: u64, second: u64) -> Favoured {
+        Favoured([first - 1, second - 1])
+    }
+
+    /// One of the two, on a card.
+    fn pick(self, random: &mut Random, card: &Card) -> u64 {
+        1 + random.pick(&self.0) % u64::from(card.setup.members).max(1)
+    }
+
+    /// Whether the member is one of the two, on a card.
+    fn has(self, member: u64, card: &Card) -> bool {
+        let members = u64::from(card.setup.members).max(1);
+        self.0.iter().any(|favoured| 1 + favoured % members == member)
+    }
+}
+
+/// Where a buffer lies: at any offset, or beside a guard page.
+fn place(random: &mut Random) -> Place {
+    match random.weighted(&[40, 20, 40]) {
+        0 => Place::Offset(random.below(16)),
+        1 => Place::AfterPage,
+        _ => Place::BeforePage,
+    }
+}
+
+/// The bytes at a random place.
+fn placed(random: &mut Random, bytes: Vec<u8>) -> Buffer {
+    Buffer { bytes, place: place(random) }
+}
 
 /// The first call of a sequence: a setup, or bytes that are a sound card, or
 /// bytes that mostly are not.
 pub fn first(random: &mut Random) -> Call {
     match random.weighted(&[35, 45, 20]) {
         0 => setup(random),
-        1 => Call::Card(plain_card::bytes::write(&sound_card(random))),
-        _ => Call::Card(any_bytes(random)),
+        1 => {
+            let card = plain_card::bytes::write(&sound_card(random));
+            Call::Card(placed(random, card))
+        }
+        _ => {
+            let bytes = any_bytes(random);
+            Call::Card(placed(random, bytes))
+        }
     }
 }
 
 /// The next call; `card` is what the bytes say, if they say a card. A sequence
 /// does not stay long with a card that is not sound.
-pub fn next(random: &mut Random, card: Option<&Card>) -> Call {
+pub fn next(random: &mut Random, card: Option<&Card>, favoured: Favoured) -> Call {
     let sound = card.is_some_and(Card::is_sound);
     if random.chance(if sound { 1 } else { 30 }) {
         return first(random);
@@ -35,22 +85,22 @@ pub fn next(random: &mut Random, card: Option<&Card>) -> Call {
         return Call::CardBytes(any_count(random));
     }
     match card {
-        Some(card) => on_card(random, card),
+        Some(card) => on_card(random, card, favoured),
         None => {
             let other = sound_card(random);
-            on_card(random, &other)
+            on_card(random, &other, favoured)
         }
     }
 }
 
 /// The next command or card event on a card.
-pub fn on_card(random: &mut Random, card: &Card) -> Call {
+pub fn on_card(random: &mut Random, card: &Card, favoured: Favoured) -> Call {
     // Without list use nothing but a reset changes the list again.
     let locked = card.in_use & Opcode::ListUse.bit() == 0;
     match random.weighted(&[80, 12, 5, if locked { 20 } else { 1 }]) {
-        0 => command::command(random, card),
-        1 => store(random, card),
-        2 => Call::ResetMember(any_member(random, card)),
+        0 => command::command(random, card, favoured),
+        1 => store(random, card, favoured),
+        2 => Call::ResetMember(any_member(random, card, favoured)),
         _ => Call::ResetCard,
     }
 }
@@ -62,15 +112,18 @@ fn setup(random: &mut Random) -> Call {
     let mut length = plain_card::exported::card_bytes(numbers[0]);
     if random.chance(25) {
         let at = random.below(4);
-        match random.below(5) {
+        match random.below(7) {
             0 => features.truncate(random.below(16)),
             1 => features.push(0),
-            2 => length = random.pick(&[0, 28, length - 1, length + 1, length + 222]),
-            3 => numbers[at] |= 1 << (8 + random.below(56)),
+            2 => features.resize(length::wrong(random, 16), 0),
+            3 => length = random.pick(&[0, 28, length - 1, length + 1, length + 222]),
+            4 => length = length::wrong(random, length),
+            5 => numbers[at] |= 1 << (8 + random.below(56)),
             _ => numbers[at] = any_count(random),
         }
     }
-    Call::Setup { numbers, features, length }
+    let features = placed(random, features);
+    Call::Setup { numbers, features, card: Room { length, place: place(random) } }
 }
 
 /// A number for a setup, in range or not.
@@ -83,8 +136,8 @@ fn any_count(random: &mut Random) -> u64 {
 }
 
 /// A card store, mostly one that is done.
-fn store(random: &mut Random, card: &Card) -> Call {
-    let mut member = member(random, card);
+fn store(random: &mut Random, card: &Card, favoured: Favoured) -> Call {
+    let mut member = member(random, card, favoured);
     let part = any_part_of(random, card);
     let mut part_type = part.part_type();
     let mut selector = part.selector();
@@ -95,14 +148,17 @@ fn store(random: &mut Random, card: &Card) -> Call {
         }
     }
     if random.chance(30) {
-        match random.below(5) {
-            0 => member = any_member(random, card),
+        match random.below(7) {
+            0 => member = any_member(random, card, favoured),
             1 => part_type = random.pick(&[0x100, 0x106, 0xff, 0x600, 0x101, 0x104]),
-            2 => selector[random.below(8)] = random.byte(),
-            3 => value.push(0),
+            2 => part_type ^= random.pick(&[0x100, 0x300, 0x400, 0x8000]),
+            3 => selector[random.below(8)] = random.byte(),
+            4 => value.push(0),
+            5 => value.resize(length::wrong(random, value.len()), 0),
             _ => value.truncate(random.below(value.len())),
         }
     }
+    let value = placed(random, value);
     Call::Store { member, part_type, selector: u64::from_le_bytes(selector), value }
 }
 
@@ -113,16 +169,17 @@ fn any_part_of(random: &mut Random, card: &Card) -> Part {
     random.pick(&parts)
 }
 
-/// A member of the card, more often one of the first two.
-fn member(random: &mut Random, card: &Card) -> u64 {
-    let members = usize::from(card.setup.members).max(1);
-    let among = if random.chance(60) { members.min(2) } else { members };
-    1 + random.below(among) as u64
+/// A member of the card, more often a favoured one.
+fn member(random: &mut Random, card: &Card, favoured: Favoured) -> u64 {
+    if random.chance(60) {
+        return favoured.pick(random, card);
+    }
+    1 + random.below(usize::from(card.setup.members).max(1)) as u64
 }
 
 /// A member field: of the card, beside its ends, or with higher bits set.
-fn any_member(random: &mut Random, card: &Card) -> u64 {
-    let good = member(random, card);
+fn any_member(random: &mut Random, card: &Card, favoured: Favoured) -> u64 {
+    let good = member(random, card, favoured);
     match random.below(12) {
         0 => 0,
         1 => u64::from(card.setup.members) + 1,

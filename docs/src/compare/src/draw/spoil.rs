@@ -2,11 +2,11 @@
 
 use plain_card::Card;
 
-use super::any_member;
+use super::{any_member, length, Favoured};
 use crate::random::Random;
 
 /// Changes one thing about a request.
-pub fn spoil(random: &mut Random, card: &Card, request: &mut Vec<u8>) {
+pub fn spoil(random: &mut Random, card: &Card, favoured: Favoured, request: &mut Vec<u8>) {
     match random.below(9) {
         0 => {
             let opcode = opcode(random, request);
@@ -17,7 +17,7 @@ pub fn spoil(random: &mut Random, card: &Card, request: &mut Vec<u8>) {
             put(request, 2, &group.to_le_bytes());
         }
         2 => put(request, 4, &random.bytes(12)),
-        3 => put(request, 16, &any_member(random, card).to_le_bytes()),
+        3 => put(request, 16, &any_member(random, card, favoured).to_le_bytes()),
         4 => put(request, 28, &id(random, card).to_le_bytes()),
         5 | 6 => change_length(random, request),
         _ => {
@@ -64,10 +64,11 @@ fn change_length(random: &mut Random, request: &mut Vec<u8>) {
     let length = request.len();
     let lengths = [length + 1, length + 8, length + 16, length.saturating_sub(1)];
     let shorter = [length.saturating_sub(8), length.saturating_sub(16), 0, 23, 24, 4097];
-    let wanted = match random.below(3) {
+    let wanted = match random.weighted(&[31, 31, 31, 7]) {
         0 => random.pick(&shorter),
         1 => random.below(length + 1),
-        _ => random.pick(&lengths),
+        2 => random.pick(&lengths),
+        _ => length::wrong(random, length.min(4096)),
     };
     request.resize(wanted, 0);
 }

@@ -6,23 +6,37 @@ use plain_card::member::Mode;
 use plain_card::opcode::FRESH;
 use plain_card::part::Part;
 
-use super::{breaking, fault, Demand, Fault, Outcome, Plant};
+use super::{breaking, fault, Fault, Outcome, Plant, Property};
 use crate::call::Call;
-use crate::device::{Device, Plain};
-use crate::lent::pattern;
+use crate::device::Plain;
+use crate::memory::pattern;
 
 pub const FAULTS: &[Fault] = &[
     breaking(
-        Demand::Isolation,
+        &[Property::Isolation],
         "trade: member reset keeps queue addresses",
         Plant::Leave(reset_keeps_queues),
     ),
     fault("trade: member reset clears the list in use", Plant::Leave(reset_clears_list)),
-    breaking(Demand::Isolation, "reset: member keeps its mode", Plant::Leave(reset_keeps_mode)),
     breaking(
-        Demand::Isolation,
+        &[Property::Isolation],
+        "reset: member keeps its mode",
+        Plant::Leave(reset_keeps_mode),
+    ),
+    breaking(
+        &[Property::Isolation],
         "reset: member keeps its objects",
         Plant::Leave(reset_keeps_objects),
+    ),
+    breaking(
+        &[Property::Isolation],
+        "reset: members past the 8th keep objects",
+        Plant::Leave(reset_past_8),
+    ),
+    breaking(
+        &[Property::Isolation],
+        "reset: member 16 keeps its notify values",
+        Plant::Leave(reset_16),
     ),
     fault("reset: the next member too", Plant::Leave(reset_next)),
     fault("reset: whole card keeps the list in use", Plant::Leave(card_keeps_list)),
@@ -31,9 +45,9 @@ pub const FAULTS: &[Fault] = &[
     fault("store: device features set", Plant::Leave(store_features)),
     fault("store: whole selector read", Plant::Leave(store_selector)),
     fault("store: short value accepted", Plant::Leave(store_short)),
-    breaking(Demand::Isolation, "store: the next member too", Plant::Leave(store_next)),
+    breaking(&[Property::Isolation], "store: the next member too", Plant::Leave(store_next)),
     fault("setup: refused without zeros", Plant::Leave(setup_without_zeros)),
-    fault("setup: numbers cut to 8 bits", Plant::Leave(setup_cut)),
+    fault("setup: numbers cut to 8 bits", Plant::Replace(setup_cut)),
     fault("card bytes: a length for 17 members", Plant::Leave(length_of_17)),
 ];
 
@@ -65,6 +79,18 @@ fn reset_keeps_mode(outcome: &mut Outcome) {
 fn reset_keeps_objects(outcome: &mut Outcome) {
     if let Some((before, after, member)) = reset(outcome) {
         after.member_mut(member).objects = before.member(member).objects.clone();
+    }
+}
+
+fn reset_past_8(outcome: &mut Outcome) {
+    if let Some((before, after, member @ 9..)) = reset(outcome) {
+        after.member_mut(member).objects = before.member(member).objects.clone();
+    }
+}
+
+fn reset_16(outcome: &mut Outcome) {
+    if let Some((before, after, 16)) = reset(outcome) {
+        after.member_mut(16).values.notifies = before.member(16).values.notifies;
     }
 }
 
@@ -153,18 +179,17 @@ fn store_next(outcome: &mut Outcome) {
 }
 
 fn setup_without_zeros(outcome: &mut Outcome) {
-    let Call::Setup { length, .. } = outcome.call else { return };
+    let Call::Setup { card, .. } = outcome.call else { return };
     if *outcome.answer == 4 {
-        let bytes: Vec<u8> = (0..*length).map(pattern).collect();
+        let bytes: Vec<u8> = (0..card.length).map(pattern).collect();
         *outcome.after = Plain::from_bytes(&bytes);
     }
 }
 
-fn setup_cut(outcome: &mut Outcome) {
-    let Call::Setup { numbers, features, length } = outcome.call else { return };
-    let cut = numbers.map(|number| number & 0xff);
-    let call = Call::Setup { numbers: cut, features: features.clone(), length: *length };
-    *outcome.answer = outcome.after.call(&call, &mut []);
+fn setup_cut(call: &mut Call) {
+    if let Call::Setup { numbers, .. } = call {
+        *numbers = numbers.map(|number| number & 0xff);
+    }
 }
 
 fn length_of_17(outcome: &mut Outcome) {

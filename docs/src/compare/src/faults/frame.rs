@@ -6,8 +6,8 @@ use plain_card::status::Refusal;
 use plain_card::Card;
 
 use super::tools::opcode;
-use super::{breaking, fault, Demand, Fault, Outcome, Plant};
-use crate::lent::pattern;
+use super::{breaking, fault, Fault, Outcome, Plant, Property};
+use crate::memory::pattern;
 
 pub const FAULTS: &[Fault] = &[
     fault("frame: member field cut to 32 bits", Plant::Mishear(member_cut)),
@@ -22,7 +22,7 @@ pub const FAULTS: &[Fault] = &[
     fault("reply: reserved bytes not written", Plant::Leave(reserved_kept)),
     fault("reply: rest of the buffer cleared", Plant::Leave(rest_cleared)),
     fault("reply: refusal longer than 8 bytes", Plant::Leave(long_refusal)),
-    breaking(Demand::Isolation, "reply: tells of member 1", Plant::Leave(leak)),
+    breaking(&[Property::Isolation], "reply: tells of member 1", Plant::Leave(leak)),
 ];
 
 fn member_cut(_: &Card, request: &mut Vec<u8>) {

@@ -1,14 +1,19 @@
 //! Planted faults: the plain card with one wrong behaviour around it.
 //!
 //! The plain card itself has no hooks. A fault refuses a request ahead of its
-//! turn, hears another request than was sent, leaves another outcome, or takes
-//! an unsound card for a sound one. A comparison has to find every one.
+//! turn, hears another call than was made, leaves another outcome, takes an
+//! unsound card for a sound one, or answers wrongly whether a card is sound.
+//! What a program may do wrong with its buffers is planted around the archive
+//! instead. A comparison has to find every one.
 
 // Changes of a request or card all have one type, whether they grow it or not.
 #![allow(clippy::ptr_arg)]
 
 mod events;
+mod exchange;
 mod frame;
+mod length;
+mod memory;
 mod objects;
 mod order;
 mod parts;
@@ -22,7 +27,8 @@ use plain_card::status::Refusal;
 use plain_card::Card;
 
 use crate::call::Call;
-use crate::device::{Device, Plain};
+use crate::device::{Device, Misuse, Plain};
+use crate::memory::Lent;
 
 /// A planted fault.
 pub struct Fault {
@@ -30,17 +36,19 @@ pub struct Fault {
     pub name: &'static str,
     /// What goes wrong.
     pub plant: Plant,
-    /// Which check has to find it besides the comparison.
-    pub breaks: Option<Demand>,
+    /// Which checks have to find it besides the comparison.
+    pub breaks: &'static [Property],
 }
 
-/// A demand that is checked on the archive alone.
+/// A property that is tried on the archive alone.
 #[derive(Clone, Copy, Debug, PartialEq, Eq)]
-pub enum Demand {
+pub enum Property {
     /// The round trip of demand 2.
     RoundTrip,
     /// Demand 3.
     Isolation,
+    /// Neighbouring calls for different members in either order.
+    Exchange,
 }
 
 /// How a fault is planted.
@@ -49,10 +57,16 @@ pub enum Plant {
     Refuse(fn(&Card, &[u8], usize) -> Option<Refusal>),
     /// Hears another request than was sent.
     Mishear(fn(&Card, &mut Vec<u8>)),
+    /// Hears another call than was made.
+    Replace(fn(&mut Call)),
     /// Leaves another outcome than the plain card.
     Leave(fn(&mut Outcome)),
     /// Takes other bytes for the card before each call.
     Repair(fn(&mut Vec<u8>)),
+    /// Takes other bytes for the card if asked whether it is sound.
+    IsSound(fn(&mut Vec<u8>)),
+    /// Does something with its buffers besides; planted around the archive.
+    Misuse(Misuse),
 }
 
 /// What the plain card left, to be changed.
@@ -78,6 +92,8 @@ pub struct Memory {
     made: BTreeMap<(u64, u8), usize>,
     /// Whether a command has changed the card.
     obeyed: bool,
+    /// The member that was named last.
+    named: Option<u64>,
 }
 
 /// The plain card, with a fault or without.
@@ -111,7 +127,7 @@ impl Faulty {
         reply: &[u8],
     ) -> Option<Refusal> {
         match (call, self.hearing(reply)) {
-            (Call::Command { request, room }, Some(card)) => early(card, request, *room),
+            (Call::Command { request, room }, Some(card)) => early(card, request, room.length),
             _ => None,
         }
     }
@@ -121,53 +137,78 @@ impl Faulty {
         match (call, self.hearing(reply)) {
             (Call::Command { request, room }, Some(card)) => {
                 let mut request = request.clone();
-                change(card, &mut request);
+                change(card, &mut request.bytes);
                 Call::Command { request, room: *room }
             }
             _ => call.clone(),
         }
     }
-}
 
-impl Device for Faulty {
-    fn call(&mut self, call: &Call, reply: &mut [u8]) -> usize {
+    /// Hears a call and tells the bytes written, or the answer of an event.
+    fn hear(&mut self, call: &Call, reply: &mut [u8]) -> usize {
         match self.fault.map(|fault| &fault.plant) {
-            None => self.plain.call(call, reply),
+            None | Some(Plant::IsSound(_) | Plant::Misuse(_)) => self.plain.hear(call, reply),
             Some(Plant::Refuse(early)) => match self.refuse(*early, call, reply) {
                 Some(refusal) => {
                     reply[..8].copy_from_slice(&refusal.reply());
                     8
                 }
-                None => self.plain.call(call, reply),
+                None => self.plain.hear(call, reply),
             },
             Some(Plant::Mishear(change)) => {
                 let misheard = self.mishear(*change, call, reply);
-                self.plain.call(&misheard, reply)
+                self.plain.hear(&misheard, reply)
             }
-            Some(Plant::Leave(change)) => {
-                let before = self.plain.clone();
-                let mut answer = self.plain.call(call, reply);
-                change(&mut Outcome {
-                    call,
-                    before: &before,
-                    after: &mut self.plain,
-                    answer: &mut answer,
-                    reply,
-                    memory: &mut self.memory,
-                });
-                answer
-            }
+            Some(Plant::Replace(change)) => self.replace(*change, call, reply),
+            Some(Plant::Leave(change)) => self.leave(*change, call, reply),
             Some(Plant::Repair(change)) => {
-                let mut bytes = self.plain.card();
+                let mut bytes = self.plain.to_bytes();
                 change(&mut bytes);
                 self.plain = Plain::from_bytes(&bytes);
-                self.plain.call(call, reply)
+                self.plain.hear(call, reply)
             }
         }
     }
 
+    /// Hears another call; its reply buffer may be shorter.
+    fn replace(&mut self, change: fn(&mut Call), call: &Call, reply: &mut [u8]) -> usize {
+        let mut replaced = call.clone();
+        change(&mut replaced);
+        self.plain.hear(&replaced, &mut reply[..replaced.room().length])
+    }
+
+    /// Hears the call and leaves another outcome.
+    fn leave(&mut self, change: fn(&mut Outcome), call: &Call, reply: &mut [u8]) -> usize {
+        let before = self.plain.clone();
+        let mut answer = self.plain.hear(call, reply);
+        change(&mut Outcome {
+            call,
+            before: &before,
+            after: &mut self.plain,
+            answer: &mut answer,
+            reply,
+            memory: &mut self.memory,
+        });
+        answer
+    }
+}
+
+impl Device for Faulty {
+    fn call(&mut self, call: &Call, reply: &mut Lent) -> usize {
+        self.hear(call, reply.bytes_mut())
+    }
+
     fn card(&self) -> Vec<u8> {
-        self.plain.card()
+        self.plain.to_bytes()
+    }
+
+    fn is_sound(&mut self) -> u8 {
+        let Some(Plant::IsSound(change)) = self.fault.map(|fault| &fault.plant) else {
+            return self.plain.is_sound().into();
+        };
+        let mut bytes = self.plain.to_bytes();
+        change(&mut bytes);
+        Plain::from_bytes(&bytes).is_sound().into()
     }
 }
 
@@ -177,10 +218,13 @@ pub fn all() -> Vec<&'static Fault> {
         programs::FAULTS,
         order::FAULTS,
         frame::FAULTS,
+        length::FAULTS,
         objects::FAULTS,
         parts::FAULTS,
         events::FAULTS,
+        exchange::FAULTS,
         soundness::FAULTS,
+        memory::FAULTS,
     ]
     .into_iter()
     .flatten()
@@ -189,10 +233,10 @@ pub fn all() -> Vec<&'static Fault> {
 
 /// A fault that the comparison finds.
 const fn fault(name: &'static str, plant: Plant) -> Fault {
-    Fault { name, plant, breaks: None }
+    Fault { name, plant, breaks: &[] }
 }
 
-/// A fault that the comparison and the check of a demand find.
-const fn breaking(demand: Demand, name: &'static str, plant: Plant) -> Fault {
-    Fault { name, plant, breaks: Some(demand) }
+/// A fault that the comparison and the checks of properties find.
+const fn breaking(breaks: &'static [Property], name: &'static str, plant: Plant) -> Fault {
+    Fault { name, plant, breaks }
 }

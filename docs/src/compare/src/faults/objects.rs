@@ -10,12 +10,16 @@ use plain_card::Card;
 
 use super::order::full;
 use super::tools::{framed, operation};
-use super::{breaking, fault, Demand, Fault, Outcome, Plant};
+use super::{breaking, fault, Fault, Outcome, Plant, Property};
 use crate::call::Call;
 
 pub const FAULTS: &[Fault] = &[
     fault("trade: every id ever made counts", Plant::Leave(every_id_counts)),
-    breaking(Demand::Isolation, "objects: limits over all members", Plant::Refuse(shared_limits)),
+    breaking(
+        &[Property::Isolation, Property::Exchange],
+        "objects: limits over all members",
+        Plant::Refuse(shared_limits),
+    ),
     fault("objects: modify at the limit refused", Plant::Refuse(modify_at_limit)),
     fault("objects: modify beyond the limit", Plant::Leave(modify_beyond)),
     fault("objects: destroy keeps the object", Plant::Leave(destroy_keeps)),

@@ -11,8 +11,8 @@ use plain_card::part::{inventory, Part, HEADER, OPTIONAL, RESERVED_TYPES};
 use plain_card::status::Refusal;
 use plain_card::Card;
 
-use super::tools::{each_part, list_start, named, operation, parts};
-use super::{breaking, fault, Demand, Fault, Outcome, Plant};
+use super::tools::{each_part, given, list_start, named, operation, parts};
+use super::{breaking, fault, Fault, Outcome, Plant, Property};
 use crate::call::Call;
 use crate::device::Plain;
 use crate::request::unread_selector;
@@ -39,9 +39,9 @@ pub const FAULTS: &[Fault] = &[
     fault("parts: asked order kept", Plant::Leave(asked_order)),
     fault("parts: headers with get-all ignored", Plant::Mishear(headers_ignored)),
     fault("parts: queues beyond Q told", Plant::Leave(queues_beyond)),
-    breaking(Demand::RoundTrip, "parts: end of a queue not set", Plant::Leave(queue_cut)),
-    breaking(Demand::RoundTrip, "parts: features refused", Plant::Refuse(features_refused)),
-    breaking(Demand::Isolation, "parts: set on all members", Plant::Leave(set_on_all)),
+    breaking(&[Property::RoundTrip], "parts: end of a queue not set", Plant::Leave(queue_cut)),
+    breaking(&[Property::RoundTrip], "parts: features refused", Plant::Refuse(features_refused)),
+    breaking(&[Property::Isolation], "parts: set on all members", Plant::Leave(set_on_all)),
 ];
 
 /// The longest good beginning of a bad list is set, then refused.
@@ -71,16 +71,6 @@ fn repeats_dropped(card: &Card, request: &mut Vec<u8>) {
             request.drain(range);
         }
     }
-}
-
-/// Headers of the parts that a set command gives on a stopped member.
-fn given<'a>(card: &Card, request: &'a [u8]) -> Option<Vec<&'a [u8]>> {
-    let mut copy = card.clone();
-    let mut reply = [0; 8];
-    command(&mut copy, request, &mut reply);
-    let set = matches!(operation(card, request)?, (_, Operation::PartsSet(..)));
-    let parts = parts(card, request).into_iter().map(|range| &request[range]).collect();
-    (set && reply == [0; 8]).then_some(parts)
 }
 
 fn optional_refused(card: &Card, request: &[u8], _: usize) -> Option<Refusal> {
@@ -149,7 +139,7 @@ fn features_set(outcome: &mut Outcome) {
         named(before, part) == Some(Part::DeviceFeatures) && part.len() == HEADER + 16
     };
     let Some(range) = parts(before, request).into_iter().find(features) else { return };
-    let mut misheard = request.clone();
+    let mut misheard = request.bytes.clone();
     features_ignored(before, &mut misheard);
     *after = before.clone();
     let mut reply = [0; 8];

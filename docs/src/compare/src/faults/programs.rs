@@ -53,7 +53,7 @@ fn made_up_count(outcome: &mut Outcome) {
 fn made_up_written(outcome: &mut Outcome) {
     if let Call::Command { request, room } = outcome.call {
         if outcome.succeeded() && u16_at(request, 0) == Opcode::PartsGet as u16 {
-            *outcome.answer = *room;
+            *outcome.answer = room.length;
         }
     }
 }

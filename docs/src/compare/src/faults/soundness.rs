@@ -14,6 +14,13 @@ pub const FAULTS: &[Fault] = &[
     fault("sound: queue count not looked at", Plant::Repair(queues)),
     fault("sound: member's features not compared", Plant::Repair(features)),
     fault("sound: bytes behind the last record", Plant::Repair(length)),
+    fault("is sound: yes whenever the setup is", Plant::IsSound(setup_alone)),
+    fault("is sound: list bits not looked at", Plant::IsSound(list_bits)),
+    fault("is sound: mode byte not looked at", Plant::IsSound(mode_byte)),
+    fault("is sound: set objects not counted", Plant::IsSound(sets)),
+    fault("is sound: features of member 16 skipped", Plant::IsSound(last_features)),
+    fault("is sound: members past the 8th skipped", Plant::IsSound(past_8)),
+    fault("is sound: a stopped last member is not", Plant::IsSound(stopped_last)),
 ];
 
 fn list_bits(card: &mut Vec<u8>) {
@@ -51,6 +58,41 @@ fn gets(card: &mut Vec<u8>) {
     let limit = usize::from(card.get(2).copied().unwrap_or(0));
     for record in records(card) {
         record[1..17].iter_mut().filter(|object| **object == 1).skip(limit).for_each(|o| *o = 0);
+    }
+}
+
+fn sets(card: &mut Vec<u8>) {
+    let limit = usize::from(card.get(3).copied().unwrap_or(0));
+    for record in records(card) {
+        record[1..17].iter_mut().filter(|object| **object == 2).skip(limit).for_each(|o| *o = 0);
+    }
+}
+
+/// Every record becomes a fresh one.
+fn setup_alone(card: &mut Vec<u8>) {
+    records(card).for_each(|record| record.fill(0));
+    features(card);
+    list_bits(card);
+}
+
+fn last_features(card: &mut Vec<u8>) {
+    let Some(features) = card.get(4..20).map(<[u8]>::to_vec) else { return };
+    if let Some(record) = records(card).nth(15) {
+        record[17..33].copy_from_slice(&features);
+    }
+}
+
+fn past_8(card: &mut Vec<u8>) {
+    let Some(features) = card.get(4..20).map(<[u8]>::to_vec) else { return };
+    for record in records(card).skip(8) {
+        record.fill(0);
+        record[17..33].copy_from_slice(&features);
+    }
+}
+
+fn stopped_last(card: &mut Vec<u8>) {
+    if let Some(record) = records(card).last().filter(|record| record[0] == 1) {
+        record[0] = 2;
     }
 }
 

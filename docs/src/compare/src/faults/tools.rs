@@ -2,6 +2,7 @@
 
 use std::ops::Range;
 
+use plain_card::command;
 use plain_card::frame::{u32_at, Frame, DATA};
 use plain_card::list::Header;
 use plain_card::opcode::Opcode;
@@ -66,6 +67,16 @@ pub fn parts(card: &Card, request: &[u8]) -> Vec<Range<usize>> {
         at = end;
     }
     parts
+}
+
+/// The parts of a set command that succeeds.
+pub fn given<'a>(card: &Card, request: &'a [u8]) -> Option<Vec<&'a [u8]>> {
+    let mut copy = card.clone();
+    let mut reply = [0; 8];
+    command(&mut copy, request, &mut reply);
+    let set = matches!(operation(card, request)?, (_, Operation::PartsSet(..)));
+    let parts = parts(card, request).into_iter().map(|range| &request[range]).collect();
+    (set && reply == [0; 8]).then_some(parts)
 }
 
 /// The part that a header in the request names.

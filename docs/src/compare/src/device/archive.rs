@@ -1,0 +1,101 @@
+//! The verified archive as a device.
+
+use kajurnat::raw;
+
+use super::Device;
+use crate::call::Call;
+use crate::memory::{Buffer, Lent, Place};
+
+/// The verified archive, with a planted misuse or without.
+pub struct Archive {
+    card: Lent,
+    misuse: Option<Misuse>,
+    violations: Vec<String>,
+}
+
+/// A planted fault: what a wrong program does with its buffers besides what the
+/// archive does.
+pub type Misuse = fn(&Call, &mut Lending);
+
+/// The buffers of a call, once the archive has answered.
+pub struct Lending<'a> {
+    /// The card.
+    pub card: &'a mut Lent,
+    /// Request, features or value.
+    pub input: &'a mut Lent,
+    /// The reply buffer.
+    pub reply: &'a mut Lent,
+}
+
+/// What a call without bytes to read is lent.
+const NOTHING: &Buffer = &Buffer { bytes: Vec::new(), place: Place::USUAL };
+
+impl Archive {
+    /// An archive without a card: no bytes.
+    pub fn new(misuse: Option<Misuse>) -> Archive {
+        Archive { card: Lent::patterned(0.into()), misuse, violations: vec![] }
+    }
+
+    /// The answer of the archive.
+    fn answer(&mut self, call: &Call, input: &[u8], reply: &mut [u8]) -> usize {
+        let card = self.card.bytes_mut();
+        match call {
+            Call::CardBytes(members) => raw::card_bytes(*members),
+            Call::Setup { numbers: [n, q, g, s], .. } => {
+                raw::setup(card, *n, *q, *g, *s, input).into()
+            }
+            Call::Card(_) => 0,
+            Call::Command { .. } => raw::command(card, input, reply),
+            Call::ResetMember(member) => raw::reset_member(card, *member).into(),
+            Call::ResetCard => raw::reset_card(card).into(),
+            Call::Store { member, part_type, selector, .. } => {
+                raw::store(card, *member, *part_type, *selector, input).into()
+            }
+        }
+    }
+}
+
+impl Device for Archive {
+    fn call(&mut self, call: &Call, reply: &mut Lent) -> usize {
+        match call {
+            Call::Setup { card, .. } => self.card = Lent::patterned(*card),
+            Call::Card(bytes) => self.card = Lent::holding(bytes),
+            _ => {}
+        }
+        let (name, sent) = call.input().unwrap_or(("nothing", NOTHING));
+        let mut input = Lent::holding(sent);
+        let answer = self.answer(call, input.bytes(), reply.bytes_mut());
+        if let Some(misuse) = self.misuse {
+            misuse(call, &mut Lending { card: &mut self.card, input: &mut input, reply });
+        }
+        if *input.bytes() != **sent {
+            self.violations.push(format!("bytes of the {name} were changed"));
+        }
+        self.violations.extend(input.violations(name));
+        answer
+    }
+
+    fn card(&self) -> Vec<u8> {
+        self.card.bytes().to_vec()
+    }
+
+    fn is_sound(&mut self) -> u8 {
+        is_sound(self.card.bytes())
+    }
+
+    fn violations(&mut self) -> Vec<String> {
+        let mut violations = std::mem::take(&mut self.violations);
+        violations.extend(self.card.violations("card"));
+        violations
+    }
+}
+
+/// What the archive answers if asked whether the bytes are a sound card.
+#[allow(unsafe_code)]
+pub fn is_sound(card: &[u8]) -> u8 {
+    extern "C" {
+        fn kajurnat_is_sound(card: *const u8, card_len: usize) -> u8;
+    }
+    // SAFETY: pointer and length are those of one slice, which is borrowed.
+    unsafe { kajurnat_is_sound(card.as_ptr(), card.len()) }
+}

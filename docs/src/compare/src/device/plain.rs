@@ -1,0 +1,104 @@
+//! The plain card as a device.
+
+use plain_card::bytes;
+use plain_card::exported;
+use plain_card::status::{answer, EventError};
+use plain_card::{command, Card, Setup};
+
+use super::Device;
+use crate::call::Call;
+use crate::memory::Lent;
+
+/// The plain card, or bytes that say no card.
+#[derive(Clone, Debug, PartialEq, Eq)]
+pub enum Plain {
+    /// A card, sound or not.
+    Card(Card),
+    /// Bytes that say none; every call finds a card that is not sound.
+    NoCard(Vec<u8>),
+}
+
+impl Plain {
+    /// The plain card that the bytes say.
+    pub fn from_bytes(bytes: &[u8]) -> Plain {
+        bytes::read(bytes).map_or_else(|| Plain::NoCard(bytes.to_vec()), Plain::Card)
+    }
+
+    /// The card's bytes.
+    pub fn to_bytes(&self) -> Vec<u8> {
+        match self {
+            Plain::Card(card) => bytes::write(card),
+            Plain::NoCard(bytes) => bytes.clone(),
+        }
+    }
+
+    /// Whether it is a sound card.
+    pub fn is_sound(&self) -> bool {
+        matches!(self, Plain::Card(card) if card.is_sound())
+    }
+
+    /// Hears a call and tells the bytes written, or the answer of an event.
+    pub fn hear(&mut self, call: &Call, reply: &mut [u8]) -> usize {
+        match call {
+            Call::CardBytes(members) => exported::card_bytes(*members),
+            Call::Setup { numbers, features, card } => {
+                let (answer, plain) = Plain::set_up(*numbers, features, card.length);
+                *self = plain;
+                answer.into()
+            }
+            Call::Card(bytes) => {
+                *self = Plain::from_bytes(bytes);
+                0
+            }
+            Call::Command { request, .. } => match self {
+                Plain::Card(card) => command(card, request, reply),
+                Plain::NoCard(_) => 0,
+            },
+            Call::ResetMember(member) => self.event(|card| card.reset_member(*member)),
+            Call::ResetCard => self.event(Card::reset),
+            Call::Store { member, part_type, selector, value } => {
+                self.event(|card| card.store(*member, *part_type, selector.to_le_bytes(), value))
+            }
+        }
+    }
+
+    /// A fresh card, or a card of zeros.
+    fn set_up([n, q, g, s]: [u64; 4], features: &[u8], length: usize) -> (u8, Plain) {
+        let setup = features.try_into().ok().and_then(|features| Setup::new(n, q, g, s, features));
+        match setup {
+            Some(setup) if length == exported::card_bytes(n) => {
+                (answer(Ok(())), Plain::Card(Card::fresh(setup)))
+            }
+            _ => (answer(Err(EventError::BadSetup)), Plain::from_bytes(&vec![0; length])),
+        }
+    }
+
+    /// An event's answer.
+    fn event(&mut self, act: impl FnOnce(&mut Card) -> Result<(), EventError>) -> usize {
+        let outcome = match self {
+            Plain::Card(card) => act(card),
+            Plain::NoCard(_) => Err(EventError::NotSound),
+        };
+        answer(outcome).into()
+    }
+}
+
+impl Default for Plain {
+    fn default() -> Self {
+        Plain::NoCard(Vec::new())
+    }
+}
+
+impl Device for Plain {
+    fn call(&mut self, call: &Call, reply: &mut Lent) -> usize {
+        self.hear(call, reply.bytes_mut())
+    }
+
+    fn card(&self) -> Vec<u8> {
+        self.to_bytes()
+    }
+
+    fn is_sound(&mut self) -> u8 {
+        Plain::is_sound(self).into()
+    }
+}

@@ -1,0 +1,165 @@
+//! What a wrong program does with its buffers, planted around the archive.
+
+use super::{fault, Fault, Plant};
+use crate::call::Call;
+use crate::device::Lending;
+use crate::memory::Lent;
+
+pub const FAULTS: &[Fault] = &[
+    fault("memory: byte behind the request read", Plant::Misuse(request_behind)),
+    fault("memory: byte ahead of the request read", Plant::Misuse(request_ahead)),
+    fault("memory: request read in words of 8", Plant::Misuse(request_words)),
+    fault("memory: byte behind the value read", Plant::Misuse(value_behind)),
+    fault("memory: byte behind the features read", Plant::Misuse(features_behind)),
+    fault("memory: byte behind the card read", Plant::Misuse(card_behind)),
+    fault("memory: byte ahead of the card read", Plant::Misuse(card_ahead)),
+    fault("memory: byte behind the card written", Plant::Misuse(card_written)),
+    fault("memory: byte behind the reply read", Plant::Misuse(reply_behind)),
+    fault("memory: byte behind the reply written", Plant::Misuse(reply_written)),
+    fault("memory: byte ahead of the reply written", Plant::Misuse(reply_ahead)),
+    fault("memory: request changed", Plant::Misuse(request_changed)),
+    fault("memory: value changed", Plant::Misuse(value_changed)),
+    fault("memory: features changed", Plant::Misuse(features_changed)),
+    fault("memory: a request at an odd offset misread", Plant::Misuse(request_offset)),
+    fault("memory: a reply at offset 13 miswritten", Plant::Misuse(reply_offset)),
+    fault("memory: a card at offset 15 miswritten", Plant::Misuse(card_offset)),
+];
+
+/// The request of a command, the value of a store or the features of a setup,
+/// if that is what the call reads.
+fn input<'a>(name: &str, call: &Call, lending: &'a mut Lending) -> Option<&'a mut Lent> {
+    call.input().filter(|(input, _)| *input == name).map(|_| &mut *lending.input)
+}
+
+/// Whether the call is one that has a card before it.
+fn on_card(call: &Call) -> bool {
+    !matches!(call, Call::CardBytes(_) | Call::Card(_))
+}
+
+fn read_behind(lent: &Lent) {
+    lent.read_beside(lent.bytes().len() as isize);
+}
+
+fn write_behind(lent: &mut Lent) {
+    let end = lent.bytes().len() as isize;
+    lent.write_beside(end, 0);
+}
+
+fn change(lent: &mut Lent) {
+    if let Some(last) = lent.bytes_mut().last_mut() {
+        *last ^= 1;
+    }
+}
+
+fn request_behind(call: &Call, lending: &mut Lending) {
+    if let Some(request) = input("request", call, lending) {
+        read_behind(request);
+    }
+}
+
+fn request_ahead(call: &Call, lending: &mut Lending) {
+    if let Some(request) = input("request", call, lending) {
+        request.read_beside(-1);
+    }
+}
+
+/// The last word is read whole, even if the request ends in it.
+fn request_words(call: &Call, lending: &mut Lending) {
+    if let Some(request) = input("request", call, lending) {
+        let length = request.bytes().len();
+        if length % 8 != 0 {
+            request.read_beside(length.next_multiple_of(8) as isize - 1);
+        }
+    }
+}
+
+fn value_behind(call: &Call, lending: &mut Lending) {
+    if let Some(value) = input("value", call, lending) {
+        read_behind(value);
+    }
+}
+
+fn features_behind(call: &Call, lending: &mut Lending) {
+    if let Some(features) = input("features", call, lending) {
+        read_behind(features);
+    }
+}
+
+fn card_behind(call: &Call, lending: &mut Lending) {
+    if on_card(call) {
+        read_behind(lending.card);
+    }
+}
+
+fn card_ahead(call: &Call, lending: &mut Lending) {
+    if on_card(call) {
+        lending.card.read_beside(-1);
+    }
+}
+
+fn card_written(call: &Call, lending: &mut Lending) {
+    if on_card(call) {
+        write_behind(lending.card);
+    }
+}
+
+fn reply_behind(call: &Call, lending: &mut Lending) {
+    if let Call::Command { .. } = call {
+        read_behind(lending.reply);
+    }
+}
+
+fn reply_written(call: &Call, lending: &mut Lending) {
+    if let Call::Command { .. } = call {
+        write_behind(lending.reply);
+    }
+}
+
+fn reply_ahead(call: &Call, lending: &mut Lending) {
+    if let Call::Command { .. } = call {
+        lending.reply.write_beside(-1, 0);
+    }
+}
+
+fn request_changed(call: &Call, lending: &mut Lending) {
+    if let Some(request) = input("request", call, lending) {
+        change(request);
+    }
+}
+
+fn value_changed(call: &Call, lending: &mut Lending) {
+    if let Some(value) = input("value", call, lending) {
+        change(value);
+    }
+}
+
+fn features_changed(call: &Call, lending: &mut Lending) {
+    if let Some(features) = input("features", call, lending) {
+        change(features);
+    }
+}
+
+/// The status of a reply is wrong if the request lies at an odd offset.
+fn request_offset(call: &Call, lending: &mut Lending) {
+    if matches!(call, Call::Command { .. }) && lending.input.offset() % 2 == 1 {
+        change_first(lending.reply);
+    }
+}
+
+fn reply_offset(call: &Call, lending: &mut Lending) {
+    if matches!(call, Call::Command { .. }) && lending.reply.offset() == 13 {
+        change_first(lending.reply);
+    }
+}
+
+fn card_offset(call: &Call, lending: &mut Lending) {
+    if matches!(call, Call::ResetCard) && lending.card.offset() == 15 {
+        change_first(lending.card);
+    }
+}
+
+fn change_first(lent: &mut Lent) {
+    if let Some(first) = lent.bytes_mut().first_mut() {
+        *first ^= 1;
+    }
+}

@@ -1,0 +1,100 @@
+//! Lengths past 32 bits, which random sequences do not reach: the archive
+//! beside the plain card, with buffers of 4 GiB and a valid length.
+
+use compare::device::is_sound;
+use compare::memory::Huge;
+use compare::request::{object_and_type, request};
+use kajurnat::raw;
+use plain_card::object::Kind;
+use plain_card::opcode::{Opcode, SUPPORTED};
+use plain_card::{bytes, exported, Card, Setup};
+
+/// The bytes of a card with a get object and every command in use.
+fn card() -> Vec<u8> {
+    let mut card = Card::fresh(Setup::new(2, 4, 1, 1, [3; 16]).unwrap());
+    card.in_use = SUPPORTED;
+    card.members[0].objects.put(0, Kind::Get);
+    bytes::write(&card)
+}
+
+fn capture() -> Vec<u8> {
+    request(Opcode::PartsGet, 1, &object_and_type(0, 1, &[]))
+}
+
+/// The same answer and the same card, by archive and plain card.
+fn same<T: PartialEq + std::fmt::Debug>(
+    archive: impl FnOnce(&mut [u8]) -> T,
+    plain: impl FnOnce(&mut [u8]) -> T,
+) -> T {
+    let (mut left, mut right) = (card(), card());
+    let answer = archive(&mut left);
+    assert_eq!((&answer, &left), (&plain(&mut right), &right));
+    answer
+}
+
+#[test]
+fn a_request_is_refused() {
+    let mut huge = Huge::new();
+    let request = huge.starting_with(&capture());
+    let mut replies = [[7; 600]; 2];
+    let [left, right] = &mut replies;
+    let written = same(
+        |card| raw::command(card, request, left),
+        |card| exported::command(card, request, right),
+    );
+    assert_eq!((written, replies[0][0], replies[0][2]), (8, 22, 1));
+    assert_eq!(replies[0], replies[1]);
+}
+
+#[test]
+fn a_reply_buffer_is_long_enough() {
+    let (mut left, mut right) = (Huge::new(), Huge::new());
+    for few in [0, 7, 8, 452] {
+        let (left, right) = (left.starting_with(&vec![7; few]), right.starting_with(&vec![7; few]));
+        let written = same(
+            |card| raw::command(card, &capture(), left),
+            |card| exported::command(card, &capture(), right),
+        );
+        assert_eq!(written, 453);
+        assert_eq!(left[..600], right[..600]);
+    }
+}
+
+#[test]
+fn a_stored_value_has_a_wrong_length() {
+    let mut huge = Huge::new();
+    for length in [0, 16] {
+        let value = huge.starting_with(&vec![7; length]);
+        let answer = same(
+            |card| raw::store(card, 1, 0x101, 0, value),
+            |card| exported::store(card, 1, 0x101, 0, value),
+        );
+        assert_eq!(answer, 3);
+    }
+}
+
+#[test]
+fn features_have_a_wrong_length() {
+    let mut huge = Huge::new();
+    let features = huge.starting_with(&[7; 16]);
+    let answer = same(
+        |card| raw::setup(card, 2, 4, 1, 1, features),
+        |card| exported::setup(card, 2, 4, 1, 1, features),
+    );
+    assert_eq!(answer, 4);
+}
+
+#[test]
+fn a_card_is_not_sound() {
+    let mut huge = Huge::new();
+    let length = card().len();
+    let card = huge.starting_with(&card());
+    let mut reply = [7; 600];
+    assert_eq!(raw::command(card, &capture(), &mut reply), 0);
+    assert_eq!(raw::reset_member(card, 1), 9);
+    assert_eq!(raw::reset_card(card), 9);
+    assert_eq!(raw::store(card, 1, 0x101, 0, &[7; 16]), 9);
+    assert_eq!((is_sound(card), exported::is_sound(card)), (0, 0));
+    assert_eq!(reply, [7; 600]);
+    assert_eq!(card[..length], self::card());
+}
