@@ -36,13 +36,13 @@
  * What the archive needs, and what it does not; scripts/archive reads it off
  * the machine code:
  *   - x86-64 with SSE2, the System V calling convention. Position independent.
- *   - memcpy, memmove and memset, and no other symbol. It defines symbols that
+ *   - memcpy, memmove and memset, and no other symbol. It exports symbols that
  *     start with kajurnat_, and no other.
  *   - At most KAJURNAT_STACK_BYTES of stack below the caller's, on any path;
  *     memcpy, memmove and memset take theirs below that.
  *   - No heap, thread, system call, writable data or unwind table.
  *   - It uses the SSE registers and the red zone, the 128 bytes below the stack
- *     pointer: as it is, it is not for interrupt handlers and kernels.
+ *     pointer: as it stands, it is not for interrupt handlers or kernels.
  */
 #ifndef KAJURNAT_H
 #define KAJURNAT_H
