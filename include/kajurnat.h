@@ -31,7 +31,8 @@
  *
  * Bytes that are not a sound card are refused by every call but
  * kajurnat_setup(). Trusted too are the compiler that made the archive, the
- * linker and the machine.
+ * linker, the three C functions that the archive calls, that the stack is deep
+ * enough, and the machine.
  *
  * What the archive needs, and what it does not; scripts/archive reads it off
  * the machine code:
