@@ -1,7 +1,7 @@
 /*
  * The layouts of kajurnat.h against those of the Linux kernel, by the compiler
  * alone: the offsets of the common configuration, and, where linux/virtio_pci.h
- * is recent enough to have the device parts commands (6.13), those too.
+ * is recent enough to have the device parts commands, requests and replies.
  */
 #include "common.h"
 #include "kajurnat.h"
