@@ -1,11 +1,10 @@
 # Two targets for a newcomer: `make run` and `make test`.
 
-.PHONY: run test compare compare-teeth bench-capture clean
+.PHONY: run test lib install uninstall compare compare-faults bench-capture clean
 
 # A guest moves from one card to another, and nothing of it stays behind. The first run proves the crates, in minutes.
 run:
-	@test -x target/bin/migrate || echo "The first run proves the crates: three to five minutes." >&2
-	@rt check migrate >/dev/null || { rt check migrate; exit 1; }
+	@scripts/prove migrate
 	@./target/bin/migrate
 
 # Formatting, proofs, must-fail edits, programs, and the tests outside the proof.
@@ -13,20 +12,48 @@ test:
 	@scripts/test
 
 ARCHIVE := target/staticlib/libkajurnat.a
+
+# What the archive is made of; folders too, so that a file which is gone counts as a change.
+SOURCES := crates.txt $(shell find $(addprefix crates/,$(shell scripts/crates kajurnat)) -name must-fail -prune -o -print)
+
+# The archive, proved and built where a crate of it has changed.
+lib: $(ARCHIVE)
+	@echo $(ARCHIVE)
+
+$(ARCHIVE): $(SOURCES)
+	@scripts/prove kajurnat
+	@rt staticlib kajurnat >target/log/staticlib.out 2>&1 || { cat target/log/staticlib.out >&2; exit 1; }
+
+PREFIX ?= /usr/local
+DESTDIR ?=
+INSTALLED_HEADER := $(DESTDIR)$(PREFIX)/include/kajurnat.h
+INSTALLED_ARCHIVE := $(DESTDIR)$(PREFIX)/lib/libkajurnat.a
+INSTALLED_PC := $(DESTDIR)$(PREFIX)/lib/pkgconfig/kajurnat.pc
+VERSION := $(shell sed -n 's/^\#define KAJURNAT_VERSION //p' include/kajurnat.h)
+
+# Archive, header and pkg-config file; PREFIX is where they are used, DESTDIR a folder to pack them from.
+install: $(ARCHIVE)
+	install -D -m 644 include/kajurnat.h '$(INSTALLED_HEADER)'
+	install -D -m 644 $(ARCHIVE) '$(INSTALLED_ARCHIVE)'
+	install -d '$(dir $(INSTALLED_PC))'
+	@printf '%s\n' 'prefix=$(PREFIX)' 'Name: kajurnat' \
+		'Description: verified control plane of a virtio card' 'Version: $(VERSION)' \
+		'Cflags: -I$${prefix}/include' 'Libs: -L$${prefix}/lib -lkajurnat' >'$(INSTALLED_PC)'
+
+uninstall:
+	rm -f '$(INSTALLED_HEADER)' '$(INSTALLED_ARCHIVE)' '$(INSTALLED_PC)'
+
 COMPARE := cargo run --offline --quiet --release --manifest-path docs/src/Cargo.toml --package compare
 SEED ?= 1
 CALLS ?= 2000000
-
-$(ARCHIVE):
-	@rt staticlib kajurnat
 
 # The archive against the independent card: SEED and CALLS choose the run.
 compare: $(ARCHIVE)
 	@$(COMPARE) --bin compare -- --seed $(SEED) --calls $(CALLS)
 
 # Faults planted in the independent card, and the calls it takes to find each.
-compare-teeth: $(ARCHIVE)
-	@$(COMPARE) --bin compare -- --teeth
+compare-faults: $(ARCHIVE)
+	@$(COMPARE) --bin compare -- --planted-faults
 
 # The time of a capture, as ratios in one run.
 bench-capture: $(ARCHIVE)

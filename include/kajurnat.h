@@ -2,9 +2,8 @@
  * Kajurnat: the control plane of a virtio card with up to sixteen member
  * devices. Group administration commands, resource objects, device parts.
  *
- * Link libkajurnat.a (x86-64). The library has no state of its own, allocates
- * nothing and makes no system call: a card is a buffer that the caller lends
- * for the time of a call.
+ * Link libkajurnat.a. The library has no state of its own: a card is a buffer
+ * that the caller lends for the time of a call.
  *
  * Proved of every call, whatever its arguments:
  *   - It returns, touches no byte outside the buffers that it is lent, and
@@ -20,19 +19,31 @@
  *
  * The caller is trusted for this:
  *   - Each pointer is valid for the length beside it: for reads where it is
- *     const, for reads and writes where it is not. With length 0 pass any
- *     pointer that is not NULL; nothing is read or written through it.
+ *     const, for reads and writes where it is not. With length 0 any pointer
+ *     will do, NULL too; nothing is read or written through it.
  *   - The buffers of a call do not overlap: card, request and reply are apart
  *     from each other, and so are card and features, card and value.
  *   - Until the call returns, nothing else writes to its buffers, and nothing
  *     else reads those that it writes. There is no lock inside: one call at a
  *     time for each card. Calls on different cards may run at once.
  *   - Only these functions write to a card. It may be copied, moved and kept
- *     in a file as it is.
+ *     in a file as it is, for a library of the same KAJURNAT_VERSION.
  *
  * Bytes that are not a sound card are refused by every call but
  * kajurnat_setup(). Trusted too are the compiler that made the archive, the
- * linker and the machine.
+ * linker, the three C functions that the archive calls, that the stack is deep
+ * enough, and the machine.
+ *
+ * What the archive needs, and what it does not; scripts/archive reads it off
+ * the machine code:
+ *   - x86-64 with SSE2, the System V calling convention. Position independent.
+ *   - memcpy, memmove and memset, and no other symbol. It exports symbols that
+ *     start with kajurnat_, and no other.
+ *   - At most KAJURNAT_STACK_BYTES of stack below the caller's, on any path;
+ *     memcpy, memmove and memset take theirs below that.
+ *   - No heap, thread, system call, writable data or unwind table.
+ *   - It uses the SSE registers and the red zone, the 128 bytes below the stack
+ *     pointer: as it stands, it is not for interrupt handlers or kernels.
  */
 #ifndef KAJURNAT_H
 #define KAJURNAT_H
@@ -43,6 +54,15 @@
 #ifdef __cplusplus
 extern "C" {
 #endif
+
+/*
+ * What the bytes of a card mean: raised whenever that changes. A card is for
+ * the library whose kajurnat_version() is the one it was made with.
+ */
+#define KAJURNAT_VERSION 1
+
+/* The stack that a call takes at most, memcpy, memmove and memset aside. */
+#define KAJURNAT_STACK_BYTES 2048
 
 /* ---- Setup and answers ------------------------------------------------ */
 
@@ -125,28 +145,56 @@ enum {
 /* The mask of these ten opcodes: bit n stands for opcode n. */
 #define KAJURNAT_CMD_MASK UINT64_C(0x3FC03)
 
-/* Statuses. The numbers are those of errno on Linux. */
+/* Statuses, the numbers of errno on Linux, each with its qualifier. */
 enum {
-    KAJURNAT_STATUS_OK = 0,
-    KAJURNAT_STATUS_ENXIO = 6,   /* no live object has this id */
-    KAJURNAT_STATUS_EAGAIN = 11, /* parts set on a running member */
-    KAJURNAT_STATUS_ENOMEM = 12, /* the reply buffer is too short */
-    KAJURNAT_STATUS_EEXIST = 17, /* create: the id is live */
-    KAJURNAT_STATUS_EINVAL = 22, /* the qualifier says what is wrong */
-    KAJURNAT_STATUS_ENOSPC = 28  /* no room for an object of this kind */
+    KAJURNAT_STATUS_OK = 0,      /* Q_OK */
+    KAJURNAT_STATUS_ENXIO = 6,   /* Q_INVALID_COMMAND: the id is not live */
+    KAJURNAT_STATUS_EAGAIN = 11, /* Q_TRYAGAIN: parts set, member running */
+    KAJURNAT_STATUS_ENOMEM = 12, /* Q_NORESOURCE: reply buffer too short */
+    KAJURNAT_STATUS_EEXIST = 17, /* Q_INVALID_COMMAND: create, the id is live */
+    KAJURNAT_STATUS_EINVAL = 22, /* Q_INVALID_..: the qualifier says what */
+    KAJURNAT_STATUS_ENOSPC = 28  /* Q_INVALID_COMMAND: no room for an object */
 };
 
-/* Qualifiers. */
+/* Qualifiers, each with its statuses. */
 enum {
-    KAJURNAT_Q_OK = 0,
-    KAJURNAT_Q_INVALID_COMMAND = 1, /* with EINVAL: a wrong length */
-    KAJURNAT_Q_INVALID_OPCODE = 2,  /* not supported, or not in use */
-    KAJURNAT_Q_INVALID_FIELD = 3,   /* a field of the data, or a bad list */
-    KAJURNAT_Q_INVALID_GROUP = 4,
-    KAJURNAT_Q_INVALID_MEMBER = 5,
-    KAJURNAT_Q_NORESOURCE = 6, /* with ENOMEM */
-    KAJURNAT_Q_TRYAGAIN = 7    /* with EAGAIN */
+    KAJURNAT_Q_OK = 0,              /* OK */
+    KAJURNAT_Q_INVALID_COMMAND = 1, /* EINVAL, ENXIO, EEXIST, ENOSPC */
+    KAJURNAT_Q_INVALID_OPCODE = 2,  /* EINVAL */
+    KAJURNAT_Q_INVALID_FIELD = 3,   /* EINVAL: a field or a list */
+    KAJURNAT_Q_INVALID_GROUP = 4,   /* EINVAL */
+    KAJURNAT_Q_INVALID_MEMBER = 5,  /* EINVAL */
+    KAJURNAT_Q_NORESOURCE = 6,      /* ENOMEM */
+    KAJURNAT_Q_TRYAGAIN = 7         /* EAGAIN */
 };
+
+/*
+ * The order of refusals. The first row that applies answers, and the card
+ * stays as it was; if none applies, the command succeeds.
+ *
+ *    1  (0 bytes written)       the card is not sound, or the reply buffer is
+ *                               under 8 bytes
+ *    2  EINVAL INVALID_COMMAND  the request is under 24 or over 4096 bytes
+ *    3  EINVAL INVALID_GROUP    the group type is not KAJURNAT_GROUP_SRIOV
+ *    4  EINVAL INVALID_OPCODE   the opcode is not supported, or not in use
+ *    5  EINVAL INVALID_MEMBER   0x0a to 0x11: there is no such member
+ *    6  EINVAL INVALID_COMMAND  the data is not of the command's length
+ *    7  EINVAL INVALID_FIELD    a mask bit that is not supported, an object
+ *                               type other than KAJURNAT_OBJ_DEV_PARTS, an id
+ *                               of gets + sets or more, flags that are not
+ *                               zero, a kind, a metadata or a get byte out of
+ *                               range, one of the mode bits 1 to 7, headers
+ *                               with KAJURNAT_PARTS_ALL
+ *    8  EEXIST INVALID_COMMAND  create: the id is live
+ *       ENXIO  INVALID_COMMAND  0x0b to 0x10: the id is not live
+ *       ENOSPC INVALID_COMMAND  create, modify: there would be more than gets
+ *                               get objects or more than sets set objects
+ *       EINVAL INVALID_FIELD    metadata, parts get: not a get object; parts
+ *                               set: not a set object
+ *    9  EAGAIN TRYAGAIN         parts set: the member runs
+ *   10  EINVAL INVALID_FIELD    parts get, parts set: a bad list (see Parts)
+ *   11  ENOMEM NORESOURCE       the reply buffer is too short for the result
+ */
 
 /* ---- Objects ---------------------------------------------------------- */
 
@@ -201,11 +249,48 @@ enum { KAJURNAT_PART_HEADER_BYTES = 16, KAJURNAT_PART_F_OPTIONAL = 1 };
 enum {
     KAJURNAT_PART_DEV_FEATURES = 0x100,   /* none; 16 */
     KAJURNAT_PART_DRV_FEATURES = 0x101,   /* none; 16 */
-    KAJURNAT_PART_PCI_COMMON_CFG = 0x102, /* offset 0, 8, 16, 22; 4, 4, 2, 2 */
+    KAJURNAT_PART_PCI_COMMON_CFG = 0x102, /* offset of a field; 4 or 2 */
     KAJURNAT_PART_DEVICE_STATUS = 0x103,  /* none; 1 */
     KAJURNAT_PART_VQ_CFG = 0x104,         /* queue index; 32 */
     KAJURNAT_PART_VQ_NOTIFY_CFG = 0x105   /* queue index; 8 */
 };
+
+/*
+ * The selectors of KAJURNAT_PART_PCI_COMMON_CFG: offsets in virtio's common
+ * configuration structure, with the length of the field. Linux has
+ * guest_feature_select for the second and msix_config for the third.
+ */
+enum {
+    KAJURNAT_COMMON_DEVICE_FEATURE_SELECT = 0, /* 4 */
+    KAJURNAT_COMMON_DRIVER_FEATURE_SELECT = 8, /* 4 */
+    KAJURNAT_COMMON_CONFIG_MSIX_VECTOR = 16,   /* 2 */
+    KAJURNAT_COMMON_QUEUE_SELECT = 22          /* 2 */
+};
+
+/*
+ * Values. Features are two numbers of 8 bytes, feature bit 0 being bit 0 of
+ * the first.
+ *
+ * KAJURNAT_PART_VQ_CFG              KAJURNAT_PART_VQ_NOTIFY_CFG
+ *    0  queue size          2         0  notify offset          2
+ *    2  MSI-X vector        2         2  notify config data     2
+ *    4  enabled             2         4  reserved               4
+ *    6  reserved            2
+ *    8  descriptor area     8
+ *   16  driver area         8
+ *   24  device area         8
+ *
+ * A value is kept and given back whole, its reserved bytes too.
+ *
+ * A list of parts is taken whole or not at all. It is bad if
+ *   - a header or a value runs past its end;
+ *   - it has a part that the member does not have. Parts set skips such a part
+ *     if it has KAJURNAT_PART_F_OPTIONAL and a type below 0x600;
+ *   - a value to set is not of the part's length;
+ *   - device features to set differ from the member's, which never change;
+ *   - it has a part of the member twice.
+ * Of a header that is asked for only type and selector are read.
+ */
 
 /* ---- Functions -------------------------------------------------------- */
 
@@ -254,6 +339,16 @@ uint8_t kajurnat_reset_member(uint8_t *card, size_t card_len, uint64_t member);
  * Returns KAJURNAT_DONE or KAJURNAT_NOT_SOUND.
  */
 uint8_t kajurnat_reset_card(uint8_t *card, size_t card_len);
+
+/*
+ * Whether the buffer is a sound card: 1 if it is, else 0.
+ */
+uint8_t kajurnat_is_sound(const uint8_t *card, size_t card_len);
+
+/*
+ * KAJURNAT_VERSION of the library that is linked.
+ */
+uint32_t kajurnat_version(void);
 
 /*
  * Sets one part of one member, running or stopped, for the data path.

@@ -6,6 +6,7 @@
  * set in member 2 and captured again: the bytes are the same. In the end
  * member 1 of the source is reset, and nothing of its parts is left.
  */
+#include "common.h"
 #include "kajurnat.h"
 
 #include <inttypes.h>
@@ -50,36 +51,10 @@ struct part {
     size_t length;
 };
 
-/* Ends the program if something is not as it should be. */
-static void expect(bool holds, const char *what)
-{
-    if (!holds) {
-        fprintf(stderr, "failed: %s\n", what);
-        exit(EXIT_FAILURE);
-    }
-}
-
 /* Prints what was done with a member of a card. */
 static void report(const struct card *card, uint64_t member, const char *what)
 {
     printf("%s: member %" PRIu64 " %s\n", card->name, member, what);
-}
-
-/* Little-endian numbers. */
-static void put_number(uint8_t *to, size_t length, uint64_t number)
-{
-    for (size_t i = 0; i < length; i++) {
-        to[i] = (uint8_t)(number >> (8 * i));
-    }
-}
-
-static uint64_t get_number(const uint8_t *from, size_t length)
-{
-    uint64_t number = 0;
-    for (size_t i = 0; i < length; i++) {
-        number |= (uint64_t)from[i] << (8 * i);
-    }
-    return number;
 }
 
 static uint16_t status_of(const struct reply *reply)
@@ -331,8 +306,10 @@ static void reset(struct card *card, uint64_t member)
     expect(print_parts(&fresh) == 0, "every part but device features is zero");
 }
 
-int main(void)
+int main(int count, char **arguments)
 {
+    take_no_arguments(count, arguments, "moves a member to another card");
+
     struct card source = {.name = "source"};
     struct card destination = {.name = "destination"};
 

@@ -11,6 +11,15 @@ const CARD: usize = 916;
 // A full capture: the reply's head and all parts.
 const CAPTURE: usize = 309;
 
+const PARTS: usize = 11;
+// The head of a reply and the header of a part.
+const HEAD: usize = 8;
+
+const HEADER: usize = 16;
+
+// The one feature that the cards offer and the guest's driver takes.
+const VERSION_1: [u8; 16] = [0, 0, 0, 0, 1, 0, 0, 0, 0, 0, 0, 0, 0, 0, 0, 0];
+
 fn name_status(status: u8) {
     match status {
         0 => transcript::print(b"OK"),
@@ -47,7 +56,7 @@ fn restore(member: u64, reply: &[u8]) -> Request {
     if reply.len() < CAPTURE {
         return empty;
     }
-    empty.list(&reply[8..CAPTURE])
+    empty.list(&reply[HEAD..CAPTURE])
 }
 
 fn objects(card: &mut [u8], member: u64, reply: &mut [u8]) {
@@ -81,20 +90,119 @@ fn prepare(card: &mut [u8], member: u64, reply: &mut [u8]) {
     );
 }
 
-// A queue of 256 entries with addresses of its own.
+// A queue of 256 entries, vector 1, enabled, with its three areas in the guest's memory.
 fn queue() -> [u8; 32] {
-    let mut value = [7u8; 32];
-    value[0] = 0;
-    value[1] = 1;
-    value[4] = 1;
+    let mut value = [0u8; 32];
+    wire::write(&mut value, 0, 2, 256);
+    wire::write(&mut value, 2, 2, 1);
+    wire::write(&mut value, 4, 2, 1);
+    wire::write(&mut value, 8, 8, 0x7f0000);
+    wire::write(&mut value, 16, 8, 0x7f1000);
+    wire::write(&mut value, 24, 8, 0x7f2000);
     value
 }
 
-// The guest at work: its driver's features, a queue and the device status.
+// The guest at work: its driver's features, the vector of configuration changes, the device status and a queue.
 fn work(card: &mut [u8], member: u64) {
-    kajurnat::kajurnat_store(card, member, 0x101, 0, b"driver features!");
-    kajurnat::kajurnat_store(card, member, 0x104, 1, &queue());
+    kajurnat::kajurnat_store(card, member, 0x101, 0, &VERSION_1);
+    kajurnat::kajurnat_store(card, member, 0x102, 16, &[1, 0]);
     kajurnat::kajurnat_store(card, member, 0x103, 0, &[0x0f]);
+    kajurnat::kajurnat_store(card, member, 0x104, 1, &queue());
+}
+
+// ---- what differs between two captures ----
+
+fn name_part(part_type: u16, selector: u64) {
+    match part_type {
+        0x100 => transcript::print(b"device features"),
+        0x101 => transcript::print(b"driver features"),
+        0x102 => transcript::print(b"PCI common field at"),
+        0x103 => transcript::print(b"device status"),
+        0x104 => transcript::print(b"queue"),
+        0x105 => transcript::print(b"queue notify"),
+        _ => transcript::print(b"?"),
+    }
+    if part_type == 0x102 || part_type == 0x104 || part_type == 0x105 {
+        transcript::print(b" ");
+        transcript::print_number(selector);
+    }
+}
+
+fn show_area(name: &[u8], address: u64) {
+    transcript::print(b"      ");
+    transcript::print(name);
+    transcript::print_address(address);
+    transcript::print(b"\n");
+}
+
+fn show_queue(value: &[u8]) {
+    if value.len() < 32 {
+        return;
+    }
+    transcript::print(b"size ");
+    transcript::print_number(wire::read(value, 0, 2));
+    transcript::print(b", vector ");
+    transcript::print_number(wire::read(value, 2, 2));
+    transcript::print(b", enabled ");
+    transcript::print_number(wire::read(value, 4, 2));
+    transcript::print(b"\n");
+    show_area(b"descriptor area ", wire::read(value, 8, 8));
+    show_area(b"driver area     ", wire::read(value, 16, 8));
+    show_area(b"device area     ", wire::read(value, 24, 8));
+}
+
+fn show_value(part_type: u16, value: &[u8]) {
+    if part_type == 0x104 {
+        show_queue(value);
+    } else {
+        transcript::print_hex(value);
+    }
+}
+
+// One part of two captures, named if it differs.
+fn show_part(before: &[u8], after: &[u8]) {
+    if wire::equal(before, after) {
+        return;
+    }
+    if after.len() < HEADER {
+        return;
+    }
+    let part_type = wire::read_u16(after, 0);
+    transcript::print(b"    ");
+    name_part(part_type, wire::read(after, 4, 8));
+    transcript::print(b": ");
+    show_value(part_type, &after[HEADER..]);
+}
+
+// The part at this place of two captures; answers the place of the next one.
+fn show_change(at: usize, before: &[u8], after: &[u8]) -> usize {
+    if before.len() < CAPTURE {
+        return CAPTURE;
+    }
+    if after.len() < CAPTURE {
+        return CAPTURE;
+    }
+    if CAPTURE - HEADER < at {
+        return CAPTURE;
+    }
+    let value = at + HEADER;
+    let size = wire::read(after, at + 12, 4);
+    if ((CAPTURE - value) as u64) < size {
+        return CAPTURE;
+    }
+    let next = value + size as usize;
+    show_part(&before[at..next], &after[at..next]);
+    next
+}
+
+fn show_changes(before: &[u8], after: &[u8]) {
+    transcript::print(b"  changed:\n");
+    let mut at = HEAD;
+    let mut i = 0;
+    while i < PARTS {
+        at = show_change(at, before, after);
+        i += 1;
+    }
 }
 
 fn check(name: &[u8], holds: bool) {
@@ -108,7 +216,7 @@ fn check(name: &[u8], holds: bool) {
 }
 
 fn setup(card: &mut [u8]) {
-    kajurnat::kajurnat_setup(card, MEMBERS, QUEUES, 1, 1, &[0u8; 16]);
+    kajurnat::kajurnat_setup(card, MEMBERS, QUEUES, 1, 1, &VERSION_1);
 }
 
 fn get_all(card: &mut [u8], member: u64, reply: &mut [u8]) {
@@ -125,11 +233,10 @@ fn first_place(card: &mut [u8], reply: &mut [u8], unused: &mut [u8], leaving: &m
     transcript::print(b"\nFirst card, member 2: before the guest\n");
     prepare(card, 2, reply);
     get_all(card, 2, unused);
-    transcript::print(
-        b"\nFirst card, member 2: the guest has set its features, a queue and its status\n",
-    );
+    transcript::print(b"\nFirst card, member 2: the guest at work\n");
     work(card, 2);
     get_all(card, 2, leaving);
+    show_changes(unused, leaving);
 }
 
 // Member 3 of the second card takes the guest over.

@@ -162,3 +162,21 @@ pub fn print_hex(s: &[u8]) {
         i += 1;
     }
 }
+
+fn print_digits(text: &[u8; 16]) {
+    print(b"0x");
+    print(text);
+}
+
+// The number in hexadecimal, all sixteen digits of it.
+pub fn print_address(n: u64) {
+    let mut text = [b'0'; 16];
+    let mut rest = n;
+    let mut i = 16;
+    while 0 < i {
+        i -= 1;
+        text[i] = digit((rest % 16) as u8);
+        rest /= 16;
+    }
+    print_digits(&text);
+}

@@ -1,0 +1,127 @@
+/*
+ * The stack that calls of the library take.
+ *
+ * Linked into a program with --wrap for each function below, it stands between
+ * the program and the library: it fills the stack below with a pattern, makes
+ * the call, and looks how far down the pattern is gone. At the end it reports
+ * the deepest call, and ends with 1 if that is over KAJURNAT_STACK_BYTES.
+ */
+#include "kajurnat.h"
+
+#include <stddef.h>
+#include <stdint.h>
+#include <stdio.h>
+#include <stdlib.h>
+#include <unistd.h>
+
+#define PATTERN UINT64_C(0xa5c3965ae17b2d48)
+
+enum { WORDS = 1024 };
+
+static size_t calls, deepest;
+static const char *deepest_name = "none";
+
+/* The words that were filled last, and the frame above them. */
+static volatile uint64_t *filled;
+static uintptr_t frame;
+
+/* Fills the words below the caller's frame. */
+__attribute__((noinline)) static void fill(void)
+{
+    uint64_t words[WORDS];
+
+    filled = words;
+    frame = (uintptr_t)__builtin_frame_address(0) + 16;
+    /* The compiler is not to know that the words are read once they are gone.
+     */
+    __asm__ volatile("" : "+m"(filled) : : "memory");
+    for (size_t i = 0; i < WORDS; i++) {
+        filled[i] = PATTERN;
+    }
+}
+
+/* The bytes from that frame down to the lowest word that changed since. */
+__attribute__((noinline)) static size_t depth(void)
+{
+    size_t i = 0;
+
+    while (i < WORDS && filled[i] == PATTERN) {
+        i++;
+    }
+    return frame - (uintptr_t)&filled[i];
+}
+
+static void record(const char *name, size_t bytes)
+{
+    calls++;
+    if (bytes > deepest) {
+        deepest = bytes;
+        deepest_name = name;
+    }
+}
+
+#define MEASURED(type, name, parameters, arguments)                            \
+    type __real_##name parameters;                                             \
+    type __wrap_##name parameters;                                             \
+    type __wrap_##name parameters                                              \
+    {                                                                          \
+        fill();                                                                \
+        type result = __real_##name arguments;                                 \
+        size_t bytes = depth();                                                \
+        record(#name, bytes);                                                  \
+        return result;                                                         \
+    }
+
+MEASURED(size_t, kajurnat_card_bytes, (uint64_t members), (members))
+MEASURED(uint8_t, kajurnat_setup,
+         (uint8_t * card, size_t card_len, uint64_t members, uint64_t queues,
+          uint64_t gets, uint64_t sets, const uint8_t *features,
+          size_t features_len),
+         (card, card_len, members, queues, gets, sets, features, features_len))
+MEASURED(size_t, kajurnat_command,
+         (uint8_t * card, size_t card_len, const uint8_t *request,
+          size_t request_len, uint8_t *reply, size_t reply_len),
+         (card, card_len, request, request_len, reply, reply_len))
+MEASURED(uint8_t, kajurnat_reset_member,
+         (uint8_t * card, size_t card_len, uint64_t member),
+         (card, card_len, member))
+MEASURED(uint8_t, kajurnat_reset_card, (uint8_t * card, size_t card_len),
+         (card, card_len))
+MEASURED(uint8_t, kajurnat_is_sound, (const uint8_t *card, size_t card_len),
+         (card, card_len))
+MEASURED(uint8_t, kajurnat_store,
+         (uint8_t * card, size_t card_len, uint64_t member, uint16_t part_type,
+          uint64_t selector, const uint8_t *value, size_t value_len),
+         (card, card_len, member, part_type, selector, value, value_len))
+
+/* A call of a known depth is measured as such, or nothing is. */
+__attribute__((noinline)) static void take_a_kilobyte(void)
+{
+    uint64_t words[128];
+    volatile uint64_t *word = words;
+
+    __asm__ volatile("" : "+r"(word) : : "memory");
+    word[0] = 0;
+}
+
+__attribute__((constructor)) static void check_measure(void)
+{
+    fill();
+    size_t nothing = depth();
+    fill();
+    take_a_kilobyte();
+    size_t kilobyte = depth();
+    if (nothing > 64 || kilobyte < 1024 || kilobyte > 1024 + 64) {
+        fprintf(stderr, "stack: cannot be measured here\n");
+        exit(EXIT_FAILURE);
+    }
+}
+
+__attribute__((destructor)) static void report(void)
+{
+    fprintf(stderr, "stack: %zu bytes at most in %zu calls, in %s\n", deepest,
+            calls, deepest_name);
+    if (deepest > KAJURNAT_STACK_BYTES) {
+        _exit(EXIT_FAILURE);
+    }
+}
