@@ -228,7 +228,7 @@ pub fn load(bytes: &[u8]) -> Member
 
 // ---- from a member to its bytes, field by field ----
 
-pub fn mode_byte(mode: Mode) -> u8
+fn mode_byte(mode: Mode) -> u8
     ensures { λ r. ⌜ r ≡ modeByte mode ⌝ }
 {
     match mode {
