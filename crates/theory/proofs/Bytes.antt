@@ -1,4 +1,4 @@
--- The laws of `part`, `put` and `repeat` of specs/Bytes.antt. `put` never writes past the end, so most ask no length.
+-- The laws of `bytesAt`, `put` and `repeat` of specs/Bytes.antt. `put` never writes past the end, so most ask no length.
 -- Assumes nothing.
 use mathlib.Core.Path.{_≡_, refl, ap, _∙_}
 use mathlib.Core.List.{List, [], _∷_, _++_, append-nil}
