@@ -1,26 +1,26 @@
--- Rows whose values are of one size, and all parts of a member as runs of such rows. Assumes nothing.
+-- Runs of rows of one type and size, and all parts of a member as such runs. Assumes nothing.
 use mathlib.Core.Path.{_≡_, refl, sym, _∙_}
-use mathlib.Core.Bool.{Bool, true, false, not}
+use mathlib.Core.Bool.{Bool, true, false}
 use mathlib.Core.List.{List, [], _∷_, _++_, append-assoc}
 use Prim.Native.Nat.{ℕ, zero, suc, _+_, _*_, _≤_, _<_}
 use native.Mathlib.Nat.{add-zero, add-assoc}
 use native.Mathlib.Omega.{arith}
-use borrow.Author.Tests.{eqb-true, le-leb, lt-leb}
+use borrow.Author.Tests.{eqb-true, ltb-true, leb-true, le-ltb, lt-leb}
 use lib.Dec.{T, leb, ltb, eqb, ltb→lt}
 use lib.ListN.{length, getD}
 use Rattle.theory.specs.Logic.{_and_, _or_}
 use Rattle.theory.specs.Bytes.{bytesAt, put}
 use Rattle.theory.specs.Items.{itemsFrom}
 use Rattle.theory.proofs.Tests.{false-or, both}
-use Rattle.theory.proofs.Table.{every}
+use Rattle.theory.proofs.Table.{every, at}
 use Rattle.theory.proofs.Sums.{length-items, sum-same}
 use Rattle.theory.proofs.Items.{Written, written-start, written-room, written-end, written-at}
 use Rattle.inventory.specs.Inventory.{Row, row, rows, rowAt, rowCount, offsetOf, valuesSize}
 use Rattle.inventory.specs.Header.{headerOf, headerSize}
-use Rattle.inventory.proofs.Columns.{selectors, selector-at, size-at}
-use Rattle.inventory.proofs.Rules.{table, every-row, row-within, offset-next}
+use Rattle.inventory.proofs.Columns.{types, selectors, sizes, offsets, type-at, selector-at, size-at, offset-at}
+use Rattle.inventory.proofs.Rules.{table, every-row, every-count, row-within, offset-next}
 use Rattle.capture.specs.Capture.{partAt, asks, partItem, partsWritten, captureOf, CaptureFits}
-use Rattle.capture.specs.Runs.{RowsAlike, RunFits, runOf, Wrote}
+use Rattle.capture.specs.Runs.{largestValue, RowsAlike, RunFits, runOf, Wrote}
 use Rattle.capture.proofs.Sizes.{part-length, capture-length}
 use Rattle.capture.proofs.Writes.{row-small, wrote-next}
 
@@ -52,12 +52,12 @@ module _ (v : List ℕ) (first count type size offset : ℕ) (a : RowsAlike firs
   pub run-start : (b : ℕ) (out : List ℕ) → b + count * (headerSize + size) ≤ length out → Running v first count b out out b offset 0
   run-start b out h = record { written = written-start item count b out (omega (arith, run-length)); starts = a .starts ∙ rw add-zero }
 
-  -- a turn: row r is the next
+  -- a turn: row first + i is the next
   module _ (b : ℕ) (out₀ out : List ℕ) (at from i : ℕ) (w : Running v first count b out₀ out at from i) (h : i < count) where
     row-there : first + i < rowCount
     row-there = inside i h
 
-    pub run-small : size ≤ 32
+    pub run-small : size ≤ largestValue
     run-small = rw (size-at (first + i), a .sized i h) at (row-small (first + i) row-there)
 
     pub run-inside : from + size ≤ valuesSize
@@ -79,62 +79,62 @@ module _ (v : List ℕ) (first count type size offset : ℕ) (a : RowsAlike firs
     run-on out′ next d =
         record { written = wrote-next item count b out₀ out out′ _ at next i (w .written) h next-item d; starts = next-starts }
 
--- ---- all parts, as runs ----
+-- ---- the table of the runs ----
 
--- row i is one of the run's, or is not in it
-abbrev alikeAt : ℕ → ℕ → ℕ → ℕ → ℕ → Row → Bool
-alikeAt first count type size i r = (not (leb first i) or leb (first + count) i) or (eqb (r .partType) type and eqb (r .size) size)
-
-module _ (first count type size : ℕ) (t : every (alikeAt first count type size) 0 rows ≡ true) (l : first + count ≤ rowCount) where
-  at-row : (j : ℕ) → j < count → (eqb (rowAt (first + j) .partType) type ≡ true) × (eqb (rowAt (first + j) .size) size ≡ true)
-  at-row j h =
-      let x = every-row (alikeAt first count type size) t (first + j) (omega arith) in
-      let y : leb first (first + j) ≡ true = le-leb first (first + j) (omega arith) in
-      let z : leb (first + count) (first + j) ≡ false = lt-leb (first + count) (first + j) (omega arith) in
-      both _ _ (simp (y, z, false-or) at x)
-
-  alike : RowsAlike first count type size (offsetOf first)
-  alike = record {
-    there = l;
-    typed = λ j h. eqb-true _ type (at-row j h .0);
-    sized = λ j h. eqb-true _ size (at-row j h .1);
-    starts = refl;
-  }
-
-fewer : (first count n type size offset : ℕ) → n ≤ count → RowsAlike first count type size offset → RowsAlike first n type size offset
-fewer first count n type size offset h a =
-    let l = a .there in
-    record { there = omega arith; typed = λ j k. a .typed j (omega arith); sized = λ j k. a .sized j (omega arith); starts = a .starts }
-
--- the runs: device features, driver features, PCI common fields by their size, device status, queues, queue notify
 abbrev pub runCount : ℕ
 runCount = 7
 
+abbrev firsts : List ℕ
+firsts = 0 ∷ 1 ∷ 2 ∷ 4 ∷ 6 ∷ 7 ∷ 11 ∷ []
+
+-- their rows, with so many queues
+abbrev counts : ℕ → List ℕ
+counts q = 1 ∷ 1 ∷ 2 ∷ 2 ∷ 1 ∷ q ∷ q ∷ []
+
 abbrev pub firstOf : ℕ → ℕ
-firstOf k = getD (0 ∷ 1 ∷ 2 ∷ 4 ∷ 6 ∷ 7 ∷ 11 ∷ []) k 0
+firstOf k = getD firsts k 0
 
 abbrev pub countOf : ℕ → ℕ → ℕ
-countOf q k = getD (1 ∷ 1 ∷ 2 ∷ 2 ∷ 1 ∷ q ∷ q ∷ []) k 0
+countOf q k = getD (counts q) k 0
 
-abbrev pub typeOf : ℕ → ℕ
-typeOf k = getD (0x100 ∷ 0x101 ∷ 0x102 ∷ 0x102 ∷ 0x103 ∷ 0x104 ∷ 0x105 ∷ []) k 0
+-- row i is like the first of the run, or not in the run
+abbrev alikeAt : ℕ → ℕ → ℕ → Row → Bool
+alikeAt first count i r =
+    (ltb i first or leb (first + count) i) or (eqb (r .partType) (rowAt first .partType) and eqb (r .size) (rowAt first .size))
 
-abbrev pub sizeOf : ℕ → ℕ
-sizeOf k = getD (16 ∷ 16 ∷ 4 ∷ 2 ∷ 1 ∷ 32 ∷ 8 ∷ []) k 0
+abbrev alikeRun : ℕ → ℕ → Bool
+alikeRun first count = ltb first rowCount and leb (first + count) rowCount and every (alikeAt first count) 0 rows
 
-abbrev pub startOf : ℕ → ℕ
-startOf k = getD (0 ∷ 16 ∷ 32 ∷ 40 ∷ 44 ∷ 45 ∷ 173 ∷ []) k 0
+-- a run has the type, the size and the offset that the tables have at its first row
+abbrev Alike : ℕ → ℕ → Type 0
+Alike first count = RowsAlike first count (getD types first 0) (getD sizes first 0) (getD offsets first 0)
 
-pub run-alike : (q k : ℕ) → q < 5 → k < runCount → RowsAlike (firstOf k) (countOf q k) (typeOf k) (sizeOf k) (startOf k)
+alike : (first count : ℕ) → alikeRun first count ≡ true → Alike first count
+alike first count t =
+    let b = both _ _ t in
+    let c = both _ _ (b .0) in
+    let n : first + count ≤ rowCount = leb-true _ _ (c .1) in
+    let row-alike : (j : ℕ) → j < count
+    → (eqb (rowAt (first + j) .partType) (rowAt first .partType) ≡ true) × (eqb (rowAt (first + j) .size) (rowAt first .size) ≡ true) =
+    λ j h.
+    let y : ltb (first + j) first ≡ false = le-ltb (first + j) first (omega arith) in
+    let z : leb (first + count) (first + j) ≡ false = lt-leb (first + count) (first + j) (omega arith) in
+    both _ _ (simp (y, z, false-or) at (every-row (alikeAt first count) (b .1) (first + j) (omega arith))) in
+    record {
+      there = n;
+      typed = λ j h. eqb-true _ _ (row-alike j h .0) ∙ sym (type-at first);
+      sized = λ j h. eqb-true _ _ (row-alike j h .1) ∙ sym (size-at first);
+      starts = offset-at first (ltb-true _ _ (c .0));
+    }
+
+-- one test over the table: each run is of rows alike, whatever the queues
+run-alike : (q k : ℕ) → q < 5 → k < runCount → Alike (firstOf k) (countOf q k)
 unfolding table
-run-alike q zero f h = alike 0 1 0x100 16 refl (omega arith)
-run-alike q (suc zero) f h = alike 1 1 0x101 16 refl (omega arith)
-run-alike q (suc (suc zero)) f h = alike 2 2 0x102 4 refl (omega arith)
-run-alike q (suc (suc (suc zero))) f h = alike 4 2 0x102 2 refl (omega arith)
-run-alike q (suc (suc (suc (suc zero)))) f h = alike 6 1 0x103 1 refl (omega arith)
-run-alike q (suc (suc (suc (suc (suc zero))))) f h = fewer 7 4 q 0x104 32 45 (omega arith) (alike 7 4 0x104 32 refl (omega arith))
-run-alike q (suc (suc (suc (suc (suc (suc zero)))))) f h = fewer 11 4 q 0x105 8 173 (omega arith) (alike 11 4 0x105 8 refl (omega arith))
-run-alike q (suc (suc (suc (suc (suc (suc (suc k))))))) f h = absurd (omega arith)
+run-alike q k f h =
+    let t = every-count (λ q. every (λ j n. alikeRun (firstOf j) n) 0 (counts q)) refl q f in
+    alike _ _ (at (λ j n. alikeRun (firstOf j) n) 0 (counts q) t k h)
+
+-- ---- all parts, as runs ----
 
 abbrev pub run : ℕ → List ℕ → ℕ → List ℕ
 run q v k = runOf v (firstOf k) (countOf q k)
@@ -168,7 +168,7 @@ module _ {q : ℕ} {v out₀ : List ℕ} where
       abbrev few : k < runCount
       few = ltb→lt k runCount h
 
-      pub run-asks : RunFits v (firstOf k) (countOf q k) (typeOf k) (sizeOf k) (startOf k) at out
+      pub run-asks : RunFits v (firstOf k) (countOf q k) (getD types (firstOf k) 0) (getD sizes (firstOf k) 0) (getD offsets (firstOf k) 0) at out
       run-asks =
           let p = w .fits in
           let a = run-alike q k (p .few) few in

@@ -19,7 +19,7 @@ use Rattle.inventory.specs.Header.{headerOf, headerSize}
 use Rattle.inventory.proofs.Columns.{types, selectors, sizes, offsets, type-at, selector-at, size-at, offset-at, row-at}
 use Rattle.inventory.proofs.Rules.{table, every-row, row-within, length-header}
 use Rattle.capture.specs.Capture.{Selection, All, Asked, headerItem, partAt, asks, partItem}
-use Rattle.capture.specs.Runs.{Wrote}
+use Rattle.capture.specs.Runs.{largestValue, Wrote}
 use Rattle.capture.proofs.Sizes.{itemSize, size-most}
 
 -- ---- one part ----
@@ -51,9 +51,9 @@ entry i = row (getD types i 0) (getD selectors i 0) (getD sizes i 0)
 pub row-inside : (i : ℕ) (v : List ℕ) → i < rowCount → length v ≡ valuesSize → getD offsets i 0 + getD sizes i 0 ≤ length v
 row-inside i v h e = omega (arith, offset-at i h, size-at i, row-within i h)
 
-pub row-small : (i : ℕ) → i < rowCount → getD sizes i 0 ≤ 32
+pub row-small : (i : ℕ) → i < rowCount → getD sizes i 0 ≤ largestValue
 unfolding table
-row-small i h = rw (size-at i) (leb-true _ _ (every-row (λ j r. leb (r .size) 32) refl i h))
+row-small i h = rw (size-at i) (leb-true _ _ (every-row (λ j r. leb (r .size) largestValue) refl i h))
 
 -- what is written is the next item
 pub wrote-next : (item : ℕ → List ℕ) (n b : ℕ) (out₀ out out′ x : List ℕ) (at next i : ℕ) → Written item n b out₀ out at i → i < n

@@ -1,4 +1,4 @@
--- What the private writers of parts leave. No public contract cites this. Assumes nothing.
+-- What the private writers of parts ask and leave. No public contract cites this. Assumes nothing.
 use mathlib.Core.Path.{_≡_}
 use mathlib.Core.List.{List}
 use Prim.Native.Nat.{ℕ, _+_, _*_, _≤_, _<_}
@@ -8,6 +8,10 @@ use Rattle.theory.specs.Items.{itemsFrom}
 use Rattle.inventory.specs.Inventory.{rowAt, rowCount, offsetOf, valuesSize}
 use Rattle.inventory.specs.Header.{headerSize}
 use Rattle.capture.specs.Capture.{partAt}
+
+-- the bytes of the largest value
+abbrev pub largestValue : ℕ
+largestValue = 32
 
 -- rows of one type whose values are of one size, from an offset on, and their parts
 pub record RowsAlike (first count type size offset : ℕ) : Type 0 where

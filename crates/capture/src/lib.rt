@@ -8,16 +8,17 @@ ghost use Rattle.theory.specs.Bytes.{bytesAt, put};
 ghost use Rattle.inventory.specs.Inventory.{row, valuesSize};
 ghost use Rattle.inventory.specs.Header.{headerSize, headerOf};
 ghost use Rattle.capture.specs.Capture.{Asked, headersOf, asks, partsWritten, captureOf, CaptureFits};
-ghost use Rattle.capture.specs.Runs.{RunFits, runOf, Wrote};
-use inventory::DEVICE_FEATURES;
-use inventory::DEVICE_STATUS;
-use inventory::DRIVER_FEATURES;
+ghost use Rattle.capture.specs.Runs.{largestValue, RunFits, runOf, Wrote};
 use inventory::HEADER_SIZE;
-use inventory::PCI_COMMON;
-use inventory::QUEUE;
-use inventory::QUEUE_NOTIFY;
+use inventory::OFFSETS;
 use inventory::ROWS;
+use inventory::SELECTORS;
+use inventory::SIZES;
+use inventory::TYPES;
 use parts::ListForm;
+
+// The bytes of the largest value.
+const LARGEST_VALUE: usize = 32;
 
 // ---- headers ----
 
@@ -26,9 +27,9 @@ pub fn write_headers(out: &mut [u8], queues: u8)
     requires { ⌜ length (headersOf queues) ≤ length (now out) ⌝ }
     ensures { λ _. ⌜ now (out .exit) ≡ put 0 (headersOf queues) (now (out .entry)) ⌝ }
 {
-    let types = inventory::TYPES;
-    let selectors = inventory::SELECTORS;
-    let sizes = inventory::SIZES;
+    let types = TYPES;
+    let selectors = SELECTORS;
+    let sizes = SIZES;
     let mut at = 0;
     let mut i = 0;
     while i < ROWS {
@@ -62,13 +63,13 @@ fn write_part(
     size: u8,
     offset: u8,
 ) -> usize
-    requires { ⌜ (size ≤ 32) × (offset + size ≤ length (now values)) × (at + (headerSize + size) ≤ length (now out)) ⌝ }
+    requires { ⌜ (size ≤ largestValue) × (offset + size ≤ length (now values)) × (at + (headerSize + size) ≤ length (now out)) ⌝ }
     ensures { λ r. ⌜ Wrote (headerOf (row «row_type» «row_selector» size) ++ bytesAt offset size (now (values .entry))) at (now (out .entry)) (now (out .exit)) r ⌝ }
 {
     inventory::write_header(out, at, row_type, row_selector, size);
     let from = offset as usize;
     let len = size as usize;
-    let mut value = [0u8; 32];
+    let mut value = [0u8; LARGEST_VALUE];
     wire::copy(&mut value, 0, &values[from..from + len]);
     wire::copy(out, at + HEADER_SIZE, &value[0..len]);
     at + HEADER_SIZE + len
@@ -91,7 +92,7 @@ fn write_run(
     requires { ⌜ RunFits (now values) first count «row_type» size offset at (now out) ⌝ }
     ensures { λ r. ⌜ Wrote (runOf (now (values .entry)) first count) at (now (out .entry)) (now (out .exit)) r ⌝ }
 {
-    let selectors = inventory::SELECTORS;
+    let selectors = SELECTORS;
     let mut end = at;
     let mut from = offset;
     let mut i = 0;
@@ -103,20 +104,20 @@ fn write_run(
     end
 }
 
-// All parts of a member, at the front of what is lent: a run of rows for each type and size, which are then constants.
-// The numbers of a run: its first row, its rows, their type and size, and where the first value stands.
+// All parts of a member, at the front of what is lent, as runs: the first row of each, and its rows. They are constants at
+// the call, and so are then the entries of the tables at the first row.
 pub fn write_all(out: &mut [u8], values: &[u8], queues: u8)
     requires { ⌜ CaptureFits queues (now values) (now out) ⌝ }
     ensures { λ _. ⌜ now (out .exit) ≡ put 0 (captureOf queues (now (values .entry))) (now (out .entry)) ⌝ }
 {
     let n = queues as usize;
-    let mut at = write_run(out, 0, values, 0, 1, DEVICE_FEATURES, 16, 0);
-    at = write_run(out, at, values, 1, 1, DRIVER_FEATURES, 16, 16);
-    at = write_run(out, at, values, 2, 2, PCI_COMMON, 4, 32);
-    at = write_run(out, at, values, 4, 2, PCI_COMMON, 2, 40);
-    at = write_run(out, at, values, 6, 1, DEVICE_STATUS, 1, 44);
-    at = write_run(out, at, values, 7, n, QUEUE, 32, 45);
-    write_run(out, at, values, 11, n, QUEUE_NOTIFY, 8, 173);
+    let mut at = write_run(out, 0, values, 0, 1, TYPES[0], SIZES[0], OFFSETS[0]);
+    at = write_run(out, at, values, 1, 1, TYPES[1], SIZES[1], OFFSETS[1]);
+    at = write_run(out, at, values, 2, 2, TYPES[2], SIZES[2], OFFSETS[2]);
+    at = write_run(out, at, values, 4, 2, TYPES[4], SIZES[4], OFFSETS[4]);
+    at = write_run(out, at, values, 6, 1, TYPES[6], SIZES[6], OFFSETS[6]);
+    at = write_run(out, at, values, 7, n, TYPES[7], SIZES[7], OFFSETS[7]);
+    write_run(out, at, values, 11, n, TYPES[11], SIZES[11], OFFSETS[11]);
 }
 
 // ---- the parts that a list asks for ----
@@ -136,10 +137,10 @@ pub fn write_asked(out: &mut [u8], values: &[u8], queues: u8, asked: &[u8])
     requires { ⌜ (length (now values) ≡ valuesSize) × (length (partsWritten Asked queues (now asked) (now values)) ≤ length (now out)) ⌝ }
     ensures { λ _. ⌜ now (out .exit) ≡ put 0 (partsWritten Asked queues (now (asked .entry)) (now (values .entry))) (now (out .entry)) ⌝ }
 {
-    let types = inventory::TYPES;
-    let selectors = inventory::SELECTORS;
-    let sizes = inventory::SIZES;
-    let offsets = inventory::OFFSETS;
+    let types = TYPES;
+    let selectors = SELECTORS;
+    let sizes = SIZES;
+    let offsets = OFFSETS;
     let mut at = 0;
     let mut i = 0;
     while i < ROWS {
@@ -174,9 +175,9 @@ fn asked_size(queues: u8, asked: &[u8], row_type: u16, row_selector: u8, size: u
 pub fn asked_bytes(queues: u8, asked: &[u8]) -> usize
     ensures { λ r. ⌜ ((values : List ℕ) → length values ≡ valuesSize → r ≡ length (partsWritten Asked queues (now (asked .entry)) values)) ⌝ }
 {
-    let types = inventory::TYPES;
-    let selectors = inventory::SELECTORS;
-    let sizes = inventory::SIZES;
+    let types = TYPES;
+    let selectors = SELECTORS;
+    let sizes = SIZES;
     let mut n = 0;
     let mut i = 0;
     while i < ROWS {

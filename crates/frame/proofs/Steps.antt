@@ -1,4 +1,4 @@
--- What the returns of the code ask, beside the ladder. Assumes nothing.
+-- What the returns of the code need, beside the laws of the ladder. Assumes nothing.
 use mathlib.Core.Path.{_≡_, refl, sym, _∙_}
 use mathlib.Core.Bool.{Bool, true, false, not}
 use mathlib.Core.List.{List}

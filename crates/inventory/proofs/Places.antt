@@ -1,4 +1,4 @@
--- What is said of a part by its row, where the code has looked the row up: `r` is what place_of answered. Assumes nothing.
+-- `onPlace` where the code has looked the row up: `r` is what place_of answered. Assumes nothing.
 use mathlib.Core.Path.{_≡_, sym, _∙_}
 use mathlib.Core.List.{List}
 use Prim.Native.Nat.{ℕ, _+_, _<_, _≤_}

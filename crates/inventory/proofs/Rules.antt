@@ -9,7 +9,7 @@ use lib.ListN.{length}
 use Rattle.theory.specs.Logic.{_and_, _or_, indicator, if_then_else_}
 use Rattle.theory.proofs.Table.{every, at}
 use Rattle.wire.specs.Le.{bytes}
-use Rattle.inventory.specs.Inventory.{Row, row, rows, rowAt, rowCount, deviceFeatures, featuresSize, total, present, offsetOf, valuesSize, selectorOf, isRow, seek, placeOf}
+use Rattle.inventory.specs.Inventory.{Row, row, rows, rowAt, rowCount, featuresRow, deviceFeatures, featuresSize, total, present, offsetOf, valuesSize, selectorOf, isRow, seek, placeOf}
 use Rattle.inventory.specs.Header.{headerOf, headerSize}
 
 -- what computes where a proof says `unfolding table`
@@ -79,17 +79,17 @@ module _ (i : ℕ) (h : i < rowCount) where
 
   -- ---- device features ----
 
-  pub features-row : rowAt i .partType ≡ deviceFeatures → i ≡ 0
+  pub features-row : rowAt i .partType ≡ deviceFeatures → i ≡ featuresRow
   unfolding table
   features-row e =
       let t = every-row (λ k r. not (eqb (r .partType) deviceFeatures) or eqb k 0) refl i h in
       eqb-true i 0 (rw (eq-eqb _ _ e) at t)
 
-pub row-zero : rowAt 0 ≡ row deviceFeatures 0 featuresSize
+pub row-zero : rowAt featuresRow ≡ row deviceFeatures 0 featuresSize
 unfolding table
 row-zero = refl
 
-pub offset-zero : offsetOf 0 ≡ 0
+pub offset-zero : offsetOf featuresRow ≡ 0
 unfolding table
 offset-zero = refl
 

@@ -40,7 +40,7 @@ pub record Row : Type 0 where
 abbrev pub row : ℕ → ℕ → ℕ → Row
 row t s n = record { partType = t; selector = s; size = n }
 
--- the table for four queues, by type, then selector
+-- the table of a member with four queues, by type, then selector
 unfoldable pub rows : List Row
 rows =
     row deviceFeatures 0 featuresSize
@@ -54,10 +54,14 @@ rows =
 abbrev pub rowCount : ℕ
 rowCount = 15
 
+-- the row of the device features
+abbrev pub featuresRow : ℕ
+featuresRow = 0
+
 unfoldable pub rowAt : ℕ → Row
 rowAt i = getD rows i (row 0 0 0)
 
--- a row of a queue is there where the member has such a queue
+-- a member with so many queues has the part of a row: all but those of queues that it has not got
 unfoldable pub present : ℕ → Row → Bool
 present queues r = ltb (r .partType) queue or ltb (r .selector) queues
 
@@ -101,7 +105,7 @@ seek queues t s (r ∷ rs) i = if isRow queues t s r then At i else seek queues 
 unfoldable pub placeOf : ℕ → ℕ → ℕ → Place
 placeOf queues t s = seek queues t s rows 0
 
--- what is said of a part by its row, and where the member has not got it
+-- f of the row that has a part, or a where the member has not got the part
 abbrev pub onPlace {ℓ} : {A : Type ℓ} → Place → (ℕ → A) → A → A
 onPlace (At i) f a = f i
 onPlace Absent f a = a

@@ -31,7 +31,7 @@ module _ (form : ListForm) (l : List ℕ) (at : ℕ) (r : Step) (here : r ≡ st
   unfolding whole
   whole-cut x e h = h ∙ rw (parts-cut form l at (sym here ∙ e))
 
-  -- of the end and of a part that is cut short the same is said
+  -- the walk treats the end and a part that is cut short alike
   module _ (none : OneOf (1 ∷ 2 ∷ []) (tagOf Rattle.parts.proofs.Step.the-type r)) where
     pub stopped : {A : Type 0} (ask : PartList → A) (a : A) → ask cut ≡ a → ask end ≡ a → ask (partsFrom form l at) ≡ a
     stopped ask a at-cut at-end = cases r none here
@@ -55,7 +55,7 @@ module _ (form : ListForm) (l : List ℕ) (at : ℕ) (r : Step) (here : r ≡ st
     pub opened : partsFrom form l at ≡ part (partIn l t f s start len) (partsFrom form l (start + len))
     opened = parts-part form l at (sym here ∙ found)
 
-    -- it lies within the list, and the walk gets on
+    -- it lies within the list, and after it less of the list is left
     pub found-start : start ≤ length l
     found-start = omega (arith, within .ends)
 

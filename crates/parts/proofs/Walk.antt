@@ -62,7 +62,7 @@ step-part form l at {t} {f} {s} {start} {len} e = cases _ _ _ refl refl refl e
     cases true false b₃ e₁ e₂ e₃ e = let z : _≡_ {A = ℕ} 0 1 = cc in absurd (omega arith)
     cases false b₂ b₃ e₁ e₂ e₃ e = let z : _≡_ {A = ℕ} 0 1 = cc in absurd (omega arith)
 
--- where the bound is large enough one more says the same
+-- with a bound that is large enough, one more part changes nothing
 one-more : (form : ListForm) (n : ℕ) (l : List ℕ) (at : ℕ) → length l ≤ at + n → atMost form n l at ≡ atMost form (suc n) l at
 unfolding atMost
 one-more form zero l at h = rw (step-end form l at (omega arith))

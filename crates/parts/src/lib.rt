@@ -41,7 +41,7 @@ fn value_size(form: ListForm, list: &[u8], at: usize) -> usize
     }
 }
 
-// What stands at a position. A length is compared with what is left, so that no sum can wrap.
+// What stands at a position. A length is compared with the bytes left, so that no sum can overflow.
 fn step_at(form: ListForm, list: &[u8], at: usize) -> Step
     ensures { λ r. ⌜ r ≡ stepAt form (now (list .entry)) at ⌝ }
 {
@@ -127,7 +127,7 @@ pub fn is_whole(form: ListForm, list: &[u8]) -> bool
     }
 }
 
-// Whether a part of type u and selector v is the one of type t and selector s.
+// Whether a part of type u and selector v is the part of type t and selector s.
 pub fn is_same_part(t: u16, s: u64, u: u16, v: u64) -> bool
     ensures { λ r. ⌜ r ≡ eqb u t and eqb v s ⌝ }
 {

@@ -1,5 +1,5 @@
--- The numbers of the answers, document 01, "Statuses, and which comes first", of modes and of the kinds of
--- objects. Assumes nothing.
+-- The answers and their numbers, document 01, "Statuses, and which comes first"; modes and kinds of objects, as tests and as
+-- numbers. Assumes nothing.
 use mathlib.Core.Bool.{Bool, true, false}
 use Prim.Native.Nat.{ℕ, zero, suc}
 use lib.Dec.{eqb}
@@ -63,7 +63,7 @@ isEventDone event.NoPart = false
 isEventDone event.WrongLength = false
 isEventDone event.BadSetup = false
 
--- what a member's mode and an object's kind are asked
+-- tests of a member's mode and of an object's kind
 abbrev pub isStopped : Mode → Bool
 isStopped mode.Running = false
 isStopped mode.Stopped = true

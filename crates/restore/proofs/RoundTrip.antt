@@ -102,7 +102,7 @@ module _ (q : ℕ) (v : List ℕ) (few : q < 5) (long : length v ≡ valuesSize)
       (λ i ps h y o. record { before = λ m l. o .before m (omega arith); once = o .once })
       rowCount 0 refl
 
-  -- ---- THE LAW, first half: the capture is accepted ----
+  -- ---- the capture is accepted ----
 
   pub accepted : (w : List ℕ) → bytesAt 0 featuresSize v ≡ bytesAt 0 featuresSize w → causeOf q (bytesAt 0 featuresSize w) (captureOf q v) ≡ Accepted
   unfolding causeIn unless_answer_then_
@@ -171,7 +171,7 @@ module _ (q : ℕ) (v : List ℕ) (few : q < 5) (long : length v ≡ valuesSize)
       })
       rowCount 0 refl
 
-  -- ---- THE LAW, second half: what is captured there is the same ----
+  -- ---- a capture of the member in which it is set is the same ----
 
   module _ (w : List ℕ) (e : length w ≡ valuesSize) (f : bytesAt 0 featuresSize v ≡ bytesAt 0 featuresSize w) where
     value-restored : (j : ℕ) → j < rowCount → present q (rowAt j) ≡ true → valueOf (applied q (rowParts q v rowCount 0) w) j ≡ valueOf v j

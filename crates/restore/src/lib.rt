@@ -1,2 +1,2 @@
-// No code. A full capture, set in a member that has the same parts, is accepted and gives the values back: the heart of the
-// round trip.
+// No code. Laws of the values: a full capture, set in a member with as many queues and the same device features, is accepted,
+// and a capture of that member gives the same bytes.

@@ -1,4 +1,4 @@
--- What is said of a list, return by return of check_list. Assumes nothing.
+-- Why a list is refused, return by return of check_list. Assumes nothing.
 use mathlib.Core.Path.{_≡_, sym, _∙_}
 use mathlib.Core.Bool.{Bool, true, false, not}
 use mathlib.Core.List.{List}

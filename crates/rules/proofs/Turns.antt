@@ -19,7 +19,7 @@ use Rattle.parts.proofs.Turns.{stopped, opened}
 use Rattle.rules.specs.Rules.{known, every, repeated}
 
 module _ (form : ListForm) (l : List ℕ) (at : ℕ) (r : Step) (here : r ≡ stepAt form l at) where
-  -- of the end and of a part that is cut short the same is said
+  -- the walk treats the end and a part that is cut short alike
   module _ (none : OneOf (1 ∷ 2 ∷ []) (tagOf Rattle.parts.proofs.Step.the-type r)) where
     pub every-stop : (rule : Part → Bool) (x : Bool) → x ≡ every rule (partsFrom form l at) → x ≡ true
     unfolding every

@@ -9,8 +9,6 @@ use Rattle.theory.specs.Bytes.{same}
 use Rattle.inventory.specs.Inventory.{rowAt, deviceFeatures, placeOf, onPlace}
 use Rattle.parts.specs.declared.ListForm.the-variants.{Parts, Headers}
 use Rattle.parts.specs.List.{Part, PartList, end, cut, part, partsOf, whole, among}
-use Rattle.rules.specs.declared.Rule.{Rule}
-use Rattle.rules.specs.declared.Rule.the-variants.{KnownOrSkipped, LengthRight, FeaturesSame}
 use Rattle.rules.specs.declared.Cause.{Cause}
 use Rattle.rules.specs.declared.Cause.the-variants.{Accepted, Cut, Unknown, Length, Features, Twice}
 
@@ -37,12 +35,6 @@ lengthRight queues p =
 -- "the device features supplied differ from the member's"
 unfoldable pub featuresSame : List ℕ → Part → Bool
 featuresSame features p = not (eqb (p .partType) deviceFeatures) or same (p .value) features
-
--- the three rules of a part that is given, by name
-abbrev pub obeys : Rule → ℕ → List ℕ → Part → Bool
-obeys KnownOrSkipped queues features = knownOrSkipped queues
-obeys LengthRight queues features = lengthRight queues
-obeys FeaturesSame queues features = featuresSame features
 
 -- an asked header "that names a part the member has not got"
 unfoldable pub asksKnown : ℕ → Part → Bool

@@ -7,7 +7,8 @@ ghost use Rattle.theory.specs.Logic.{_and_, _or_};
 ghost use Rattle.theory.specs.Bytes.{same};
 ghost use Rattle.inventory.specs.Inventory.{rowAt, deviceFeatures, placeOf, onPlace};
 ghost use Rattle.parts.specs.List.{partsOf, partWith};
-ghost use Rattle.rules.specs.Rules.{neverSkipped, known, obeys, asksKnown, every, repeated, causeOf, isAccepted, askedOf};
+ghost use Rattle.rules.specs.Rules.{neverSkipped, known, asksKnown, every, repeated, causeOf, isAccepted, askedOf};
+ghost use Rattle.rules.specs.ByName.{obeys};
 use inventory::DEVICE_FEATURES;
 use inventory::Place;
 use parts::ListForm;
@@ -23,7 +24,7 @@ enum Rule {
     FeaturesSame,
 }
 
-// What is said of a list given to be set: the first of document 01's causes that occurs anywhere in it.
+// Why a list given to be set is refused: the first of document 01's causes that occurs anywhere in it, or none.
 pub enum Cause {
     Accepted,
     Cut,
@@ -196,7 +197,7 @@ fn repeats(form: ListForm, list: &[u8], queues: u8) -> bool
     true
 }
 
-// What is said of a list given to be set.
+// Why a list given to be set is refused, if it is.
 pub fn check_list(queues: u8, features: &[u8], list: &[u8]) -> Cause
     ensures { λ r. ⌜ r ≡ causeOf queues (now (features .entry)) (now (list .entry)) ⌝ }
 {
@@ -218,7 +219,7 @@ pub fn check_list(queues: u8, features: &[u8], list: &[u8]) -> Cause
     Cause::Accepted
 }
 
-// Whether nothing is said against it.
+// Whether there is no cause to refuse a list.
 pub fn is_accepted(c: Cause) -> bool
     ensures { λ r. ⌜ r ≡ isAccepted c ⌝ }
 {

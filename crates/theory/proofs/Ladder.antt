@@ -145,7 +145,7 @@ not-of t b e = ap not e
 pub not-told : (t b v : Bool) → b ≡ t → not b ≡ v → not t ≡ v
 not-told t b v e h = rw (← e) h
 
--- the last of two ends is what the code answers
+-- of a number that is at least a, the code tests only that it is at most b
 pub last-end : (a b n : ℕ) → a ≤ n → leb n b ≡ within a b n
 unfolding within
 last-end a b n h = rw (le-leb a n h) (sym (true-and (leb n b)))

@@ -28,7 +28,7 @@ length-items item f n zero i e l = refl
 length-items item f n (suc k) i e l =
     rw (length-append, l i (omega arith), length-items item f n k (i + 1) (omega arith) l)
 
--- the same number over and over
+-- the same number k times
 pub sum-same : (x k i : ℕ) → sumFrom (λ j. x) k i ≡ k * x
 unfolding sumFrom
 sum-same x zero i = omega arith

@@ -15,12 +15,12 @@ use Rattle.theory.specs.Bytes.{same}
 
 -- ---- cases ----
 
--- the test's value in hand: the goal is found, and is rewritten by `rw e`
+-- a proof for each value of a test; `rw e` puts the value into the goal
 pub by-cases {ℓ} : {P : Type ℓ} (v : Bool) → (v ≡ true → P) → (v ≡ false → P) → P
 by-cases true f g = f refl
 by-cases false f g = g refl
 
--- a fact about a choice is a fact about each of its ends
+-- a fact about a choice follows from the fact about each of the two
 pub if-cases {ℓ κ} : {A : Type κ} (P : A → Type ℓ) (v : Bool) (x y : A)
     → (v ≡ true → P x) → (v ≡ false → P y) → P (if v then x else y)
 unfolding if_then_else_

@@ -1,5 +1,5 @@
--- Choices by a test, as the definitions write them. They stay shut, so that a law about one finds its arguments.
--- Assumes nothing.
+-- Choices by a test, as the definitions write them. A proof sees into one only where it says `unfolding`, so that a law
+-- about one finds its arguments. Assumes nothing.
 use mathlib.Core.Bool.{Bool, true, false}
 use Prim.Native.Nat.{ℕ}
 use lib.Dec.{leb}

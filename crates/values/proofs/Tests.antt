@@ -1,4 +1,4 @@
--- Whether a row is row 0, as the code tests it. Assumes nothing.
+-- Whether a row is that of the device features, as the code tests it. Assumes nothing.
 use mathlib.Core.Path.{_≡_}
 use mathlib.Core.Bool.{true, false}
 use Prim.Native.Nat.{ℕ}

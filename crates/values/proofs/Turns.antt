@@ -16,7 +16,7 @@ use Rattle.parts.proofs.Turns.{stopped, opened}
 use Rattle.values.specs.Apply.{stored, applied}
 
 module _ (form : ListForm) (l : List ℕ) (at : ℕ) (r : Step) (here : r ≡ stepAt form l at) where
-  -- of the end and of a part that is cut short the same is said
+  -- the walk treats the end and a part that is cut short alike
   module _ (none : OneOf (1 ∷ 2 ∷ []) (tagOf Rattle.parts.proofs.Step.the-type r)) where
     pub applied-stop : (queues : ℕ) (x v : List ℕ) → x ≡ applied queues (partsFrom form l at) v → x ≡ v
     unfolding applied

@@ -8,16 +8,16 @@ use Rattle.theory.specs.Logic.{if_then_else_, unless_answer_then_, _and_}
 use Rattle.theory.specs.Bytes.{put}
 use Rattle.protocol.specs.declared.EventAnswer.{EventAnswer}
 use Rattle.protocol.specs.declared.EventAnswer.the-variants.{Done, NoPart, WrongLength}
-use Rattle.inventory.specs.Inventory.{rowAt, offsetOf, placeOf, onPlace}
+use Rattle.inventory.specs.Inventory.{featuresRow, rowAt, offsetOf, placeOf, onPlace}
 use Rattle.parts.specs.List.{PartList, end, cut, part}
 
 -- whether a value of n bytes can be stored: "2 no such part (device features count so), 3 wrong length".
--- Row 0 has the device features, which are never set
+-- Device features are never set
 unfoldable pub storable : ℕ → ℕ → ℕ → ℕ → EventAnswer
 storable queues t s n =
     onPlace (placeOf queues t s)
     (λ i.
-    unless ltb 0 i answer NoPart then
+    unless ltb featuresRow i answer NoPart then
     unless eqb n (rowAt i .size) answer WrongLength then
     Done)
     NoPart
@@ -26,7 +26,7 @@ storable queues t s n =
 unfoldable pub stored : ℕ → ℕ → ℕ → List ℕ → List ℕ → List ℕ
 stored queues t s value values =
     onPlace (placeOf queues t s)
-    (λ i. if ltb 0 i and eqb (length value) (rowAt i .size) then put (offsetOf i) value values else values)
+    (λ i. if ltb featuresRow i and eqb (length value) (rowAt i .size) then put (offsetOf i) value values else values)
     values
 
 -- the values after a list, part by part; what is unknown is skipped

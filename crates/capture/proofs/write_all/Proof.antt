@@ -1,6 +1,8 @@
 -- `capture::write_all` meets its contract: a run for each type and size, each where the one before it ends. Assumes nothing.
 use Prim.Native.Nat.{ℕ}
 use mathlib.Core.List.{List}
+use native.Mathlib.Omega.{arith}
+use Rattle.inventory.specs.Inventory.{rows}
 use Rattle.capture.proofs.Runs.{Upto, upto-none, run-asks, upto-next, upto-all}
 use Rattle.capture.proofs.write_all.Statement.{statement}
 use Rattle.capture.proofs.write_all.Tie as tie
@@ -52,13 +54,14 @@ after-7 : (c : tie.After-write-run7) → Runs (start-7 c) 7 (c .write-run7 .last
 after-7 c = upto-next (after-6 (c .before .before .before .before)) tt (c .write-run7 .ensures)
 
 pub write-all-spec : {M : Type 1} → statement M
+unfolding rows
 write-all-spec =
     tie.close
-    (tie.spec (λ c κs. run-asks (upto-none (c .before .before .before .pre)) tt)
-    (λ c κs. run-asks (after-1 (c .before .before .before)) tt)
-    (λ c κs. run-asks (after-2 (c .before .before .before)) tt)
-    (λ c κs. run-asks (after-3 (c .before .before .before)) tt)
-    (λ c κs. run-asks (after-4 (c .before .before .before)) tt)
-    (λ c κs. run-asks (after-5 (c .before .before .before)) tt)
-    (λ c κs. run-asks (after-6 (c .before .before .before)) tt)
+    (tie.spec (λ c. omega arith) (λ c. omega arith) (λ c. omega arith) (λ c κs. run-asks (upto-none (c .before .before .before .pre)) tt)
+    (λ c. omega arith) (λ c. omega arith) (λ c. omega arith) (λ c κs. run-asks (after-1 (c .before .before .before)) tt)
+    (λ c. omega arith) (λ c. omega arith) (λ c. omega arith) (λ c κs. run-asks (after-2 (c .before .before .before)) tt)
+    (λ c. omega arith) (λ c. omega arith) (λ c. omega arith) (λ c κs. run-asks (after-3 (c .before .before .before)) tt)
+    (λ c. omega arith) (λ c. omega arith) (λ c. omega arith) (λ c κs. run-asks (after-4 (c .before .before .before)) tt)
+    (λ c. omega arith) (λ c. omega arith) (λ c. omega arith) (λ c κs. run-asks (after-5 (c .before .before .before)) tt)
+    (λ c. omega arith) (λ c. omega arith) (λ c. omega arith) (λ c κs. run-asks (after-6 (c .before .before .before)) tt)
     (λ c. after-7 (c .before .before) .written .long) (λ c. upto-all (after-7 (c .before .before))))

@@ -6,7 +6,8 @@ use lib.ListN.{length}
 use Rattle.parts.specs.declared.ListForm.the-variants.{Parts}
 use Rattle.parts.specs.List.{partsOf, partsFrom}
 use Rattle.parts.proofs.Turns.{walk}
-use Rattle.rules.specs.Rules.{every, obeys}
+use Rattle.rules.specs.Rules.{every}
+use Rattle.rules.specs.ByName.{obeys}
 use Rattle.rules.proofs.Turns.{every-stop, every-on, every-out}
 use Rattle.rules.proofs.every_obeys.Statement.{statement}
 use Rattle.rules.proofs.every_obeys.Tie as tie
