@@ -119,11 +119,18 @@ same-mask m c d e f h b =
 
 -- ---- the theorem ----
 
-pub masking : (m : ℕ) → 1 ≤ m → Masking step (names m) (Resets m) (λ c. isSound c ≡ true) (clear m)
+-- no reset names m
+resets-unnamed : (m : ℕ) (x : Call) → Resets m x → names m x ≡ false
+unfolding names
+resets-unnamed m _ one = refl
+resets-unnamed m _ all = refl
+
+pub masking : (m : ℕ) → 1 ≤ m → Masking step (names m) (λ x y. Resets m x) (λ c. isSound c ≡ true) (clear m)
 masking m low = record {
   stays = stays-sound;
   hides = λ c x e. hides m low c e x;
   answers = λ c x e. answers m low c e x;
+  shown = λ x y w. resets-unnamed m x w;
   wiped = λ c x e. wiped m low c e x;
 }
 
