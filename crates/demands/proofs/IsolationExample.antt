@@ -6,7 +6,7 @@ use Prim.Native.Nat.{ℕ}
 use native.Mathlib.Omega.{arith}
 use lib.ListN.{length, getD, replicate}
 use Rattle.theory.specs.Machine.{trace, seen}
-use Rattle.demands.specs.Calls.{Call, memberReset, cardStore, step, names, one}
+use Rattle.demands.specs.Calls.{Call, memberReset, cardStore, step, names, ofMember}
 use Rattle.demands.specs.Requests.{getAll}
 use Rattle.demands.specs.Examples.{exampleCard, send, useList, create, setMode}
 use Rattle.demands.proofs.Model.{model}
@@ -51,4 +51,4 @@ isolated : seen (names 1) (length stored) (trace step plain (stored ++ memberRes
 unfolding example
 isolated =
     isolation plain lived refl refl 1 refl (record { before = refl; after = refl })
-    stored stopped refl (memberReset 1) one later
+    stored stopped refl (memberReset 1) ofMember later

@@ -41,7 +41,7 @@ use Rattle.reply.specs.Result.{resultOf}
 use Rattle.reply.specs.Reply.{headOf, finalOf, replyOf}
 use Rattle.admin.specs.Command.{askIn, effect, perform, conclude, respond}
 use Rattle.demands.specs.Requests.{request, objectHeader, getAll, setParts}
-use Rattle.demands.specs.Claims.{Restorable, RestoredSame, RoundTrip, capture, restore}
+use Rattle.demands.specs.RoundTrip.{Restorable, RestoredSame, RoundTrip, capture, restore}
 use Rattle.demands.proofs.Requests.{get-all-asked, set-parts-asked}
 
 -- a command that succeeds, where the card is sound and the reply has room

@@ -8,7 +8,7 @@ use lib.ListN.{getD, replicate}
 use Rattle.card.specs.declared.Setup.{Setup}
 use Rattle.card.specs.Layout.{setupOf}
 use Rattle.demands.specs.Calls.{cardStore, step}
-use Rattle.demands.specs.Claims.{capture, Restorable, RestoredSame}
+use Rattle.demands.specs.RoundTrip.{capture, Restorable, RestoredSame}
 use Rattle.demands.specs.Examples.{exampleCard, useList, create, setMode}
 use Rattle.demands.proofs.Model.{model}
 use Rattle.demands.proofs.RoundTrip.{round-trip}
