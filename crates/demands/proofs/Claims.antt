@@ -3,6 +3,7 @@ use Rattle.demands.specs.Claims.{Claims}
 use Rattle.demands.proofs.Sound.{stays-sound}
 use Rattle.demands.proofs.Demand1.{not-written, delivers, sets-up}
 use Rattle.demands.proofs.Refusals.{refusals-change-nothing}
+use Rattle.demands.proofs.Statuses.{statuses}
 use Rattle.demands.proofs.RoundTrip.{round-trip}
 use Rattle.demands.proofs.Isolation.{isolation}
 use Rattle.demands.proofs.Integrity.{integrity}
@@ -14,6 +15,7 @@ claims = record {
   delivered = delivers;
   refusals = refusals-change-nothing;
   setsUp = sets-up;
+  statuses = statuses;
   roundTrip = round-trip;
   isolation = isolation;
   integrity = integrity;

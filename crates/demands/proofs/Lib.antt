@@ -12,5 +12,7 @@ pub mod Mask
 pub mod Isolation
 pub mod IsolationExample
 pub mod Integrity
+pub mod Statuses
+pub mod StatusesExample
 pub mod Claims
 pub mod ClaimsExample

@@ -19,6 +19,7 @@ use Rattle.frame.specs.Frame.{opcodeOf, targetOf}
 use Rattle.events.specs.Events.{setupWith, setUp}
 use Rattle.admin.specs.Command.{respond, commandOf}
 use Rattle.demands.specs.Calls.{Call, command, memberReset, Reply, written, answered, step, names, Resets}
+use Rattle.demands.specs.Statuses.{Statuses}
 use Rattle.demands.specs.RoundTrip.{RoundTrip}
 
 -- "Every call on a sound card leaves a sound card". Example: sound-card in ../proofs/ClaimsExample.antt, as for every claim that
@@ -66,7 +67,8 @@ pub record SetsUp : Type 0 where
 
 -- ---- DEMAND 2 ----
 
--- The round trip: RoundTrip.antt. Example: ../proofs/RoundTripExample.antt
+-- The answer to a command: the status table, Statuses.antt. The round trip: RoundTrip.antt. Examples:
+-- ../proofs/StatusesExample.antt, ../proofs/RoundTripExample.antt
 
 -- ---- DEMAND 3 ----
 
@@ -114,6 +116,7 @@ pub record Claims : Type 1 where
   pub refusals : RefusalsChangeNothing
   pub setsUp : SetsUp
   -- demand 2
+  pub statuses : Statuses
   pub roundTrip : RoundTrip
   -- demand 3
   pub isolation : Isolation
