@@ -4,6 +4,8 @@ use Rattle.demands.proofs.Sound.{stays-sound}
 use Rattle.demands.proofs.Demand1.{not-written, delivers, sets-up}
 use Rattle.demands.proofs.Refusals.{refusals-change-nothing}
 use Rattle.demands.proofs.Statuses.{statuses}
+use Rattle.demands.proofs.Examples.{examples-hold}
+use Rattle.demands.proofs.WrongPrograms.{wrong-programs-rejected}
 use Rattle.demands.proofs.RoundTrip.{round-trip}
 use Rattle.demands.proofs.Isolation.{isolation}
 use Rattle.demands.proofs.Integrity.{integrity}
@@ -16,6 +18,8 @@ claims = record {
   refusals = refusals-change-nothing;
   setsUp = sets-up;
   statuses = statuses;
+  examples = examples-hold;
+  wrongPrograms = wrong-programs-rejected;
   roundTrip = round-trip;
   isolation = isolation;
   integrity = integrity;

@@ -12,9 +12,8 @@ use Rattle.card.specs.Layout.{cardSize}
 use Rattle.card.specs.Sound.{isSound}
 use Rattle.events.specs.Events.{setUp}
 use Rattle.frame.specs.Frame.{opcodeOf}
-use Rattle.demands.specs.Calls.{step, names}
+use Rattle.demands.specs.Calls.{refused, step, names}
 use Rattle.demands.specs.Requests.{request, setParts}
-use Rattle.demands.specs.Claims.{refused}
 use Rattle.demands.specs.Examples.{exampleCard, send, useList, setMode}
 use Rattle.demands.proofs.Model.{model}
 
@@ -33,7 +32,7 @@ short-buffer = omega arith
 
 -- opcode 0x0a is not in use on a fresh card
 refused-command : refused (step exampleCard (send (request 0x0a 1 1 [])) .1) ≡ true
-unfolding model refused
+unfolding model
 refused-command = refl
 
 setup-done : setUp (replicate (cardSize 2) 0) 2 1 1 1 (replicate 16 0) .0 ≡ Done

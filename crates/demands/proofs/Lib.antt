@@ -1,5 +1,7 @@
 pub mod Model
 pub mod Examples
+pub mod WrongPrograms
+pub mod WrongProgramsExample
 pub mod Requests
 pub mod Respond
 pub mod Named

@@ -14,8 +14,8 @@ use Rattle.protocol.specs.Answers.{statusOf, isDone, eventNumber}
 use Rattle.events.specs.Events.{resetMember, resetCard, ifDone, storeIn, store}
 use Rattle.reply.specs.Reply.{headOf, replyOf}
 use Rattle.admin.specs.Command.{askIn, perform, respond}
-use Rattle.demands.specs.Calls.{command, memberReset, cardReset, cardStore, written, answered, step}
-use Rattle.demands.specs.Claims.{refused, RefusalsChangeNothing}
+use Rattle.demands.specs.Calls.{command, memberReset, cardReset, cardStore, written, answered, refused, step}
+use Rattle.demands.specs.Claims.{RefusalsChangeNothing}
 use Rattle.demands.proofs.Respond.{lastAnswer, respond-cases}
 
 -- a number that is refused picks the card as it was

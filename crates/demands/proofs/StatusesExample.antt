@@ -7,7 +7,7 @@ use Rattle.theory.specs.Machine.{run}
 use Rattle.demands.specs.Calls.{Call, command, memberReset, cardReset, cardStore, step}
 use Rattle.demands.specs.Requests.{request, getAll, setParts}
 use Rattle.demands.specs.Examples.{exampleCard, send, useList, setMode, create, destroy, metadata, allUsed, objectsLive}
-use Rattle.demands.specs.Statuses.{Row, namesObject, hasFlags, hasKind, needsGet, badField, badList, askedSize, resultSize, rowsAt, rows}
+use Rattle.demands.specs.Statuses.{Row, rows}
 use Rattle.demands.proofs.Model.{model}
 
 -- the place of the first row that applies
@@ -45,5 +45,5 @@ cases =
 
 every-row-applies : map (λ (x : Case). placeFor (run step exampleCard (x .0)) (x .1)) cases
     ≡ 0 ∷ 1 ∷ 2 ∷ 3 ∷ 4 ∷ 5 ∷ 6 ∷ 7 ∷ 8 ∷ 9 ∷ 10 ∷ 11 ∷ 12 ∷ 13 ∷ []
-unfolding model run place placeFor cases namesObject hasFlags hasKind needsGet badField badList askedSize resultSize rowsAt
+unfolding model place placeFor cases
 every-row-applies = refl

@@ -1,10 +1,11 @@
 -- The calls of demand 3 and one step of the card: document 01, "The calls of demand 3". Assumes nothing.
-use mathlib.Core.Bool.{Bool, false}
-use mathlib.Core.List.{List}
+use mathlib.Core.Bool.{Bool, true, false, not}
+use mathlib.Core.List.{List, [], _∷_}
 use Prim.Native.Nat.{ℕ}
 use lib.Dec.{eqb}
 use lib.ListN.{length}
 use Rattle.theory.specs.Logic.{_and_, within}
+use Rattle.wire.specs.Le.{number}
 use Rattle.protocol.specs.declared.EventAnswer.{EventAnswer}
 use Rattle.protocol.specs.Answers.{eventNumber}
 use Rattle.protocol.specs.Opcodes.{namesMember}
@@ -24,6 +25,12 @@ pub data Call : Type 0 where
 pub data Reply : Type 0 where
   written : List ℕ → Reply
   answered : ℕ → Reply
+
+-- a call is refused if nothing is written, or its status or answer is not 0
+unfoldable pub refused : Reply → Bool
+refused (written []) = true
+refused (written (b ∷ bs)) = not (eqb (number 0 2 (b ∷ bs)) 0)
+refused (answered n) = not (eqb n 0)
 
 -- the card after a call and the reply to it, of what a command gives and of what an event gives
 abbrev pub ofCommand : List ℕ × List ℕ → List ℕ × Reply

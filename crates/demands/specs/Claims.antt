@@ -4,13 +4,11 @@
 -- Assumes nothing.
 use mathlib.Core.Path.{_≡_}
 use mathlib.Core.Logic.{_≢_}
-use mathlib.Core.Bool.{Bool, true, false, not}
-use mathlib.Core.List.{List, [], _∷_, _++_}
+use mathlib.Core.Bool.{true, false}
+use mathlib.Core.List.{List, _∷_, _++_}
 use Prim.Native.Nat.{ℕ, _+_, _≤_, _<_}
-use lib.Dec.{eqb}
 use lib.ListN.{length, take, drop, replicate}
 use Rattle.theory.specs.Machine.{trace, seen, visible}
-use Rattle.wire.specs.Le.{number}
 use Rattle.protocol.specs.declared.EventAnswer.the-variants.{Done}
 use Rattle.member.specs.Record.{recordSize}
 use Rattle.card.specs.Layout.{inUseAt, setupOf, isMember, recordAt, memberIn}
@@ -18,8 +16,10 @@ use Rattle.card.specs.Sound.{isSound}
 use Rattle.frame.specs.Frame.{opcodeOf, targetOf}
 use Rattle.events.specs.Events.{setupWith, setUp}
 use Rattle.admin.specs.Command.{respond, commandOf}
-use Rattle.demands.specs.Calls.{Call, command, memberReset, Reply, written, answered, step, names, Resets}
+use Rattle.demands.specs.Calls.{Call, command, memberReset, refused, step, names, Resets}
 use Rattle.demands.specs.Statuses.{Statuses}
+use Rattle.demands.specs.Examples.{ExamplesHold}
+use Rattle.demands.specs.WrongPrograms.{WrongProgramsRejected}
 use Rattle.demands.specs.RoundTrip.{RoundTrip}
 
 -- "Every call on a sound card leaves a sound card". Example: sound-card in ../proofs/ClaimsExample.antt, as for every claim that
@@ -46,12 +46,6 @@ pub record Delivers (c r b : List ℕ) : Type 0 where
 abbrev pub Delivered : Type 0
 Delivered = (c r b : List ℕ) → Delivers c r b
 
--- a call is refused if nothing is written, or its status or answer is not 0
-unfoldable pub refused : Reply → Bool
-refused (written []) = true
-refused (written (b ∷ bs)) = not (eqb (number 0 2 (b ∷ bs)) 0)
-refused (answered n) = not (eqb n 0)
-
 -- "A refusal .. leaves the card as it stood", whatever bytes the card is. Example: refused-command
 abbrev pub RefusalsChangeNothing : Type 0
 RefusalsChangeNothing = (c : List ℕ) (x : Call) → refused (step c x .1) ≡ true → step c x .0 ≡ c
@@ -67,8 +61,9 @@ pub record SetsUp : Type 0 where
 
 -- ---- DEMAND 2 ----
 
--- The answer to a command: the status table, Statuses.antt. The round trip: RoundTrip.antt. Examples:
--- ../proofs/StatusesExample.antt, ../proofs/RoundTripExample.antt
+-- Which status a command gets: Statuses.antt, example ../proofs/StatusesExample.antt. The worked examples B1 to B12:
+-- Examples.antt. The programs that 01 wants rejected fail them: WrongPrograms.antt, example ../proofs/WrongProgramsExample.antt.
+-- The round trip: RoundTrip.antt, example ../proofs/RoundTripExample.antt
 
 -- ---- DEMAND 3 ----
 
@@ -117,6 +112,8 @@ pub record Claims : Type 1 where
   pub setsUp : SetsUp
   -- demand 2
   pub statuses : Statuses
+  pub examples : ExamplesHold
+  pub wrongPrograms : WrongProgramsRejected
   pub roundTrip : RoundTrip
   -- demand 3
   pub isolation : Isolation

@@ -1,6 +1,7 @@
 pub mod Calls
 pub mod Requests
-pub mod RoundTrip
 pub mod Statuses
-pub mod Claims
 pub mod Examples
+pub mod WrongPrograms
+pub mod RoundTrip
+pub mod Claims
