@@ -8,6 +8,7 @@ pub mod Named
 pub mod Sound
 pub mod Refusals
 pub mod Demand1
+pub mod PartsSet
 pub mod RoundTrip
 pub mod RoundTripExample
 pub mod Mask
