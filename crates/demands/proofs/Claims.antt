@@ -9,6 +9,7 @@ use Rattle.demands.proofs.WrongPrograms.{wrong-programs-rejected}
 use Rattle.demands.proofs.RoundTrip.{round-trip}
 use Rattle.demands.proofs.Isolation.{isolation}
 use Rattle.demands.proofs.Integrity.{integrity}
+use Rattle.demands.proofs.Commutation.{commutation, commands-commute}
 
 pub claims : Claims
 claims = record {
@@ -23,4 +24,6 @@ claims = record {
   roundTrip = round-trip;
   isolation = isolation;
   integrity = integrity;
+  commutation = commutation;
+  commandsCommute = commands-commute;
 }

@@ -140,6 +140,6 @@ unfolding step Kept
 integrity = record {
   named = λ c m x n. leaves-outside m c _ (named-leaves m c x n);
   reset = reset-outside;
-  listUse = use-outside;
-  partsSet = set-keeps;
+  listUse = λ c r room. use-outside c r _;
+  partsSet = λ c r room. set-keeps c r _;
 }

@@ -39,7 +39,7 @@ module _ (m : ℕ) (low : 1 ≤ m) (c : List ℕ) (e : isSound c ≡ true) where
   answers : (x : Call) → names m x ≡ false
       → (step (clear m c) x .1 ≡ step c x .1) × (clear m (step (clear m c) x .0) ≡ clear m (step c x .0))
   unfolding step resetMember resetCard store unless_answer_then_ names
-  answers (command r room) n = let z = respond-answers m low c e r room n in (ap written (z .0), z .1)
+  answers (command r room) n = let z = respond-answers m low c e r _ n in (ap written (z .0), z .1)
   answers (memberReset k) n =
       rw (e, sound, setup-with-member) (by-cases (isMember c k)
       (λ t. rw t (

@@ -15,6 +15,8 @@ pub mod Mask
 pub mod Isolation
 pub mod IsolationExample
 pub mod Integrity
+pub mod Commutation
+pub mod CommutationExample
 pub mod Statuses
 pub mod StatusesExample
 pub mod Claims

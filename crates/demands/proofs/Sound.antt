@@ -57,7 +57,7 @@ Leaves y = Sound (y .1)
 
 step-sound : (c : List ℕ) (x : Call) → Sound c → Sound (step c x .0)
 unfolding step resetMember resetCard store
-step-sound c (command r room) s = respond-sound c s r room
+step-sound c (command r room) s = respond-sound c s r _
 step-sound c (memberReset m) s =
     unless-cases Leaves _ _ _ (λ t. s) λ t.
     unless-cases Leaves _ _ _ (λ t. s) λ h.

@@ -8,7 +8,7 @@ use mathlib.Core.Bool.{true, false}
 use mathlib.Core.List.{List, _∷_, _++_}
 use Prim.Native.Nat.{ℕ, _+_, _≤_, _<_}
 use lib.ListN.{length, take, drop, replicate}
-use Rattle.theory.specs.Machine.{trace, seen, visible}
+use Rattle.theory.specs.Machine.{trace, seen, visible, Swappable}
 use Rattle.protocol.specs.declared.EventAnswer.the-variants.{Done}
 use Rattle.member.specs.Record.{recordSize}
 use Rattle.card.specs.Layout.{inUseAt, setupOf, isMember, recordAt, memberIn}
@@ -101,6 +101,23 @@ pub record Integrity : Type 0 where
       → (memberIn (step c (command r room) .0) (targetOf r) .mode ≡ memberIn c (targetOf r) .mode)
       × (memberIn (step c (command r room) .0) (targetOf r) .objects ≡ memberIn c (targetOf r) .objects)
 
+-- ---- REQUEST 12 of document 02: calls for different members, in any order ----
+
+-- In any sequence of calls on any card, p, then x and y, then t, where x and y name different members: x and y can change places.
+-- Each keeps its own reply, all other replies are the same one by one, and so is the card at the end, byte for byte. Replies
+-- of any length, refused calls included. Example: ../proofs/CommutationExample.antt
+abbrev pub Commutation : Type 0
+Commutation =
+    (c : List ℕ) (m k : ℕ) → m ≢ k → (x y : Call) → names m x ≡ true → names k y ≡ true
+    → (p t : List Call) → Swappable step c p x y t
+
+-- the request's words are of commands: q in a buffer of i bytes, and r in one of j
+abbrev pub CommandsCommute : Type 0
+CommandsCommute =
+    (c : List ℕ) (m k : ℕ) → m ≢ k → (q : List ℕ) (i : ℕ) (r : List ℕ) (j : ℕ)
+    → names m (command q i) ≡ true → names k (command r j) ≡ true
+    → (p t : List Call) → Swappable step c p (command q i) (command r j) t
+
 -- ---- all of them ----
 
 pub record Claims : Type 1 where
@@ -118,3 +135,6 @@ pub record Claims : Type 1 where
   -- demand 3
   pub isolation : Isolation
   pub integrity : Integrity
+  -- request 12
+  pub commutation : Commutation
+  pub commandsCommute : CommandsCommute
