@@ -1,8 +1,8 @@
--- The worked examples B1 to B12 and the metadata list hold: all rows at once, by computation. Assumes nothing.
+-- The worked examples B1 to B12 and the metadata list hold: all at once, by computation. Assumes nothing.
 use mathlib.Core.Path.{refl}
-use Rattle.demands.specs.Examples.{Examples}
+use Rattle.demands.specs.Examples.{ExamplesHold}
 use Rattle.demands.proofs.Model.{model}
 
-pub examples : Examples
+pub examples-hold : ExamplesHold
 unfolding model
-examples = record { table = refl; sizes = refl }
+examples-hold = record { replies = refl; sizes = refl }

@@ -1,54 +1,81 @@
 -- The hypotheses of isolation can be met: two cards and two sequences that do differ, and the claim at them. Assumes nothing.
 use mathlib.Core.Path.{_≡_, refl}
 use mathlib.Core.Logic.{_≢_}
+use mathlib.Core.Bool.{true}
 use mathlib.Core.List.{List, [], _∷_, _++_}
 use Prim.Native.Nat.{ℕ}
 use native.Mathlib.Omega.{arith}
 use lib.ListN.{length, getD, replicate}
-use Rattle.theory.specs.Machine.{trace, seen}
-use Rattle.demands.specs.Calls.{Call, memberReset, cardStore, step, names, one}
+use Rattle.theory.specs.Machine.{trace, seen, visible}
+use Rattle.card.specs.Layout.{isMember}
+use Rattle.card.specs.Sound.{isSound}
+use Rattle.demands.specs.Calls.{Call, memberReset, cardStore, step, names, ofMember}
 use Rattle.demands.specs.Requests.{getAll}
+use Rattle.demands.specs.Claims.{DifferAtMost}
 use Rattle.demands.specs.Examples.{exampleCard, send, useList, create, setMode}
 use Rattle.demands.proofs.Model.{model}
 use Rattle.demands.proofs.Isolation.{isolation}
 
 -- the card after all commands are in use, and after member 1 has a get object and is stopped, too
-plain : List ℕ
-plain = step exampleCard (useList 0x3fc03) .0
+card₁ : List ℕ
+card₁ = step exampleCard (useList 0x3fc03) .0
 
-lived : List ℕ
-lived = step (step plain (create 0 0) .0) (setMode 1 1) .0
+card₂ : List ℕ
+card₂ = step (step card₁ (create 0 0) .0) (setMode 1 1) .0
 
 -- a queue address of member 1 is stored; member 2 is stopped in both; then member 1 is reset and asked again
-stored : List Call
-stored = cardStore 1 0x104 0 (replicate 32 0xaa) ∷ setMode 2 1 ∷ []
+calls₁ : List Call
+calls₁ = cardStore 1 0x104 0 (replicate 32 0xaa) ∷ setMode 2 1 ∷ []
 
-stopped : List Call
-stopped = setMode 2 1 ∷ create 1 1 ∷ send (getAll 1 0) ∷ []
+calls₂ : List Call
+calls₂ = setMode 2 1 ∷ create 1 1 ∷ send (getAll 1 0) ∷ []
 
 later : List Call
 later = create 0 0 ∷ send (getAll 1 0) ∷ []
 
 example : Unit {0}
-unfolding model plain lived stored stopped later
+unfolding model card₁ card₂ calls₁ calls₂ later
 example = tt
 
-cards-differ : getD plain 28 0 ≢ getD lived 28 0
+-- ---- each hypothesis ----
+
+sound₁ : isSound card₁ ≡ true
+unfolding example
+sound₁ = refl
+
+sound₂ : isSound card₂ ≡ true
+unfolding example
+sound₂ = refl
+
+member-here : isMember card₁ 1 ≡ true
+unfolding example
+member-here = refl
+
+same-but-member : DifferAtMost 1 card₁ card₂
+unfolding example
+same-but-member = record { before = refl; after = refl }
+
+same-struck-out : visible (names 1) calls₁ ≡ visible (names 1) calls₂
+unfolding example
+same-struck-out = refl
+
+-- ---- what differs, what is seen, and the claim at them ----
+
+cards-differ : getD card₁ 28 0 ≢ getD card₂ 28 0
 unfolding example
 cards-differ = omega arith
 
-sequences-differ : length stored ≢ length stopped
+sequences-differ : length calls₁ ≢ length calls₂
 unfolding example
 sequences-differ = omega arith
 
 -- one reply before the reset, the reset, and two calls after it
-sees-four : length (seen (names 1) (length stored) (trace step plain (stored ++ memberReset 1 ∷ later))) ≡ 4
+sees-four : length (seen (names 1) (length calls₁) (trace step card₁ (calls₁ ++ memberReset 1 ∷ later))) ≡ 4
 unfolding example
 sees-four = refl
 
-isolated : seen (names 1) (length stored) (trace step plain (stored ++ memberReset 1 ∷ later))
-    ≡ seen (names 1) (length stopped) (trace step lived (stopped ++ memberReset 1 ∷ later))
-unfolding example
+isolated : seen (names 1) (length calls₁) (trace step card₁ (calls₁ ++ memberReset 1 ∷ later))
+    ≡ seen (names 1) (length calls₂) (trace step card₂ (calls₂ ++ memberReset 1 ∷ later))
 isolated =
-    isolation plain lived refl refl 1 refl (record { before = refl; after = refl })
-    stored stopped refl (memberReset 1) one later
+    isolation card₁ card₂ sound₁ sound₂ 1 member-here same-but-member
+    calls₁ calls₂ same-struck-out (memberReset 1) ofMember later

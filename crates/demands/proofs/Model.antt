@@ -2,7 +2,7 @@
 use Rattle.theory.specs.Logic.{if_then_else_, unless_answer_then_, _and_, _or_, within, indicator}
 use Rattle.theory.specs.Bytes.{put, repeat, same}
 use Rattle.theory.specs.Items.{itemsFrom}
-use Rattle.theory.specs.Machine.{trace, seen, visible}
+use Rattle.theory.specs.Machine.{trace, replies, run, seen, visible}
 use Rattle.wire.specs.Le.{le, bytes, number}
 use Rattle.protocol.specs.Opcodes.{opcodeRows, opcodeRow, supported, lengthFits, namesMember, bit, supportedOnly}
 use Rattle.inventory.specs.Inventory.{rows as inventoryRows, rowAt, present, offsetOf, selectorOf, isRow, seek, placeOf}
@@ -26,12 +26,13 @@ use Rattle.frame.specs.Ask.{usable, reaches, framedOf, askOf}
 use Rattle.reply.specs.Result.{numberBytes, resultOf}
 use Rattle.reply.specs.Reply.{headOf, finalOf, replyOf}
 use Rattle.admin.specs.Command.{askIn, perform, conclude, respond}
-use Rattle.demands.specs.Calls.{step, names}
+use Rattle.demands.specs.Calls.{refused, step, names}
+use Rattle.demands.specs.Statuses.{firstOf, namesObject, hasFlags, hasKind, needsGet, badField, badList, askedSize, resultSize, rowsAt}
 use Rattle.demands.specs.Requests.{request, objectHeader, getAll, setParts}
-use Rattle.demands.specs.Examples.{exampleCard, headersListed, joined, nineHeaders, nineParts, rows, repliesTo, lastSize}
+use Rattle.demands.specs.Examples.{exampleCard, headersListed, joined, nineHeaders, nineParts, workedExamples, repliesTo, lastSize}
 
 unfoldable pub model : Unit {0}
-unfolding if_then_else_ unless_answer_then_ _and_ _or_ within indicator put repeat same itemsFrom trace seen visible le bytes number
+unfolding if_then_else_ unless_answer_then_ _and_ _or_ within indicator put repeat same itemsFrom trace replies run seen visible le bytes number
     opcodeRows opcodeRow supported lengthFits namesMember bit supportedOnly
     inventoryRows rowAt present offsetOf selectorOf isRow seek placeOf headerOf headerAt stepAt atMost partsFrom
     known knownOrSkipped lengthRight featuresSame asksKnown whole every among repeated causeIn askedIn storable stored applied
@@ -40,6 +41,7 @@ unfolding if_then_else_ unless_answer_then_ _and_ _or_ within indicator put repe
     setupIn setupOf inUseOf withInUse recordIn withRecord memberIn withMember freshHead freshCard inNumbers soundSetup soundUpTo isSound
     setUp resetMember resetCard ifDone storeIn store
     objectValid flagsValid kindValid createIn modifyIn queryIn destroyIn metadataIn getIn setIn modeIn useIn fieldsOf
-    usable reaches framedOf askOf numberBytes resultOf headOf finalOf replyOf askIn perform conclude respond step names
-    request objectHeader getAll setParts exampleCard headersListed joined nineHeaders nineParts rows repliesTo lastSize
+    usable reaches framedOf askOf numberBytes resultOf headOf finalOf replyOf askIn perform conclude respond refused step names
+    firstOf namesObject hasFlags hasKind needsGet badField badList askedSize resultSize rowsAt
+    request objectHeader getAll setParts exampleCard headersListed joined nineHeaders nineParts workedExamples repliesTo lastSize
 model = tt

@@ -1,21 +1,23 @@
 -- A refusal leaves the card as it stood: every definition gives the card back where its answer is not 0. Assumes nothing.
-use mathlib.Core.Path.{_≡_, refl}
-use mathlib.Core.Bool.{true, not}
+use mathlib.Core.Path.{_≡_, refl, ap}
+use mathlib.Core.Bool.{true, false, not}
 use mathlib.Core.List.{List}
 use Prim.Native.Nat.{ℕ}
 use lib.Dec.{eqb}
 use borrow.Author.Tests.{eqb-true}
-use Rattle.theory.specs.Logic.{if_then_else_}
-use Rattle.theory.proofs.Tests.{by-cases, unless-cases}
+use Rattle.theory.specs.Logic.{if_then_else_, unless_answer_then_}
+use Rattle.theory.proofs.Tests.{by-cases, unless-cases, and-false}
 use Rattle.wire.specs.Le.{le, bytes, number}
 use Rattle.protocol.specs.declared.Answer.{Answer}
 use Rattle.protocol.specs.declared.EventAnswer.{EventAnswer}
 use Rattle.protocol.specs.Answers.{statusOf, isDone, eventNumber}
+use Rattle.card.specs.Sound.{isSound}
 use Rattle.events.specs.Events.{resetMember, resetCard, ifDone, storeIn, store}
 use Rattle.reply.specs.Reply.{headOf, replyOf}
-use Rattle.admin.specs.Command.{finish, conclude, respond}
-use Rattle.demands.specs.Calls.{command, memberReset, cardReset, cardStore, written, answered, step}
-use Rattle.demands.specs.Claims.{refused, RefusalsChangeNothing}
+use Rattle.admin.specs.Command.{askIn, perform, respond}
+use Rattle.demands.specs.Calls.{Call, command, memberReset, cardReset, cardStore, written, answered, refused, step}
+use Rattle.demands.specs.Claims.{RefusalsChangeNothing}
+use Rattle.demands.proofs.Respond.{lastAnswer, respond-none, respond-cases}
 
 -- a number that is refused picks the card as it was
 kept : (n : ℕ) (next c : List ℕ) → not (eqb n 0) ≡ true → (if eqb n 0 then next else c) ≡ c
@@ -35,18 +37,21 @@ Keeps c y = refused (written (y .1)) ≡ true → y .0 ≡ c
 KeepsEvent : List ℕ → EventAnswer × List ℕ → Type 0
 KeepsEvent c y = refused (answered (eventNumber (y .0))) ≡ true → y .1 ≡ c
 
-finish-keeps : (c next result : List ℕ) (a : Answer) → Keeps c (finish c next result a)
+pub respond-keeps : (c r : List ℕ) (room : ℕ) → refused (written (respond c r room .1)) ≡ true → respond c r room .0 ≡ c
 unfolding Keeps
-finish-keeps c next result a e = kept (statusOf a) next c (says-refused a result e)
+respond-keeps c r room =
+    respond-cases c r room (Keeps c) (λ e. refl)
+    (λ h s e.
+    let x = perform c r (askIn c r) in
+    kept (statusOf (lastAnswer room x)) (x .card) c (says-refused (lastAnswer room x) (x .result) e))
 
 done-keeps : (a : EventAnswer) (next c : List ℕ) → KeepsEvent c (ifDone a next c)
 unfolding KeepsEvent ifDone refused
 done-keeps a next c e = kept (eventNumber a) next c e
 
 pub refusals-change-nothing : RefusalsChangeNothing
-unfolding step respond conclude resetMember resetCard store storeIn refused Keeps KeepsEvent
-refusals-change-nothing c (command r room) =
-    unless-cases (Keeps c) _ _ _ (λ t e. refl) (λ t. finish-keeps c _ _ _)
+unfolding step resetMember resetCard store storeIn refused KeepsEvent
+refusals-change-nothing c (command r room) = respond-keeps c r _
 refusals-change-nothing c (memberReset m) =
     unless-cases (KeepsEvent c) _ _ _ (λ t e. refl) (λ t.
     unless-cases (KeepsEvent c) _ _ _ (λ t e. refl) (λ t e. cc))
@@ -55,3 +60,11 @@ refusals-change-nothing c cardReset =
 refusals-change-nothing c (cardStore m t s value) =
     unless-cases (KeepsEvent c) _ _ _ (λ t e. refl) (λ t.
     unless-cases (KeepsEvent c) _ _ _ (λ t e. refl) (λ t. done-keeps _ _ c))
+
+-- a card that is not sound stays
+pub unsound-stays : (c : List ℕ) (x : Call) → isSound c ≡ false → step c x .0 ≡ c
+unfolding step resetMember resetCard store unless_answer_then_
+unsound-stays c (command r room) e = ap (λ (y : List ℕ × List ℕ). y .0) (respond-none c r _ (rw e (and-false _)))
+unsound-stays c (memberReset m) e = rw e
+unsound-stays c cardReset e = rw e
+unsound-stays c (cardStore m t s value) e = rw e

@@ -4,16 +4,18 @@ use mathlib.Core.Bool.{true}
 use mathlib.Core.List.{List, _∷_, _++_}
 use Prim.Native.Nat.{ℕ, _+_, _-_, _%_, _^_, _≤_, _<_}
 use native.Mathlib.Omega.{arith}
+use lib.Dec.{ltb}
 use lib.ListN.{length, drop, replicate}
 use borrow.Author.Tests.{lt-ltb, eq-eqb}
 use Rattle.theory.specs.Logic.{if_then_else_, unless_answer_then_, _and_, _or_, within}
-use Rattle.theory.proofs.Tests.{and-i, inside, within-high}
+use Rattle.theory.proofs.Tests.{by-cases, and-i, inside, within-high}
 use Rattle.wire.specs.Le.{le, bytes, number}
 use Rattle.wire.proofs.Le.{le-bytes}
 use Rattle.protocol.specs.Opcodes.{largest, opcodeRows, opcodeRow, supported, lengthFits, namesMember, bit}
 use Rattle.protocol.specs.declared.ReadOp.the-variants.{GetAll}
 use Rattle.protocol.specs.declared.ChangeOp.the-variants.{SetParts}
-use Rattle.frame.specs.declared.Ask.the-variants.{Read, Change}
+use Rattle.protocol.specs.declared.Answer.the-variants.{BadOpcode, BadField}
+use Rattle.frame.specs.declared.Ask.the-variants.{Refused, Read, Change}
 use Rattle.frame.specs.Frame.{opcodeOf, groupOf, targetOf}
 use Rattle.frame.specs.Fields.{idOf, objectValid, getIn, setIn, fieldsOf}
 use Rattle.frame.specs.Ask.{usable, reaches, framedOf, askOf}
@@ -61,9 +63,9 @@ module _ (id : ℕ) (rest : List ℕ) (small : id < 256 ^ 4) where
   unfolding objectHeader number le
   type-read = refl
 
-  object-read : (ids : ℕ) → id < ids → objectValid ids (objectHeader id ++ rest) ≡ true
+  object-read : (ids : ℕ) → objectValid ids (objectHeader id ++ rest) ≡ ltb id ids
   unfolding objectValid _and_
-  object-read ids h = rw (type-read, id-read, lt-ltb id ids h)
+  object-read ids = rw (type-read, id-read)
 
 -- a list of parts within the largest data is as long as a parts set may be
 long-header : (id : ℕ) (list : List ℕ) → length (objectHeader id ++ list) ≡ 8 + length list
@@ -78,25 +80,26 @@ set-fits id list h =
 
 -- ---- the two commands of a round trip ----
 
--- a member m of a card, an id that is valid, and a card that has the opcode in use
-module _ (members ids inUse m id : ℕ) (few : members ≤ 16) (here : within 1 members m ≡ true) (valid : id < ids) (most : ids ≤ 16) where
+-- a member m of a card, and any id
+module _ (members ids inUse m id : ℕ) (few : members ≤ 16) (here : within 1 members m ≡ true) (small : id < 256 ^ 4) where
   in-range : m < 256 ^ 8
   in-range = omega (arith, within-high 1 members m here)
 
-  pub get-all-asked : bit inUse 0x0f ≡ true → askOf members ids inUse (getAll m id) ≡ Read m (GetAll id)
+  pub get-all-asked : bit inUse 0x0f ≡ true → id < ids → askOf members ids inUse (getAll m id) ≡ Read m (GetAll id)
   unfolding getAll framedOf usable supported opcodeRow opcodeRows reaches namesMember lengthFits fieldsOf getIn
       objectHeader bytes within _and_ _or_ if_then_else_ unless_answer_then_
-  get-all-asked u =
+  get-all-asked u valid =
       let rest : List ℕ = 1 ∷ replicate 7 0 in
-      let small : id < 256 ^ 4 = omega arith in
       ask-request 0x0f 1 m (objectHeader id ++ rest) members ids inUse (omega arith) (omega arith) in-range (omega arith)
-      ∙ rw (u, here, object-read id rest small ids valid, id-read id rest small)
+      ∙ rw (u, here, object-read id rest small ids, lt-ltb id ids valid, id-read id rest small)
 
-  pub set-parts-asked : (list : List ℕ) → 8 + length list ≤ largest → bit inUse 0x10 ≡ true
-      → askOf members ids inUse (setParts m id list) ≡ Change m (SetParts id)
+  pub set-parts-asked : (list : List ℕ) → 8 + length list ≤ largest
+      → askOf members ids inUse (setParts m id list)
+      ≡ (unless bit inUse 0x10 answer Refused BadOpcode then unless ltb id ids answer Refused BadField then Change m (SetParts id))
   unfolding setParts framedOf usable supported opcodeRow opcodeRows reaches namesMember fieldsOf setIn
       within _and_ _or_ if_then_else_ unless_answer_then_
-  set-parts-asked list h u =
-      let small : id < 256 ^ 4 = omega arith in
+  set-parts-asked list h =
       ask-request 0x10 1 m (objectHeader id ++ list) members ids inUse (omega arith) (omega arith) in-range (rw long-header h)
-      ∙ rw (u, here, set-fits id list h, object-read id list small ids valid, id-read id list small)
+      ∙ by-cases (bit inUse 0x10)
+      (λ u. rw (u, here, set-fits id list h, object-read id list small ids, id-read id list small))
+      (λ u. rw u)

@@ -2,19 +2,20 @@
 -- same bytes. Assumes nothing.
 use mathlib.Core.Path.{_≡_, refl, ap, sym, _∙_}
 use mathlib.Core.Bool.{true}
-use mathlib.Core.List.{List, [], _++_, append-nil}
-use Prim.Native.Nat.{ℕ, _+_, _≤_, _<_}
+use mathlib.Core.List.{List, _++_}
+use Prim.Native.Nat.{ℕ, _+_, _^_, _≤_, _<_}
 use native.Mathlib.Omega.{arith}
 use lib.ListN.{length, take, drop}
-use borrow.Author.Tests.{le-leb}
-use Rattle.theory.specs.Logic.{if_then_else_, unless_answer_then_, _and_}
+use borrow.Author.Tests.{le-leb, lt-ltb}
+use Rattle.theory.specs.Logic.{if_then_else_, unless_answer_then_}
 use Rattle.theory.specs.Bytes.{bytesAt}
 use Rattle.theory.proofs.Tests.{within-low}
 use Rattle.wire.specs.Le.{bytes}
 use Rattle.protocol.specs.declared.Answer.the-variants.{Done}
 use Rattle.protocol.specs.declared.Mode.the-variants.{Stopped}
+use Rattle.protocol.specs.declared.ObjectKind.{ObjectKind}
 use Rattle.protocol.specs.declared.ObjectKind.the-variants.{Get, Set}
-use Rattle.protocol.specs.Opcodes.{largest, bit}
+use Rattle.protocol.specs.Opcodes.{bit}
 use Rattle.inventory.specs.Inventory.{valuesSize, partsSize}
 use Rattle.parts.specs.declared.ListForm.the-variants.{Parts}
 use Rattle.parts.specs.List.{partsOf}
@@ -30,7 +31,7 @@ use Rattle.member.specs.Objects.{lookupOf}
 use Rattle.member.specs.Member.{featuresIn, withValues}
 use Rattle.member.proofs.Sound.{sound-applied}
 use Rattle.member.proofs.Live.{live-below}
-use Rattle.changes.specs.Changes.{setPartsOf}
+use Rattle.changes.specs.Changes.{done, setPartsOf}
 use Rattle.reads.specs.Reads.{throughGet}
 use Rattle.card.specs.declared.Setup.{Setup}
 use Rattle.card.specs.Layout.{setupOf, inUseOf, isMember, memberIn, withMember}
@@ -39,24 +40,19 @@ use Rattle.card.proofs.LayoutLaws.{setup-with-member, use-with-member, member-s
 use Rattle.card.proofs.SoundLaws.{Sound, SoundIn, sound-of, is-sound, sound-has, sound-member-in, sound-with-member}
 use Rattle.reply.specs.Result.{resultOf}
 use Rattle.reply.specs.Reply.{headOf, finalOf, replyOf}
-use Rattle.admin.specs.Command.{askIn, effect, perform, conclude, respond}
-use Rattle.demands.specs.Requests.{request, objectHeader, getAll, setParts}
-use Rattle.demands.specs.Claims.{Restorable, RestoredSame, RoundTrip, capture, restore}
-use Rattle.demands.proofs.Requests.{get-all-asked, set-parts-asked}
+use Rattle.admin.specs.Command.{askIn, effect, perform, respond}
+use Rattle.demands.specs.Requests.{getAll}
+use Rattle.demands.specs.RoundTrip.{Restorable, RestoredSame, RoundTrip, capture, restore}
+use Rattle.demands.proofs.Requests.{get-all-asked}
+use Rattle.demands.proofs.Respond.{respond-is}
+use Rattle.demands.proofs.PartsSet.{partsSetOf, respond-parts-set}
 
--- a command that succeeds, where the card is sound and the reply has room
-respond-done : (c r : List ℕ) (room : ℕ) (next result : List ℕ) → isSound c ≡ true
-    → perform c r (askIn c r) ≡ effect Done next result → 8 + length result ≤ room
-    → respond c r room ≡ (next, headOf Done ++ result)
-unfolding respond conclude finalOf replyOf if_then_else_ unless_answer_then_ _and_
-respond-done c r room next result s e h =
-    let l : 8 ≤ room = omega arith in
-    rw (le-leb 8 room l, s, e, le-leb (8 + length result) room h)
-
--- the list of a parts set
-given : (m id : ℕ) (list : List ℕ) → drop 32 (setParts m id list) ≡ list
-unfolding setParts request objectHeader bytes
-given m id list = refl
+-- a command with a result that succeeds and has room
+respond-done : (c r : List ℕ) (room : ℕ) (result : List ℕ) → isSound c ≡ true
+    → perform c r (askIn c r) ≡ effect Done c result → 8 + length result ≤ room → respond c r room .1 ≡ headOf Done ++ result
+unfolding finalOf replyOf if_then_else_ unless_answer_then_
+respond-done c r room result s e h =
+    rw (respond-is c r room (omega arith) s, e, le-leb (8 + length result) room h)
 
 -- member m of a sound card, with a live object
 record Reached (c : List ℕ) (m : ℕ) : Type 0 where
@@ -76,26 +72,30 @@ module _ (c : List ℕ) (m : ℕ) (x : Reached c m) where
   ids : setupOf c .gets + setupOf c .sets ≤ 16
   ids = omega (arith, facts .numbers .fewGets, facts .numbers .fewSets)
 
+  -- an id of a live object is valid
+  valid : (i : ℕ) (k : ObjectKind) → lookupOf (memberIn c m) i ≡ Live k → i < setupOf c .gets + setupOf c .sets
+  valid i k e = live-below _ _ _ (memberIn c m) i k member e
+
+  small : (i : ℕ) → i < setupOf c .gets + setupOf c .sets → i < 256 ^ 4
+  small i h = omega (arith, ids)
+
   -- a full capture through a live get object
   get-performs : (i : ℕ) → lookupOf (memberIn c m) i ≡ Live Get → bit (inUseOf c) 0x0f ≡ true
       → perform c (getAll m i) (askIn c (getAll m i)) ≡ effect Done c (captureOf (setupOf c .queues) (memberIn c m .values))
   unfolding askIn perform throughGet resultOf unless_answer_then_
-  get-performs i e u = rw (get-all-asked _ _ _ m i few (x .here) (live-below _ _ _ (memberIn c m) i Get member e) ids u, e)
+  get-performs i e u = let v = valid i Get e in rw (get-all-asked _ _ _ m i few (x .here) (small i v) u v, e)
 
   capture-is : (i room : ℕ) → lookupOf (memberIn c m) i ≡ Live Get → bit (inUseOf c) 0x0f ≡ true
       → 8 + length (captureOf (setupOf c .queues) (memberIn c m .values)) ≤ room
       → capture c m i room ≡ headOf Done ++ captureOf (setupOf c .queues) (memberIn c m .values)
-  capture-is i room e u h = ap (λ (y : List ℕ × List ℕ). y .1) (respond-done c (getAll m i) room c _ (x .sound) (get-performs i e u) h)
+  capture-is i room e u h = respond-done c (getAll m i) room _ (x .sound) (get-performs i e u) h
 
   -- an accepted list through a live set object, where the member is stopped
-  set-performs : (j : ℕ) (list : List ℕ) → lookupOf (memberIn c m) j ≡ Live Set → bit (inUseOf c) 0x10 ≡ true
-      → memberIn c m .mode ≡ Stopped → 8 + length list ≤ largest
-      → causeOf (setupOf c .queues) (featuresIn (memberIn c m)) list ≡ Accepted
-      → perform c (setParts m j list) (askIn c (setParts m j list))
-      ≡ effect Done (withMember c m (withValues (memberIn c m) (applied (setupOf c .queues) (partsOf Parts list) (memberIn c m .values)))) []
-  unfolding askIn perform setPartsOf unless_answer_then_
-  set-performs j list e u k h a =
-      rw (set-parts-asked _ _ _ m j few (x .here) (live-below _ _ _ (memberIn c m) j Set member e) ids list h u, given m j list, e, k, a)
+  set-done : (j : ℕ) (list : List ℕ) → lookupOf (memberIn c m) j ≡ Live Set → bit (inUseOf c) 0x10 ≡ true
+      → memberIn c m .mode ≡ Stopped → causeOf (setupOf c .queues) (featuresIn (memberIn c m)) list ≡ Accepted
+      → partsSetOf c m j list ≡ done (withValues (memberIn c m) (applied (setupOf c .queues) (partsOf Parts list) (memberIn c m .values)))
+  unfolding partsSetOf setPartsOf unless_answer_then_
+  set-done j list e u k a = rw (u, lt-ltb j _ (valid j Set e), e, k, a)
 
 -- the head of a reply is eight bytes
 after-head : (list : List ℕ) → drop 8 (headOf Done ++ list) ≡ list
@@ -162,14 +162,14 @@ module _ (c : List ℕ) (m i : ℕ) (d : List ℕ) (k j l : ℕ) (x : Restorable
   after : List ℕ
   after = withMember d k restored
 
-  restored-is : (r₁ r₂ : ℕ) → 8 + partsSize q ≤ r₁ → 8 ≤ r₂
-      → restore d k j (capture c m i r₁) r₂ ≡ (after, headOf Done ++ [])
+  restored-is : (r₁ r₂ : ℕ) → 8 + partsSize q ≤ r₁ → 8 ≤ r₂ → restore d k j (capture c m i r₁) r₂ ≡ (after, headOf Done)
   unfolding after restored
   restored-is r₁ r₂ h g =
       let n = list-long in
       let f = few-queues in
-      rw (captured-is r₁ h, after-head) (respond-done d (setParts k j list) r₂ _ [] (x .soundTarget)
-      (set-performs d k target j list (x .targetSet) (x .setInUse) (x .stopped) (omega arith) list-accepted) g)
+      let v = small d k target j (valid d k target j Set (x .targetSet)) in
+      rw (captured-is r₁ h, after-head, respond-parts-set d k (x .soundTarget) (x .targetMember) r₂ g j v list (omega arith))
+      (rw (set-done d k target j list (x .targetSet) (x .setInUse) (x .stopped) list-accepted))
 
   -- the target's card after it, and a capture there
   restored-in : SoundIn d restored
@@ -208,7 +208,7 @@ module _ (c : List ℕ) (m i : ℕ) (d : List ℕ) (k j l : ℕ) (x : Restorable
       record {
         captured = rw e (head-only list);
         full = rw (e, x .sameSetup) (long-reply list ∙ rw list-long);
-        accepted = ap (λ (y : List ℕ × List ℕ). y .1) f ∙ append-nil (headOf Done);
+        accepted = ap (λ (y : List ℕ × List ℕ). y .1) f;
         same = ap (λ (y : List ℕ × List ℕ). capture (y .0) k l r₃) f ∙ recaptured-is r₃ g₃ ∙ sym e;
       }
 

@@ -1,14 +1,21 @@
 -- The hypotheses of the round trip can be met, and the target differs from the source before it. Assumes nothing.
 use mathlib.Core.Path.{_≡_, refl, sym, _∙_}
 use mathlib.Core.Logic.{_≢_}
+use mathlib.Core.Bool.{true}
 use mathlib.Core.List.{List}
 use Prim.Native.Nat.{ℕ}
 use native.Mathlib.Omega.{arith}
 use lib.ListN.{getD, replicate}
+use Rattle.protocol.specs.declared.Mode.the-variants.{Stopped}
+use Rattle.protocol.specs.declared.ObjectKind.the-variants.{Get, Set}
+use Rattle.protocol.specs.Opcodes.{bit}
+use Rattle.objects.specs.declared.Found.the-variants.{Live}
+use Rattle.member.specs.Objects.{lookupOf}
 use Rattle.card.specs.declared.Setup.{Setup}
-use Rattle.card.specs.Layout.{setupOf}
+use Rattle.card.specs.Layout.{setupOf, inUseOf, isMember, memberIn}
+use Rattle.card.specs.Sound.{isSound}
 use Rattle.demands.specs.Calls.{cardStore, step}
-use Rattle.demands.specs.Claims.{capture, Restorable, RestoredSame}
+use Rattle.demands.specs.RoundTrip.{capture, Restorable, RestoredSame}
 use Rattle.demands.specs.Examples.{exampleCard, useList, create, setMode}
 use Rattle.demands.proofs.Model.{model}
 use Rattle.demands.proofs.RoundTrip.{round-trip}
@@ -32,6 +39,16 @@ example = tt
 abbrev setup : Setup
 setup = record { members = 2; queues = 1; gets = 1; sets = 1; features = replicate 16 0 }
 
+-- ---- each hypothesis ----
+
+sound-source : isSound source ≡ true
+unfolding example
+sound-source = refl
+
+sound-target : isSound target ≡ true
+unfolding example
+sound-target = refl
+
 setup-source : setupOf source ≡ setup
 unfolding example
 setup-source = refl
@@ -40,22 +57,59 @@ setup-target : setupOf target ≡ setup
 unfolding example
 setup-target = refl
 
-restorable : Restorable source 1 0 target 1 1 0
+source-member : isMember source 1 ≡ true
 unfolding example
+source-member = refl
+
+target-member : isMember target 1 ≡ true
+unfolding example
+target-member = refl
+
+source-get : lookupOf (memberIn source 1) 0 ≡ Live Get
+unfolding example
+source-get = refl
+
+target-set : lookupOf (memberIn target 1) 1 ≡ Live Set
+unfolding example
+target-set = refl
+
+target-get : lookupOf (memberIn target 1) 0 ≡ Live Get
+unfolding example
+target-get = refl
+
+target-stopped : memberIn target 1 .mode ≡ Stopped
+unfolding example
+target-stopped = refl
+
+capture-in-use : bit (inUseOf source) 0x0f ≡ true
+unfolding example
+capture-in-use = refl
+
+set-in-use : bit (inUseOf target) 0x10 ≡ true
+unfolding example
+set-in-use = refl
+
+recapture-in-use : bit (inUseOf target) 0x0f ≡ true
+unfolding example
+recapture-in-use = refl
+
+restorable : Restorable source 1 0 target 1 1 0
 restorable = record {
-  soundSource = refl;
-  soundTarget = refl;
+  soundSource = sound-source;
+  soundTarget = sound-target;
   sameSetup = setup-source ∙ sym setup-target;
-  sourceMember = refl;
-  targetMember = refl;
-  sourceGet = refl;
-  targetSet = refl;
-  targetGet = refl;
-  stopped = refl;
-  captureInUse = refl;
-  setInUse = refl;
-  recaptureInUse = refl;
+  sourceMember = source-member;
+  targetMember = target-member;
+  sourceGet = source-get;
+  targetSet = target-set;
+  targetGet = target-get;
+  stopped = target-stopped;
+  captureInUse = capture-in-use;
+  setInUse = set-in-use;
+  recaptureInUse = recapture-in-use;
 }
+
+-- ---- the claim at them ----
 
 captures-differ : getD (capture source 1 0 237) 190 0 ≢ getD (capture target 1 0 237) 190 0
 unfolding example

@@ -1,5 +1,5 @@
 -- Every call on a sound card leaves a sound card. Assumes nothing.
-use mathlib.Core.Path.{_≡_, refl}
+use mathlib.Core.Path.{_≡_}
 use mathlib.Core.Bool.{true}
 use mathlib.Core.List.{List}
 use Prim.Native.Nat.{ℕ, _+_}
@@ -10,20 +10,22 @@ use Rattle.protocol.specs.declared.EventAnswer.{EventAnswer}
 use Rattle.member.specs.Member.{freshOf}
 use Rattle.member.proofs.Sound.{sound-fresh, sound-part}
 use Rattle.changes.proofs.Kept.{change-sound}
-use Rattle.card.specs.Layout.{setupOf, inUseOf, isMember, memberIn}
+use Rattle.card.specs.Layout.{setupOf, isMember, memberIn}
 use Rattle.events.specs.Events.{resetMember, resetCard, ifDone, storeIn, store}
 use Rattle.card.proofs.LayoutLaws.{features-long}
 use Rattle.card.proofs.SoundLaws.{Sound, SoundIn, sound-of, is-sound, numbers-sound, sound-long, sound-member-in, sound-with-member, sound-with-use, sound-fresh-card}
 use Rattle.frame.specs.declared.Ask.{Ask}
 use Rattle.frame.specs.declared.Ask.the-variants.{Refused, QueryList, UseList, Read, Change}
-use Rattle.frame.proofs.Asked.{Facts, asked}
-use Rattle.admin.specs.Command.{askIn, Effect, perform, conclude, respond}
+use Rattle.frame.proofs.Asked.{Facts}
+use Rattle.admin.specs.Command.{perform, respond}
 use Rattle.demands.specs.Calls.{Call, command, memberReset, cardReset, cardStore, step}
 use Rattle.demands.specs.Claims.{StaysSound}
+use Rattle.demands.proofs.Respond.{card-cases}
+use Rattle.demands.proofs.Named.{asked-of}
 
 module _ (c : List ℕ) (s : Sound c) where
   -- the device features are 16 bytes
-  pub sixteen : length (setupOf c .features) ≡ 16
+  sixteen : length (setupOf c .features) ≡ 16
   sixteen = features-long c (omega (arith, sound-long c s))
 
   fresh-in : SoundIn c (freshOf (setupOf c .features))
@@ -39,9 +41,8 @@ module _ (c : List ℕ) (s : Sound c) where
       let x = sound-member-in c s m (inside 1 _ m (f .0 .low) (f .0 .high)) in
       sound-with-member c m _ s (f .0 .low) (change-sound (setupOf c .queues) _ _ _ op (memberIn c m) _ (f .1) x)
 
-  conclude-sound : (room : ℕ) (e : Effect) → Sound (e .card) → Sound (conclude c room e .0)
-  unfolding conclude
-  conclude-sound room e h = if-cases Sound _ _ _ (λ t. h) (λ t. s)
+  pub respond-sound : (r : List ℕ) (room : ℕ) → Sound (respond c r room .0)
+  respond-sound r room = card-cases c r room Sound s (λ e. perform-sound r _ (asked-of c r))
 
   store-sound : (m t k : ℕ) (value : List ℕ) → isMember c m ≡ true → Sound (storeIn c m t k value .1)
   unfolding storeIn ifDone
@@ -55,10 +56,8 @@ abbrev Leaves : EventAnswer × List ℕ → Type 0
 Leaves y = Sound (y .1)
 
 step-sound : (c : List ℕ) (x : Call) → Sound c → Sound (step c x .0)
-unfolding step respond askIn resetMember resetCard store
-step-sound c (command r room) s =
-    unless-cases (λ (y : List ℕ × List ℕ). Sound (y .0)) _ _ _ (λ t. s)
-    (λ t. conclude-sound c s room _ (perform-sound c s r _ (asked _ _ r (inUseOf c) _ refl)))
+unfolding step resetMember resetCard store
+step-sound c (command r room) s = respond-sound c s r _
 step-sound c (memberReset m) s =
     unless-cases Leaves _ _ _ (λ t. s) λ t.
     unless-cases Leaves _ _ _ (λ t. s) λ h.

@@ -1,10 +1,11 @@
 -- The calls of demand 3 and one step of the card: document 01, "The calls of demand 3". Assumes nothing.
-use mathlib.Core.Bool.{Bool, false}
-use mathlib.Core.List.{List}
+use mathlib.Core.Bool.{Bool, true, false, not}
+use mathlib.Core.List.{List, [], _∷_}
 use Prim.Native.Nat.{ℕ}
 use lib.Dec.{eqb}
 use lib.ListN.{length}
 use Rattle.theory.specs.Logic.{_and_, within}
+use Rattle.wire.specs.Le.{number}
 use Rattle.protocol.specs.declared.EventAnswer.{EventAnswer}
 use Rattle.protocol.specs.Answers.{eventNumber}
 use Rattle.protocol.specs.Opcodes.{namesMember}
@@ -25,18 +26,25 @@ pub data Reply : Type 0 where
   written : List ℕ → Reply
   answered : ℕ → Reply
 
-abbrev pub told : List ℕ × List ℕ → List ℕ × Reply
-told x = (x .0, written (x .1))
+-- a call is refused if nothing is written, or its status or answer is not 0
+unfoldable pub refused : Reply → Bool
+refused (written []) = true
+refused (written (b ∷ bs)) = not (eqb (number 0 2 (b ∷ bs)) 0)
+refused (answered n) = not (eqb n 0)
 
-abbrev pub happened : EventAnswer × List ℕ → List ℕ × Reply
-happened x = (x .1, answered (eventNumber (x .0)))
+-- the card after a call and the reply to it, of what a command gives and of what an event gives
+abbrev pub ofCommand : List ℕ × List ℕ → List ℕ × Reply
+ofCommand x = (x .0, written (x .1))
 
--- one call on a card: the card after it and the reply
+abbrev pub ofEvent : EventAnswer × List ℕ → List ℕ × Reply
+ofEvent x = (x .1, answered (eventNumber (x .0)))
+
+-- one call on a card
 unfoldable pub step : List ℕ → Call → List ℕ × Reply
-step c (command r room) = told (respond c r room)
-step c (memberReset m) = happened (resetMember c m)
-step c cardReset = happened (resetCard c)
-step c (cardStore m t s value) = happened (store c m t s value)
+step c (command r room) = ofCommand (respond c r room)
+step c (memberReset m) = ofEvent (resetMember c m)
+step c cardReset = ofEvent (resetCard c)
+step c (cardStore m t s value) = ofEvent (store c m t s value)
 
 -- "Names m" (01's term): "a request of 24 to 4,096 bytes, group type 1, opcode 0x0a to 0x11, member m; or a card store
 -- for m"
@@ -49,5 +57,5 @@ names m (cardStore k t s value) = eqb k m
 
 -- "a reset of the whole card counts as a reset of m too"
 pub data Resets (m : ℕ) : Call → Type 0 where
-  one : Resets m (memberReset m)
-  all : Resets m cardReset
+  ofMember : Resets m (memberReset m)
+  ofCard : Resets m cardReset

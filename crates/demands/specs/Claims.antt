@@ -1,97 +1,86 @@
--- WHAT IS CLAIMED OF THE CARD. Each claim is over the definitions that the contracts of the exported functions cite:
--- respond (a command), resetMember, resetCard and store. The proofs are in ../proofs. Assumes nothing.
+-- WHAT IS CLAIMED OF THE CARD, by demand. Each claim is over the definitions that the contracts of the exported functions cite:
+-- setUp, commandOf (a command and its buffer; respond without the buffer), resetMember, resetCard and store. The record Claims at
+-- the end lists them all; ../proofs/Claims.antt proves it. Hypotheses that can be met: by which example, each claim says.
+-- Assumes nothing.
 use mathlib.Core.Path.{_≡_}
-use mathlib.Core.Bool.{Bool, true, not}
-use mathlib.Core.List.{List, [], _∷_, _++_}
-use Prim.Native.Nat.{ℕ, _+_, _≤_}
-use lib.Dec.{eqb}
-use lib.ListN.{length, take, drop}
-use Rattle.theory.specs.Machine.{trace, seen, visible}
-use Rattle.wire.specs.Le.{number}
-use Rattle.protocol.specs.declared.Answer.the-variants.{Done}
-use Rattle.protocol.specs.declared.Mode.the-variants.{Stopped}
-use Rattle.protocol.specs.declared.ObjectKind.the-variants.{Get, Set}
-use Rattle.protocol.specs.Opcodes.{bit}
-use Rattle.inventory.specs.Inventory.{partsSize}
-use Rattle.objects.specs.declared.Found.the-variants.{Live}
+use mathlib.Core.Logic.{_≢_}
+use mathlib.Core.Bool.{true, false}
+use mathlib.Core.List.{List, _∷_, _++_}
+use Prim.Native.Nat.{ℕ, _+_, _≤_, _<_}
+use lib.ListN.{length, take, drop, replicate}
+use Rattle.theory.specs.Machine.{trace, seen, visible, Swappable}
+use Rattle.protocol.specs.declared.EventAnswer.the-variants.{Done}
 use Rattle.member.specs.Record.{recordSize}
-use Rattle.member.specs.Objects.{lookupOf}
-use Rattle.card.specs.Layout.{setupOf, inUseOf, isMember, recordAt, memberIn}
+use Rattle.card.specs.Layout.{inUseAt, setupOf, isMember, recordAt, memberIn}
 use Rattle.card.specs.Sound.{isSound}
-use Rattle.reply.specs.Reply.{headOf}
-use Rattle.admin.specs.Command.{respond}
-use Rattle.demands.specs.Calls.{Call, Reply, written, answered, step, names, Resets}
-use Rattle.demands.specs.Requests.{getAll, setParts}
+use Rattle.frame.specs.Frame.{opcodeOf, targetOf}
+use Rattle.events.specs.Events.{setupWith, setUp}
+use Rattle.admin.specs.Command.{respond, commandOf}
+use Rattle.demands.specs.Calls.{Call, command, memberReset, refused, step, names, Resets}
+use Rattle.demands.specs.Statuses.{Statuses}
+use Rattle.demands.specs.Examples.{ExamplesHold}
+use Rattle.demands.specs.WrongPrograms.{WrongProgramsRejected}
+use Rattle.demands.specs.RoundTrip.{RoundTrip}
 
--- ---- every call ----
-
--- "Every call on a sound card leaves a sound card"
+-- "Every call on a sound card leaves a sound card". Example: sound-card in ../proofs/ClaimsExample.antt, as for every claim that
+-- names no other file
 abbrev pub StaysSound : Type 0
 StaysSound = (c : List ℕ) (x : Call) → isSound c ≡ true → isSound (step c x .0) ≡ true
 
--- a call is refused if nothing is written, or its status or answer is not 0
-unfoldable pub refused : Reply → Bool
-refused (written []) = true
-refused (written (b ∷ bs)) = not (eqb (number 0 2 (b ∷ bs)) 0)
-refused (answered n) = not (eqb n 0)
+-- ---- DEMAND 1. That every call ends and touches only what it was lent, the prover shows of each function. ----
 
--- DEMAND 1, its second half: a refusal leaves the card as it stood, every byte of it, whatever bytes the card is. (That
--- every call ends and touches only what it was lent is part of what the prover shows of each function.)
+-- "A reply buffer under 8 bytes, or one that comes with an unsound card, is not written", and the card stays. Examples:
+-- short-buffer, unsound-card
+pub record NotWritten : Type 0 where
+  pub shortBuffer : (c r b : List ℕ) → length b < 8 → commandOf c r b ≡ (0, (c, b))
+  pub unsoundCard : (c r b : List ℕ) → isSound c ≡ false → commandOf c r b ≡ (0, (c, b))
+
+-- What a command leaves is the card and the reply that `respond` gives for the buffer's length: the reply lies within the buffer,
+-- as many bytes as are reported, and "bytes of the reply buffer past those written keep their values"
+pub record Delivers (c r b : List ℕ) : Type 0 where
+  pub card : commandOf c r b .1 .0 ≡ respond c r (length b) .0
+  pub reported : commandOf c r b .0 ≡ length (respond c r (length b) .1)
+  pub within : commandOf c r b .0 ≤ length b
+  pub buffer : commandOf c r b .1 .1 ≡ respond c r (length b) .1 ++ drop (commandOf c r b .0) b
+
+abbrev pub Delivered : Type 0
+Delivered = (c r b : List ℕ) → Delivers c r b
+
+-- "A refusal .. leaves the card as it stood", whatever bytes the card is. Example: refused-command
 abbrev pub RefusalsChangeNothing : Type 0
 RefusalsChangeNothing = (c : List ℕ) (x : Call) → refused (step c x .1) ≡ true → step c x .0 ≡ c
 
--- ---- DEMAND 2: the round trip ----
+-- Setup, done, gives a sound card of this setup; "refused, it gives a card of zeros, which is not sound", as long as the buffer.
+-- Examples: setup-done, setup-refused
+pub record SetsUp : Type 0 where
+  pub done : (b : List ℕ) (n q g s : ℕ) (f : List ℕ) → setUp b n q g s f .0 ≡ Done
+      → (isSound (setUp b n q g s f .1) ≡ true) × (setupOf (setUp b n q g s f .1) ≡ setupWith n q g s f)
+  pub refused : (b : List ℕ) (n q g s : ℕ) (f : List ℕ) → setUp b n q g s f .0 ≢ Done
+      → setUp b n q g s f .1 ≡ replicate (length b) 0
+  pub zeros : (n : ℕ) → isSound (replicate n 0) ≡ false
 
--- Member m of a sound card c is captured through a live get object i. Member k of a sound card d with the same setup is
--- stopped and has a live set object j and a live get object l. (d may be c and k may be m.) Parts get, 0x0f, is in use on
--- both cards, and parts set, 0x10, where the capture is set.
-pub record Restorable (c : List ℕ) (m i : ℕ) (d : List ℕ) (k j l : ℕ) : Type 0 where
-  pub soundSource : isSound c ≡ true
-  pub soundTarget : isSound d ≡ true
-  pub sameSetup : setupOf c ≡ setupOf d
-  pub sourceMember : isMember c m ≡ true
-  pub targetMember : isMember d k ≡ true
-  pub sourceGet : lookupOf (memberIn c m) i ≡ Live Get
-  pub targetSet : lookupOf (memberIn d k) j ≡ Live Set
-  pub targetGet : lookupOf (memberIn d k) l ≡ Live Get
-  pub stopped : memberIn d k .mode ≡ Stopped
-  pub captureInUse : bit (inUseOf c) 0x0f ≡ true
-  pub setInUse : bit (inUseOf d) 0x10 ≡ true
-  pub recaptureInUse : bit (inUseOf d) 0x0f ≡ true
+-- ---- DEMAND 2 ----
 
--- what is captured with room for r bytes
-abbrev pub capture : List ℕ → ℕ → ℕ → ℕ → List ℕ
-capture c m i r = respond c (getAll m i) r .1
+-- Which status a command gets: Statuses.antt, example ../proofs/StatusesExample.antt. The worked examples B1 to B12:
+-- Examples.antt. The programs that 01 wants rejected fail them: WrongPrograms.antt, example ../proofs/WrongProgramsExample.antt.
+-- The round trip: RoundTrip.antt, example ../proofs/RoundTripExample.antt
 
--- what the set answers, and the card after it; the list is the captured reply past its head
-abbrev pub restore : List ℕ → ℕ → ℕ → List ℕ → ℕ → List ℕ × List ℕ
-restore d k j reply r = respond d (setParts k j (drop 8 reply)) r
+-- ---- DEMAND 3 ----
 
--- The capture succeeds and is a full one, a head of 8 bytes and all parts; the set is accepted; and a capture of the
--- target gives the same bytes.
-pub record RestoredSame (c : List ℕ) (m i : ℕ) (d : List ℕ) (k j l r₁ r₂ r₃ : ℕ) : Type 0 where
-  pub captured : take 8 (capture c m i r₁) ≡ headOf Done
-  pub full : length (capture c m i r₁) ≡ 8 + partsSize (setupOf c .queues)
-  pub accepted : restore d k j (capture c m i r₁) r₂ .1 ≡ headOf Done
-  pub same : capture (restore d k j (capture c m i r₁) r₂ .0) k l r₃ ≡ capture c m i r₁
+-- two lists with the same bytes but for these
+pub record SameOutside (at size : ℕ) (c d : List ℕ) : Type 0 where
+  pub before : take at c ≡ take at d
+  pub after : drop (at + size) c ≡ drop (at + size) d
 
-abbrev pub RoundTrip : Type 0
-RoundTrip =
-    (c : List ℕ) (m i : ℕ) (d : List ℕ) (k j l : ℕ) → Restorable c m i d k j l
-    → (r₁ r₂ r₃ : ℕ) → 8 + partsSize (setupOf c .queues) ≤ r₁ → 8 ≤ r₂ → 8 + partsSize (setupOf c .queues) ≤ r₃
-    → RestoredSame c m i d k j l r₁ r₂ r₃
-
--- ---- DEMAND 3: isolation ----
-
--- two cards with the same bytes before and after member m's record
-pub record DifferAtMost (m : ℕ) (c d : List ℕ) : Type 0 where
-  pub before : take (recordAt m) c ≡ take (recordAt m) d
-  pub after : drop (recordAt m + recordSize) c ≡ drop (recordAt m + recordSize) d
+-- two cards that differ in member m's record at most
+abbrev pub DifferAtMost : ℕ → List ℕ → List ℕ → Type 0
+DifferAtMost m c d = SameOutside (recordAt m) recordSize c d
 
 -- Two sound cards differ in member m's record at most. Two sequences of calls, p₁ then r then t on the one and p₂ then r
 -- then t on the other: r resets m, t is any, and p₁ and p₂ are the same once every call that names m is struck out of
 -- both. Then the replies, one by one, to all calls before r that do not name m are the same on both cards, and so are
--- the reply to r and to every call after it, and the whole card after r and after each later call.
+-- the reply to r and to every call after it, and the whole card after r and after each later call. Example:
+-- ../proofs/IsolationExample.antt
 abbrev pub Isolation : Type 0
 Isolation =
     (c₁ c₂ : List ℕ) → isSound c₁ ≡ true → isSound c₂ ≡ true
@@ -99,3 +88,53 @@ Isolation =
     → (p₁ p₂ : List Call) → visible (names m) p₁ ≡ visible (names m) p₂
     → (r : Call) → Resets m r → (t : List Call)
     → seen (names m) (length p₁) (trace step c₁ (p₁ ++ r ∷ t)) ≡ seen (names m) (length p₂) (trace step c₂ (p₂ ++ r ∷ t))
+
+-- Integrity, beside isolation, on any card: what a call leaves alone. Examples: names-member, uses-list, sets-parts
+pub record Integrity : Type 0 where
+  -- one that names m, and a reset of m, changes m's record at most: the setup, the list in use and every other record stay
+  pub named : (c : List ℕ) (m : ℕ) (x : Call) → names m x ≡ true → DifferAtMost m (step c x .0) c
+  pub reset : (c : List ℕ) (m : ℕ) → DifferAtMost m (step c (memberReset m) .0) c
+  -- list use changes the list in use alone
+  pub listUse : (c r : List ℕ) (room : ℕ) → opcodeOf r ≡ 0x01 → SameOutside inUseAt 8 (step c (command r room) .0) c
+  -- parts set keeps the member's mode and objects
+  pub partsSet : (c r : List ℕ) (room : ℕ) → opcodeOf r ≡ 0x10
+      → (memberIn (step c (command r room) .0) (targetOf r) .mode ≡ memberIn c (targetOf r) .mode)
+      × (memberIn (step c (command r room) .0) (targetOf r) .objects ≡ memberIn c (targetOf r) .objects)
+
+-- ---- REQUEST 12 of document 02: calls for different members, in any order ----
+
+-- In any sequence of calls on any card, p, then x and y, then t, where x and y name different members: x and y can change places.
+-- Each keeps its own reply, all other replies are the same one by one, and so is the card at the end, byte for byte. Replies
+-- of any length, refused calls included. Example: ../proofs/CommutationExample.antt
+abbrev pub Commutation : Type 0
+Commutation =
+    (c : List ℕ) (m k : ℕ) → m ≢ k → (x y : Call) → names m x ≡ true → names k y ≡ true
+    → (p t : List Call) → Swappable step c p x y t
+
+-- the request's words are of commands: q in a buffer of i bytes, and r in one of j
+abbrev pub CommandsCommute : Type 0
+CommandsCommute =
+    (c : List ℕ) (m k : ℕ) → m ≢ k → (q : List ℕ) (i : ℕ) (r : List ℕ) (j : ℕ)
+    → names m (command q i) ≡ true → names k (command r j) ≡ true
+    → (p t : List Call) → Swappable step c p (command q i) (command r j) t
+
+-- ---- all of them ----
+
+pub record Claims : Type 1 where
+  pub staysSound : StaysSound
+  -- demand 1
+  pub notWritten : NotWritten
+  pub delivered : Delivered
+  pub refusals : RefusalsChangeNothing
+  pub setsUp : SetsUp
+  -- demand 2
+  pub statuses : Statuses
+  pub examples : ExamplesHold
+  pub wrongPrograms : WrongProgramsRejected
+  pub roundTrip : RoundTrip
+  -- demand 3
+  pub isolation : Isolation
+  pub integrity : Integrity
+  -- request 12
+  pub commutation : Commutation
+  pub commandsCommute : CommandsCommute

@@ -1,10 +1,10 @@
--- THE WORKED EXAMPLES of document 01, "Shown on the bench", in its order, as one table. Each row has the calls that lead to
--- it, the calls that it is about, and their replies. Assumes nothing.
+-- THE WORKED EXAMPLES of document 01, "Shown on the bench", in its order, as one table. Each has the calls that lead to it,
+-- the calls that it is about, and their replies. Assumes nothing.
 use mathlib.Core.Path.{_≡_}
 use mathlib.Core.List.{List, [], _∷_, _++_, map}
 use Prim.Native.Nat.{ℕ}
 use lib.ListN.{length, drop, replicate}
-use Rattle.theory.specs.Machine.{Event, trace}
+use Rattle.theory.specs.Machine.{replies}
 use Rattle.wire.specs.Le.{bytes}
 use Rattle.card.specs.Layout.{cardSize}
 use Rattle.events.specs.Events.{setUp}
@@ -115,55 +115,55 @@ driverPart b = headerBytes (header 0x101 0 0 16) ++ replicate 16 b
 
 -- ---- the table ----
 
-pub record Row : Type 0 where
+pub record Example : Type 0 where
   pub before : List Call
   pub calls : List Call
-  pub replies : List Reply
+  pub expected : List Reply
 
-abbrev pub row : List Call → List Call → List Reply → Row
-row before calls replies = record { before = before; calls = calls; replies = replies }
+abbrev pub example : List Call → List Call → List Reply → Example
+example before calls expected = record { before = before; calls = calls; expected = expected }
 
-unfoldable pub rows : List Row
-rows =
+unfoldable pub workedExamples : List Example
+workedExamples =
     -- B1 fresh, list query, group 1: 03 FC 03 00 00 00 00 00 after the head
-    row [] (send (request 0x00 1 0 []) ∷ []) (gives (0x03 ∷ 0xfc ∷ 0x03 ∷ 0 ∷ 0 ∷ 0 ∷ 0 ∷ 0 ∷ []) ∷ [])
+    example [] (send (request 0x00 1 0 []) ∷ []) (gives (0x03 ∷ 0xfc ∷ 0x03 ∷ 0 ∷ 0 ∷ 0 ∷ 0 ∷ 0 ∷ []) ∷ [])
     -- B2 fresh, group 1, opcode 0x0a: 16 00 02 00 00 00 00 00
-    ∷ row [] (send (request 0x0a 1 0 []) ∷ []) (written (0x16 ∷ 0 ∷ 2 ∷ 0 ∷ 0 ∷ 0 ∷ 0 ∷ 0 ∷ []) ∷ [])
+    ∷ example [] (send (request 0x0a 1 0 []) ∷ []) (written (0x16 ∷ 0 ∷ 2 ∷ 0 ∷ 0 ∷ 0 ∷ 0 ∷ 0 ∷ []) ∷ [])
     -- B3 group 2 and opcode 0xffff: 22/4
-    ∷ row [] (send (request 0xffff 2 0 []) ∷ []) (refuses 22 4 ∷ [])
+    ∷ example [] (send (request 0xffff 2 0 []) ∷ []) (refuses 22 4 ∷ [])
     -- B4 all used, mode set: members 0 and 3 give 22/5, member 2 succeeds
-    ∷ row allUsed (setMode 0 1 ∷ setMode 3 1 ∷ setMode 2 1 ∷ []) (refuses 22 5 ∷ refuses 22 5 ∷ succeeds ∷ [])
+    ∷ example allUsed (setMode 0 1 ∷ setMode 3 1 ∷ setMode 2 1 ∷ []) (refuses 22 5 ∷ refuses 22 5 ∷ succeeds ∷ [])
     -- B5 create get object 0; again: 17/1
-    ∷ row allUsed (create 0 0 ∷ create 0 0 ∷ []) (succeeds ∷ refuses 17 1 ∷ [])
+    ∷ example allUsed (create 0 0 ∷ create 0 0 ∷ []) (succeeds ∷ refuses 17 1 ∷ [])
     -- B6 then create get object 1: 28/1; id 2: 22/3; set object 1 succeeds
-    ∷ row (useList 0x3fc03 ∷ create 0 0 ∷ []) (create 1 0 ∷ create 2 0 ∷ create 1 1 ∷ [])
+    ∷ example (useList 0x3fc03 ∷ create 0 0 ∷ []) (create 1 0 ∷ create 2 0 ∷ create 1 1 ∷ [])
     (refuses 28 1 ∷ refuses 22 3 ∷ succeeds ∷ [])
     -- B7 destroy 0, create get 0: succeeds
-    ∷ row objectsLive (destroy 0 ∷ create 0 0 ∷ []) (succeeds ∷ succeeds ∷ [])
+    ∷ example objectsLive (destroy 0 ∷ create 0 0 ∷ []) (succeeds ∷ succeeds ∷ [])
     -- B8 parts set, member running: 11/7
-    ∷ row objectsLive (send (setParts 1 1 (driverPart 7)) ∷ []) (refuses 11 7 ∷ [])
+    ∷ example objectsLive (send (setParts 1 1 (driverPart 7)) ∷ []) (refuses 11 7 ∷ [])
     -- B9 count 9, size 229
-    ∷ row objectsLive (metadata 0 1 ∷ metadata 0 0 ∷ []) (gives (aNumber 9) ∷ gives (aNumber 229) ∷ [])
+    ∷ example objectsLive (metadata 0 1 ∷ metadata 0 0 ∷ []) (gives (aNumber 9) ∷ gives (aNumber 229) ∷ [])
     -- B10 selected: queue notify, then device status. The status comes first
-    ∷ row objectsLive
+    ∷ example objectsLive
     (cardStore 1 0x103 0 (5 ∷ []) ∷ cardStore 1 0x105 0 (1 ∷ 2 ∷ 3 ∷ 4 ∷ 5 ∷ 6 ∷ 7 ∷ 8 ∷ [])
     ∷ getSelected 0 (headerBytes (header 0x105 0 0 0) ++ headerBytes (header 0x103 0 0 0)) ∷ [])
     (answered 0 ∷ answered 0 ∷ gives (statusPart ++ notifyPart) ∷ [])
     -- B11 member stopped, driver features twice in a set: 22/3, parts unchanged
-    ∷ row objectsLive
+    ∷ example objectsLive
     (setMode 1 1 ∷ send (getAll 1 0) ∷ send (setParts 1 1 (driverPart 7 ++ driverPart 7)) ∷ send (getAll 1 0) ∷ [])
     (succeeds ∷ gives nineParts ∷ refuses 22 3 ∷ gives nineParts ∷ [])
     -- B12 get-all: a buffer of 236 gives 12/6, of 237 succeeds
-    ∷ row objectsLive (command (getAll 1 0) 236 ∷ command (getAll 1 0) 237 ∷ []) (refuses 12 6 ∷ gives nineParts ∷ [])
+    ∷ example objectsLive (command (getAll 1 0) 236 ∷ command (getAll 1 0) 237 ∷ []) (refuses 12 6 ∷ gives nineParts ∷ [])
     -- the metadata list
-    ∷ row objectsLive (metadata 0 2 ∷ []) (gives (aNumber 9 ++ nineHeaders) ∷ [])
+    ∷ example objectsLive (metadata 0 2 ∷ []) (gives (aNumber 9 ++ nineHeaders) ∷ [])
     ∷ []
 
--- what the card replies to the calls of a row
-unfoldable pub repliesTo : Row → List Reply
-repliesTo r =
-    map (λ (e : Event (List ℕ) Call Reply). e .reply)
-    (drop (length (r .before)) (trace step exampleCard (r .before ++ r .calls)))
+-- ---- the claim ----
+
+-- what a machine replies to the calls of an example
+unfoldable pub repliesTo : {State : Type 0} → (State → Call → State × Reply) → State → Example → List Reply
+repliesTo machine s e = drop (length (e .before)) (replies machine s (e .before ++ e .calls))
 
 -- bytes written in the last reply
 abbrev pub sizeOf : Reply → ℕ
@@ -175,7 +175,7 @@ lastSize n [] = n
 lastSize n (r ∷ rs) = lastSize (sizeOf r) rs
 
 -- the whole table, and the bytes written: B1 16 .. B10 49, B11 and B12 237, the list 160
-pub record Examples : Type 0 where
-  pub table : map repliesTo rows ≡ map (λ (r : Row). r .replies) rows
-  pub sizes : map (λ (r : Row). lastSize 0 (repliesTo r)) rows
+pub record ExamplesHold : Type 0 where
+  pub replies : map (repliesTo step exampleCard) workedExamples ≡ map (λ (e : Example). e .expected) workedExamples
+  pub sizes : map (λ (e : Example). lastSize 0 (repliesTo step exampleCard e)) workedExamples
       ≡ 16 ∷ 8 ∷ 8 ∷ 8 ∷ 8 ∷ 8 ∷ 8 ∷ 8 ∷ 16 ∷ 49 ∷ 237 ∷ 237 ∷ 160 ∷ []

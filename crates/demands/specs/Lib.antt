@@ -1,4 +1,7 @@
 pub mod Calls
 pub mod Requests
-pub mod Claims
+pub mod Statuses
 pub mod Examples
+pub mod WrongPrograms
+pub mod RoundTrip
+pub mod Claims

@@ -1,90 +1,98 @@
--- The unwinding theorem's hypotheses can be met: a machine with two cells, guarded, and two runs of it that do differ.
--- Assumes nothing.
+-- The hypotheses of the unwinding theorem and of commutation can be met: a machine with two cells and a lock, and runs of it
+-- that do differ. Assumes nothing.
 use mathlib.Core.Path.{_≡_, refl, ap}
 use mathlib.Core.Bool.{Bool, true, false}
 use mathlib.Core.List.{List, [], _∷_, _++_}
 use Prim.Native.Nat.{ℕ, _≤_}
 use native.Mathlib.Omega.{arith}
-use lib.Dec.{leb}
+use lib.Dec.{eqb}
 use lib.ListN.{length}
-use borrow.Author.Tests.{leb-true, le-leb}
 use Rattle.theory.specs.Logic.{if_then_else_}
-use Rattle.theory.specs.Machine.{replied, exposed, guarded, trace, seen, visible}
+use Rattle.theory.specs.Machine.{replied, exposed, trace, run, seen, visible, Swappable}
 use Rattle.theory.proofs.Tests.{if-cases, by-cases}
-use Rattle.theory.proofs.Unwinding.{Masking, isolated-by-mask, guarded-masking}
+use Rattle.theory.proofs.Unwinding.{Masking, isolated-by-mask}
+use Rattle.theory.proofs.Commuting.{swappable, commute-by-masks}
 
 record Cells : Type 0 where
   left : ℕ
   right : ℕ
+  locked : ℕ
 
--- a store names the cell that it changes; the right cell holds at most 9; a reset clears the left cell
+abbrev cells : ℕ → ℕ → ℕ → Cells
+cells l r k = record { left = l; right = r; locked = k }
+
 data Call : Type 0 where
   storeLeft : ℕ → Call
   storeRight : ℕ → Call
+  lock : Call
   resetLeft : Call
 
--- the reply to a store in the right cell is what it held; the other replies are 0
-move : Cells → Call → Cells × ℕ
-move s (storeLeft n) = (record { left = n; right = s .right }, 0)
-move s (storeRight n) = if leb n 9 then (record { left = s .left; right = n }, s .right) else (s, 10)
-move s resetLeft = (record { left = 0; right = s .right }, 0)
-
-fits : Cells → Bool
-fits s = leb (s .right) 9
-
+-- a store replies what the cell held; a reset clears the left cell and replies 0, or is refused with 1 where the lock is set
 step : Cells → Call → Cells × ℕ
-step = guarded fits (λ c. 11) move
+step s (storeLeft n) = (cells n (s .right) (s .locked), s .left)
+step s (storeRight n) = (cells (s .left) n (s .locked), s .right)
+step s lock = (cells (s .left) (s .right) 1, 0)
+step s resetLeft = if eqb (s .locked) 0 then (cells 0 (s .right) (s .locked), 0) else (s, 1)
 
--- calls that name the left cell are hidden
+Good : Cells → Type 0
+Good s = s .locked ≤ 1
+
+stays : (s : Cells) (c : Call) → Good s → Good (step s c .0)
+unfolding step Good
+stays s (storeLeft n) g = g
+stays s (storeRight n) g = g
+stays s lock g = omega arith
+stays s resetLeft g = if-cases (λ (y : Cells × ℕ). y .0 .locked ≤ 1) _ _ _ (λ e. g) (λ e. g)
+
+-- ---- the left cell hidden ----
+
 namesLeft : Call → Bool
 namesLeft (storeLeft n) = true
 namesLeft (storeRight n) = false
+namesLeft lock = false
 namesLeft resetLeft = false
 
-data Resets : Call → Type 0 where
-  reset : Resets resetLeft
+-- a reset that is not refused
+data Wipes : Call → ℕ → Type 0 where
+  reset : Wipes resetLeft 0
 
-Good : Cells → Type 0
-Good s = s .right ≤ 9
+clearLeft : Cells → Cells
+clearLeft s = cells 0 (s .right) (s .locked)
 
-clear : Cells → Cells
-clear s = record { left = 0; right = s .right }
+hides-left : (s : Cells) (c : Call) → namesLeft c ≡ true → clearLeft (step s c .0) ≡ clearLeft s
+unfolding step namesLeft clearLeft
+hides-left s (storeLeft n) h = refl
+hides-left s (storeRight n) h = cc
+hides-left s lock h = cc
+hides-left s resetLeft h = cc
 
--- ---- the four laws ----
+answers-left : (s : Cells) (c : Call) → namesLeft c ≡ false
+    → (step (clearLeft s) c .1 ≡ step s c .1) × (clearLeft (step (clearLeft s) c .0) ≡ clearLeft (step s c .0))
+unfolding step namesLeft clearLeft if_then_else_
+answers-left s (storeLeft n) h = (cc, refl)
+answers-left s (storeRight n) h = (refl, refl)
+answers-left s lock h = (refl, refl)
+answers-left s resetLeft h = by-cases (eqb (s .locked) 0) (λ e. rw e (refl, refl)) (λ e. rw e (refl, refl))
 
-move-stays : (s : Cells) (c : Call) → Good s → Good (move s c .0)
-unfolding move Good
-move-stays s (storeLeft n) g = g
-move-stays s (storeRight n) g = if-cases (λ (y : Cells × ℕ). Good (y .0)) (leb n 9) _ _ (λ e. leb-true n 9 e) (λ e. g)
-move-stays s resetLeft g = g
+shown : (c : Call) (x : ℕ) → Wipes c x → namesLeft c ≡ false
+unfolding namesLeft
+shown _ _ reset = refl
 
-move-hides : (s : Cells) (c : Call) → Good s → namesLeft c ≡ true → clear (move s c .0) ≡ clear s
-unfolding move namesLeft clear
-move-hides s (storeLeft n) g h = refl
-move-hides s (storeRight n) g h = cc
-move-hides s resetLeft g h = refl
+wiped : (s : Cells) (c : Call) (x : ℕ) → Wipes c x → x ≡ step s c .1 → step (clearLeft s) c ≡ step s c
+unfolding step clearLeft if_then_else_
+wiped s _ _ reset e =
+    by-cases (eqb (s .locked) 0) (λ q. rw q) (λ q. let z : _≡_ {A = ℕ} 0 1 = rw q at e in absurd (omega arith))
 
-move-answers : (s : Cells) (c : Call) → Good s → namesLeft c ≡ false
-    → (move (clear s) c .1 ≡ move s c .1) × (clear (move (clear s) c .0) ≡ clear (move s c .0))
-unfolding move clear if_then_else_
-move-answers s (storeLeft n) g h = (refl, refl)
-move-answers s (storeRight n) g h = by-cases (leb n 9) (λ e. rw e (refl, refl)) (λ e. rw e (refl, refl))
-move-answers s resetLeft g h = (refl, refl)
+left-masking : Masking step namesLeft Wipes Good clearLeft
+left-masking = record {
+  stays = stays;
+  hides = λ s c g. hides-left s c;
+  answers = λ s c g. answers-left s c;
+  shown = shown;
+  wiped = λ s c g w. wiped s c _ w refl;
+}
 
-move-wiped : (s : Cells) (c : Call) → Good s → Resets c → move (clear s) c ≡ move s c
-unfolding move clear
-move-wiped s _ g reset = refl
-
-masking : Masking step namesLeft Resets Good clear
-unfolding step fits Good clear
-masking =
-    guarded-masking (λ c. 11) (λ s g. le-leb (s .right) 9 g) (λ s g. g)
-    (record { stays = move-stays; hides = move-hides; answers = move-answers; wiped = move-wiped })
-
--- ---- two runs ----
-
-cells : ℕ → ℕ → Cells
-cells l r = record { left = l; right = r }
+-- ---- two runs, and what is seen of them ----
 
 runA : List Call
 runA = storeLeft 5 ∷ storeRight 7 ∷ []
@@ -92,25 +100,71 @@ runA = storeLeft 5 ∷ storeRight 7 ∷ []
 runB : List Call
 runB = storeRight 7 ∷ storeLeft 6 ∷ storeLeft 8 ∷ []
 
--- the state at the end of a run
-end : Cells → List Call → Cells
-end s [] = s
-end s (c ∷ cs) = end (step s c .0) cs
-
 -- the runs leave other states: the calls that name the left cell do change it
-ends-differ : end (cells 1 2) runA ≡ end (cells 4 2) runB → ⊥
-unfolding end step guarded if_then_else_ fits move cells runA runB
+ends-differ : run step (cells 1 2 0) runA ≡ run step (cells 4 2 0) runB → ⊥
+unfolding run step runA runB
 ends-differ e = let z : _≡_ {A = ℕ} 5 8 = ap (λ s. s .left) e in omega arith
 
 -- with a reset after each, and whatever calls after that, the observer sees the same
 sees-the-same : (t : List Call)
-    → seen namesLeft (length runA) (trace step (cells 1 2) (runA ++ resetLeft ∷ t))
-    ≡ seen namesLeft (length runB) (trace step (cells 4 2) (runB ++ resetLeft ∷ t))
-unfolding Good clear cells visible if_then_else_ namesLeft runA runB
-sees-the-same = isolated-by-mask masking (cells 1 2) (cells 4 2) (omega arith) (omega arith) refl runA runB refl resetLeft reset
+    → seen namesLeft (length runA) (trace step (cells 1 2 0) (runA ++ resetLeft ∷ t))
+    ≡ seen namesLeft (length runB) (trace step (cells 4 2 0) (runB ++ resetLeft ∷ t))
+unfolding Good clearLeft visible run step if_then_else_ namesLeft runA runB
+sees-the-same =
+    isolated-by-mask left-masking (cells 1 2 0) (cells 4 2 0) (omega arith) (omega arith) refl runA runB refl resetLeft reset
 
 -- and it does see: the visible reply, and after the reset everything
-sees-something : seen namesLeft (length runA) (trace step (cells 1 2) (runA ++ resetLeft ∷ []))
-    ≡ replied (storeRight 7) 2 ∷ exposed resetLeft 0 (cells 0 7) ∷ []
-unfolding seen trace step guarded if_then_else_ fits move cells namesLeft runA
+sees-something : seen namesLeft (length runA) (trace step (cells 1 2 0) (runA ++ resetLeft ∷ []))
+    ≡ replied (storeRight 7) 2 ∷ exposed resetLeft 0 (cells 0 7 0) ∷ []
+unfolding seen trace step if_then_else_ namesLeft runA
 sees-something = refl
+
+-- ---- the right cell hidden, and two calls that change places ----
+
+namesRight : Call → Bool
+namesRight (storeLeft n) = false
+namesRight (storeRight n) = true
+namesRight lock = false
+namesRight resetLeft = false
+
+clearRight : Cells → Cells
+clearRight s = cells (s .left) 0 (s .locked)
+
+hides-right : (s : Cells) (c : Call) → namesRight c ≡ true → clearRight (step s c .0) ≡ clearRight s
+unfolding step namesRight clearRight
+hides-right s (storeLeft n) h = cc
+hides-right s (storeRight n) h = refl
+hides-right s lock h = cc
+hides-right s resetLeft h = cc
+
+answers-right : (s : Cells) (c : Call) → namesRight c ≡ false
+    → (step (clearRight s) c .1 ≡ step s c .1) × (clearRight (step (clearRight s) c .0) ≡ clearRight (step s c .0))
+unfolding step namesRight clearRight if_then_else_
+answers-right s (storeLeft n) h = (refl, refl)
+answers-right s (storeRight n) h = (cc, refl)
+answers-right s lock h = (refl, refl)
+answers-right s resetLeft h = by-cases (eqb (s .locked) 0) (λ e. rw e (refl, refl)) (λ e. rw e (refl, refl))
+
+-- no call clears the right cell
+right-masking : Masking step namesRight (λ c x. ⊥) Good clearRight
+right-masking = record {
+  stays = stays;
+  hides = λ s c g. hides-right s c;
+  answers = λ s c g. answers-right s c;
+  shown = λ c x w. absurd w;
+  wiped = λ s c g w. absurd w;
+}
+
+determined : (a b : Cells) → clearLeft a ≡ clearLeft b → clearRight a ≡ clearRight b → a ≡ b
+unfolding clearLeft clearRight
+determined a b e f =
+    let l : a .left ≡ b .left = ap (λ s. s .left) f in
+    let r : a .right ≡ b .right = ap (λ s. s .right) e in
+    let k : a .locked ≡ b .locked = ap (λ s. s .locked) e in
+    rw (l, r, k) (refl {a = cells (b .left) (b .right) (b .locked)})
+
+change-places : (l r : ℕ) (s : Cells) → Good s → (p t : List Call) → Swappable step s p (storeLeft l) (storeRight r) t
+unfolding namesLeft namesRight
+change-places l r s g p t =
+    swappable stays (storeLeft l) (storeRight r)
+    (λ u h. commute-by-masks left-masking right-masking (λ a b x y. determined a b) u _ _ h refl refl refl refl) t p s g

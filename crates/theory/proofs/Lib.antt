@@ -7,4 +7,5 @@ pub mod Items
 pub mod Sums
 pub mod Table
 pub mod Unwinding
+pub mod Commuting
 pub mod Example

@@ -1,0 +1,29 @@
+-- Every claim of specs/Claims.antt is proved. Assumes nothing.
+use Rattle.demands.specs.Claims.{Claims}
+use Rattle.demands.proofs.Sound.{stays-sound}
+use Rattle.demands.proofs.Demand1.{not-written, delivers, sets-up}
+use Rattle.demands.proofs.Refusals.{refusals-change-nothing}
+use Rattle.demands.proofs.Statuses.{statuses}
+use Rattle.demands.proofs.Examples.{examples-hold}
+use Rattle.demands.proofs.WrongPrograms.{wrong-programs-rejected}
+use Rattle.demands.proofs.RoundTrip.{round-trip}
+use Rattle.demands.proofs.Isolation.{isolation}
+use Rattle.demands.proofs.Integrity.{integrity}
+use Rattle.demands.proofs.Commutation.{commutation, commands-commute}
+
+pub claims : Claims
+claims = record {
+  staysSound = stays-sound;
+  notWritten = not-written;
+  delivered = delivers;
+  refusals = refusals-change-nothing;
+  setsUp = sets-up;
+  statuses = statuses;
+  examples = examples-hold;
+  wrongPrograms = wrong-programs-rejected;
+  roundTrip = round-trip;
+  isolation = isolation;
+  integrity = integrity;
+  commutation = commutation;
+  commandsCommute = commands-commute;
+}

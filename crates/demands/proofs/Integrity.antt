@@ -1,0 +1,145 @@
+-- What a call leaves alone: the bytes outside a member's record, outside the list in use, and a member's mode and objects.
+-- Assumes nothing.
+use mathlib.Core.Path.{_≡_, refl}
+use mathlib.Core.List.{List}
+use Prim.Native.Nat.{ℕ, _+_, _≤_, _<_}
+use native.Mathlib.Omega.{arith}
+use lib.ListN.{length}
+use Rattle.theory.specs.Logic.{if_then_else_}
+use Rattle.theory.specs.Bytes.{put}
+use Rattle.theory.proofs.Tests.{unless-cases, inside}
+use Rattle.theory.proofs.Bytes.{take-before, drop-after, length-bytesAt-le}
+use Rattle.wire.specs.Le.{bytes}
+use Rattle.protocol.specs.declared.Answer.{Answer}
+use Rattle.protocol.specs.declared.EventAnswer.{EventAnswer}
+use Rattle.protocol.specs.declared.ObjectKind.{ObjectKind}
+use Rattle.protocol.specs.declared.ChangeOp.the-variants.{SetParts}
+use Rattle.objects.specs.declared.Found.{Found}
+use Rattle.objects.specs.declared.Found.the-variants.{Live, Nothing}
+use Rattle.objects.specs.Objects.{onFound}
+use Rattle.member.specs.declared.Member.{Member}
+use Rattle.member.specs.Record.{recordSize, recordOf}
+use Rattle.member.specs.Objects.{lookupOf}
+use Rattle.changes.specs.declared.Changed.{Changed}
+use Rattle.changes.specs.Changes.{refuse, setPartsOf, changeOf}
+use Rattle.changes.proofs.Kept.{change-sound}
+use Rattle.card.specs.Layout.{inUseAt, setupOf, recordAt, withInUse, withRecord, memberIn, withMember}
+use Rattle.card.proofs.LayoutLaws.{member-same}
+use Rattle.card.proofs.SoundLaws.{Sound, sound-of, sound-has, sound-member-in}
+use Rattle.events.specs.Events.{resetMember}
+use Rattle.frame.specs.declared.Ask.{Ask}
+use Rattle.frame.specs.declared.Ask.the-variants.{Refused, Change}
+use Rattle.frame.specs.Frame.{opcodeOf, targetOf, dataOf}
+use Rattle.frame.specs.Fields.{setIn, useIn, fieldsOf}
+use Rattle.frame.specs.Ask.{framedOf, askOf}
+use Rattle.frame.proofs.Asked.{Named, Facts}
+use Rattle.admin.specs.Command.{askIn, givenList, perform, respond}
+use Rattle.demands.specs.Calls.{step}
+use Rattle.demands.specs.Claims.{SameOutside, DifferAtMost, Integrity}
+use Rattle.demands.proofs.Respond.{card-cases}
+use Rattle.demands.proofs.Named.{Leaves, unchanged, changed, asked-of, named-leaves}
+
+same : (at size : ℕ) (c : List ℕ) → SameOutside at size c c
+same at size c = record { before = refl; after = refl }
+
+-- what is put at a place, and no longer than that, is outside of nothing else
+put-outside : (at size : ℕ) (x c : List ℕ) → length x ≤ size → SameOutside at size (put at x c) c
+put-outside at size x c h =
+    record { before = take-before at at x c (omega arith); after = drop-after (at + size) at x c (omega arith) }
+
+member-outside : (m : ℕ) (c : List ℕ) (x : Member) → DifferAtMost m (withMember c m x) c
+unfolding withMember withRecord
+member-outside m c x = put-outside (recordAt m) recordSize _ c (length-bytesAt-le 0 recordSize (recordOf x))
+
+leaves-outside : (m : ℕ) (c d : List ℕ) → Leaves m c d → DifferAtMost m d c
+leaves-outside m c _ unchanged = same _ _ c
+leaves-outside m c _ (changed h x) = member-outside m c x
+
+reset-outside : (c : List ℕ) (m : ℕ) → DifferAtMost m (resetMember c m .1) c
+unfolding resetMember
+reset-outside c m =
+    unless-cases (λ (y : EventAnswer × List ℕ). DifferAtMost m (y .1) c) _ _ _ (λ t. same _ _ c) λ t.
+    unless-cases (λ (y : EventAnswer × List ℕ). DifferAtMost m (y .1) c) _ _ _ (λ t. same _ _ c) λ t.
+    member-outside m c _
+
+-- ---- a command, by its opcode ----
+
+-- what holds of a refusal and of what the fields at the opcode ask, holds of what the request asks
+ask-at : (c r : List ℕ) (op : ℕ) → opcodeOf r ≡ op → (P : Ask → Type 0) → ((a : Answer) → P (Refused a))
+    → P (fieldsOf (setupOf c .gets + setupOf c .sets) (targetOf r) op (dataOf r)) → P (askIn c r)
+unfolding askIn askOf framedOf
+ask-at c r op e P f g =
+    rw e
+    (unless-cases P _ _ _ (λ t. f _) λ t.
+    unless-cases P _ _ _ (λ t. f _) λ t.
+    unless-cases P _ _ _ (λ t. f _) λ t.
+    unless-cases P _ _ _ (λ t. f _) λ t.
+    unless-cases P _ _ _ (λ t. f _) λ t. g)
+
+-- list use
+use-outside : (c r : List ℕ) (room : ℕ) → opcodeOf r ≡ 0x01 → SameOutside inUseAt 8 (respond c r room .0) c
+unfolding perform withInUse fieldsOf useIn if_then_else_ bytes
+use-outside c r room e =
+    let P : Ask → Type 0 = λ a. SameOutside inUseAt 8 (perform c r a .card) c in
+    card-cases c r room (λ d. SameOutside inUseAt 8 d c) (same _ _ c)
+    (λ s. ask-at c r 0x01 e P (λ a. same _ _ c)
+    (unless-cases P _ _ _ (λ t. same _ _ c) (λ t. put-outside inUseAt 8 _ c (omega arith))))
+
+-- parts set: the member with other values at most
+Kept : Member → Member → Type 0
+Kept m x = (x .mode ≡ m .mode) × (x .objects ≡ m .objects)
+
+found-kept : (m : Member) (x : Found) (f : ObjectKind → Changed) (a : Answer) → ((k : ObjectKind) → Kept m (f k .member))
+    → Kept m (onFound x f (refuse m a) .member)
+unfolding Kept
+found-kept m Nothing f a h = (refl, refl)
+found-kept m (Live k) f a h = h k
+
+set-kept : (queues gets sets id : ℕ) (list : List ℕ) (m : Member) → Kept m (changeOf queues gets sets list (SetParts id) m .member)
+unfolding setPartsOf Kept
+set-kept queues gets sets id list m = found-kept m (lookupOf m id) _ _ λ k.
+    unless-cases (λ (y : Changed). Kept m (y .member)) _ _ _ (λ t. (refl, refl)) λ t.
+    unless-cases (λ (y : Changed). Kept m (y .member)) _ _ _ (λ t. (refl, refl)) λ t.
+    unless-cases (λ (y : Changed). Kept m (y .member)) _ _ _ (λ t. (refl, refl)) λ t. (refl, refl)
+
+-- in the card
+module _ (c : List ℕ) (s : Sound c) (r : List ℕ) where
+  abbrev m : ℕ
+  m = targetOf r
+
+  abbrev StaysAs : List ℕ → Type 0
+  StaysAs d = Kept (memberIn c m) (memberIn d m)
+
+  put-kept : (id : ℕ) → Named (setupOf c .members) r m → id < setupOf c .gets + setupOf c .sets
+      → StaysAs (perform c r (Change m (SetParts id)) .card)
+  unfolding perform
+  put-kept id n b =
+      let h = inside 1 _ m (n .low) (n .high) in
+      let x = sound-member-in c s m h in
+      let y = change-sound (setupOf c .queues) _ _ (givenList r) (SetParts id) (memberIn c m) _ b x in
+      rw (member-same c m _ (sound-has c s m h) (y .shaped)) (set-kept (setupOf c .queues) (setupOf c .gets) (setupOf c .sets) id (givenList r) (memberIn c m))
+
+  asked-kept : opcodeOf r ≡ 0x10 → Facts (setupOf c .members) (setupOf c .gets + setupOf c .sets) r (askIn c r)
+      → StaysAs (perform c r (askIn c r) .card)
+  unfolding fieldsOf setIn perform if_then_else_ Kept
+  asked-kept e =
+      let P : Ask → Type 0 = λ a. Facts (setupOf c .members) (setupOf c .gets + setupOf c .sets) r a → StaysAs (perform c r a .card) in
+      ask-at c r 0x10 e P (λ a f. (refl, refl))
+      (unless-cases P _ _ _ (λ t f. (refl, refl)) (λ t f. put-kept _ (f .0) (f .1)))
+
+set-keeps : (c r : List ℕ) (room : ℕ) → opcodeOf r ≡ 0x10 → Kept (memberIn c (targetOf r)) (memberIn (respond c r room .0) (targetOf r))
+unfolding Kept
+set-keeps c r room e =
+    card-cases c r room (λ d. Kept (memberIn c (targetOf r)) (memberIn d (targetOf r))) (refl, refl)
+    (λ s. asked-kept c (sound-of c s) r e (asked-of c r))
+
+-- ---- the claim ----
+
+pub integrity : Integrity
+unfolding step Kept
+integrity = record {
+  named = λ c m x n. leaves-outside m c _ (named-leaves m c x n);
+  reset = reset-outside;
+  listUse = λ c r room. use-outside c r _;
+  partsSet = λ c r room. set-keeps c r _;
+}

@@ -1,0 +1,49 @@
+-- Each row of the status table is the first that applies to some command, and so is success. Assumes nothing.
+use mathlib.Core.Path.{_≡_, refl}
+use mathlib.Core.List.{List, [], _∷_, _++_, map}
+use Prim.Native.Nat.{ℕ, suc}
+use Rattle.theory.specs.Logic.{if_then_else_}
+use Rattle.theory.specs.Machine.{run}
+use Rattle.demands.specs.Calls.{Call, command, memberReset, cardReset, cardStore, step}
+use Rattle.demands.specs.Requests.{request, getAll, setParts}
+use Rattle.demands.specs.Examples.{exampleCard, send, useList, setMode, create, destroy, metadata, allUsed, objectsLive}
+use Rattle.demands.specs.Statuses.{Row, rows}
+use Rattle.demands.proofs.Model.{model}
+
+-- the place of the first row that applies
+place : List Row → ℕ
+place [] = 0
+place (x ∷ xs) = if x .applies then 0 else suc (place xs)
+
+placeFor : List ℕ → Call → ℕ
+placeFor c (command r room) = place (rows c r room)
+placeFor c (memberReset m) = 0
+placeFor c cardReset = 0
+placeFor c (cardStore m t s value) = 0
+
+-- calls that lead to a command, and the command
+abbrev Case : Type 0
+Case = List Call × Call
+
+cases : List Case
+cases =
+    ([], send [])  -- 2: no request
+    ∷ ([], send (request 0xffff 2 0 []))  -- 3
+    ∷ ([], send (request 0x0a 1 0 []))  -- 4: not in use
+    ∷ (allUsed, setMode 3 1)  -- 5: of two members
+    ∷ (allUsed, send (request 0x11 1 1 []))  -- 6: no mode
+    ∷ (allUsed, setMode 1 2)  -- 7: a mode bit
+    ∷ (objectsLive, create 0 0)  -- 8: a live id
+    ∷ (allUsed, destroy 0)  -- no live id
+    ∷ (useList 0x3fc03 ∷ create 0 0 ∷ [], create 1 0)  -- two get objects of one
+    ∷ (objectsLive, metadata 1 0)  -- through a set object
+    ∷ (objectsLive, send (setParts 1 1 []))  -- 9: running
+    ∷ (objectsLive ++ setMode 1 1 ∷ [], send (setParts 1 1 (0 ∷ [])))  -- 10: a cut header
+    ∷ (objectsLive, command (getAll 1 0) 8)  -- 11: room for the head alone
+    ∷ (objectsLive, send (getAll 1 0))  -- 12
+    ∷ []
+
+every-row-applies : map (λ (x : Case). placeFor (run step exampleCard (x .0)) (x .1)) cases
+    ≡ 0 ∷ 1 ∷ 2 ∷ 3 ∷ 4 ∷ 5 ∷ 6 ∷ 7 ∷ 8 ∷ 9 ∷ 10 ∷ 11 ∷ 12 ∷ 13 ∷ []
+unfolding model place placeFor cases
+every-row-applies = refl
