@@ -8,11 +8,11 @@ use native.Mathlib.Nat.{add-zero}
 use native.Mathlib.Omega.{arith}
 use lib.Dec.{leb}
 use lib.ListN.{length, getD, take, drop, length-append}
-use lib.Seq.{take-all, take-at, take-add, drop-at, drop-append-add, drop-drop, length-take-le, getD-take}
+use lib.Seq.{take-take, take-all, take-at, take-add, drop-at, drop-append-add, drop-drop, length-take-le, getD-take}
 use borrow.Rule.Slice.PartMut.{putMid}
 use Rattle.theory.specs.Bytes.{bytesAt, put, repeat}
 use Rattle.theory.proofs.Tests.{by-cases, tests}
-use Rattle.theory.proofs.Bytes.{length-put, put-over, put-comm, put-out, put-eq, bytesAt-before, bytesAt-after, bytesAt-put-as, length-bytesAt, length-bytesAt-le, bytesAt-bytesAt, length-repeat, bytesAt-repeat}
+use Rattle.theory.proofs.Bytes.{length-put, put-bytesAt, put-over, put-comm, put-out, put-eq, bytesAt-before, bytesAt-after, bytesAt-put-as, length-bytesAt, length-bytesAt-le, bytesAt-bytesAt, length-repeat, bytesAt-repeat}
 use Rattle.wire.specs.Le.{le, bytes, number}
 use Rattle.wire.proofs.Le.{length-bytes, le-bytes, number-before, number-put}
 use Rattle.protocol.specs.Opcodes.{freshMask}
@@ -43,6 +43,11 @@ has-header c m h = omega (arith, h .high)
 pub bytes-long : (c : List ℕ) (m at n : ℕ) → HasRecord c m → at + n ≤ recordSize → length (recordBytes c m at n) ≡ n
 unfolding recordBytes
 bytes-long c m at n h i = length-bytesAt (recordAt m + at) n c (omega (arith, h .high))
+
+-- to put what is there changes nothing
+pub bytes-back : (c : List ℕ) (m at n : ℕ) → withRecordBytes c m at n (recordBytes c m at n) ≡ c
+unfolding withRecordBytes recordBytes
+bytes-back c m at n = rw (take-take n n (drop (recordAt m + at) c) (omega arith)) (put-bytesAt (recordAt m + at) n c)
 
 module _ (c : List ℕ) (m at n : ℕ) (x : List ℕ) where
   pub length-with-bytes : length (withRecordBytes c m at n x) ≡ length c
@@ -271,6 +276,10 @@ module _ (c : List ℕ) (m : ℕ) (x : Member) where
 -- ---- a fresh record ----
 
 module _ (c : List ℕ) (m : ℕ) (f : List ℕ) where
+  pub fresh-bytes : withFresh c m f ≡ withRecordBytes c m 0 recordSize (freshRecord f)
+  unfolding withFresh
+  fresh-bytes = refl
+
   pub length-with-fresh : length (withFresh c m f) ≡ length c
   unfolding withFresh
   length-with-fresh = length-with-bytes c m 0 recordSize (freshRecord f)
@@ -283,10 +292,14 @@ module _ (c : List ℕ) (m : ℕ) (f : List ℕ) where
   unfolding withFresh
   use-with-fresh = use-with-bytes c m 0 recordSize (freshRecord f)
 
-  -- another member is as it was
+  -- another record is as it was, and so is another member
+  pub fresh-apart : (k at n : ℕ) → at + n ≤ recordSize → 1 ≤ m → 1 ≤ k → k ≢ m → recordBytes (withFresh c m f) k at n ≡ recordBytes c k at n
+  unfolding withFresh
+  fresh-apart k at n i l h e = bytes-other c m 0 recordSize (freshRecord f) (omega arith) l k at n i h e
+
   pub fresh-other : (k : ℕ) → 1 ≤ m → 1 ≤ k → k ≢ m → memberIn (withFresh c m f) k ≡ memberIn c k
-  unfolding withFresh memberIn
-  fresh-other k l h n = ap memberOf (bytes-other c m 0 recordSize (freshRecord f) (omega arith) l k memberBytesAt memberSize (omega arith) h n)
+  unfolding memberIn
+  fresh-other k l h n = ap memberOf (fresh-apart k memberBytesAt memberSize (omega arith) l h n)
 
   -- bytes of another record, and the list in use, are put in either order
   pub fresh-swap : (k at n : ℕ) (x : List ℕ) → 1 ≤ m → at + n ≤ recordSize → 1 ≤ k → k ≢ m
@@ -307,6 +320,10 @@ module _ (c : List ℕ) (m : ℕ) (f : List ℕ) where
     pub fresh-over : (at n : ℕ) (x : List ℕ) → at + n ≤ recordSize → withFresh (withRecordBytes c m at n x) m f ≡ withFresh c m f
     unfolding withFresh
     fresh-over at n x i = bytes-over c m at n x 0 recordSize (freshRecord f) (omega arith) (omega arith) (fresh-record-long f e)
+
+    pub fresh-again : (g : List ℕ) → withFresh (withFresh c m g) m f ≡ withFresh c m f
+    unfolding withFresh
+    fresh-again g = fresh-over 0 recordSize (freshRecord g) (omega arith)
 
     -- byte by byte
     pub fresh-eq : HasRecord c m → withFresh c m f ≡ take (recordAt m) c ++ (freshRecord f ++ drop (recordAt m + recordSize) c)

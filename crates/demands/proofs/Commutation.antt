@@ -10,16 +10,16 @@ use lib.Dec.{eqb}
 use borrow.Author.Tests.{eqb-true, eqb-false, ne-eqb}
 use Rattle.theory.proofs.Tests.{by-cases, both, and-false, below}
 use Rattle.theory.proofs.Commuting.{Commute, commute-sym, swappable, after-hidden, commute-by-masks}
-use Rattle.card.specs.Layout.{setupOf, isMember, recordIn, withRecord, withMember}
+use Rattle.card.specs.Layout.{recordSize, setupOf, isMember, recordBytes, withRecordBytes}
 use Rattle.card.specs.Sound.{isSound}
-use Rattle.card.proofs.LayoutLaws.{record-back, record-long, record-over, record-other, setup-with-member}
+use Rattle.card.proofs.LayoutLaws.{bytes-back, bytes-long, bytes-over, fresh-bytes, fresh-apart, setup-with-fresh}
 use Rattle.card.proofs.SoundLaws.{sound-of, sound-has}
 use Rattle.frame.specs.Frame.{targetOf}
 use Rattle.demands.specs.Calls.{Call, command, memberReset, cardReset, cardStore, step, names}
 use Rattle.demands.specs.Claims.{Commutation, CommandsCommute}
 use Rattle.demands.proofs.Refusals.{unsound-stays}
 use Rattle.demands.proofs.Named.{leaves-none, named-leaves}
-use Rattle.demands.proofs.Mask.{clear, clear-none}
+use Rattle.demands.proofs.Mask.{mask, mask-none}
 use Rattle.demands.proofs.Isolation.{masking}
 
 -- a call names one member at most
@@ -34,22 +34,26 @@ names-one m k n (cardStore j t s value) e = rw (eqb-true j m e) (ne-eqb m k n)
 
 module _ (m k : ℕ) (m-low : 1 ≤ m) (k-low : 1 ≤ k) (apart : m ≢ k) where
   -- m's record is in the card with k's masked
-  record-there : (c : List ℕ) → recordIn (clear k c) m ≡ recordIn c m
-  unfolding withMember
-  record-there c = record-other c k _ m k-low m-low apart
+  record-there : (c : List ℕ) → recordBytes (mask k c) m 0 recordSize ≡ recordBytes c m 0 recordSize
+  record-there c = fresh-apart c k _ m 0 recordSize (omega arith) k-low m-low apart
 
   -- and makes the card of the one with m's masked
-  rebuilt : (c : List ℕ) → isSound c ≡ true → isMember c m ≡ true → withRecord (clear m c) m (recordIn c m) ≡ c
-  unfolding withMember
-  rebuilt c s h = record-over c m _ (recordIn c m) (record-long c m (sound-has c (sound-of c s) m h)) ∙ record-back c m
+  rebuilt : (c : List ℕ) → isSound c ≡ true → isMember c m ≡ true
+      → withRecordBytes (mask m c) m 0 recordSize (recordBytes c m 0 recordSize) ≡ c
+  rebuilt c s h =
+      rw (fresh-bytes c m (setupOf c .features))
+      (bytes-over c m 0 recordSize _ 0 recordSize _ (omega arith) (omega arith)
+      (bytes-long c m 0 recordSize (sound-has c (sound-of c s) m h) (omega arith))
+      ∙ bytes-back c m 0 recordSize)
 
-  determined : (a b : List ℕ) → isSound a ≡ true → isSound b ≡ true → clear m a ≡ clear m b → clear k a ≡ clear k b → a ≡ b
+  determined : (a b : List ℕ) → isSound a ≡ true → isSound b ≡ true → mask m a ≡ mask m b → mask k a ≡ mask k b → a ≡ b
   determined a b sa sb e f =
-      let same : recordIn a m ≡ recordIn b m = sym (record-there a) ∙ ap (λ c. recordIn c m) f ∙ record-there b in
-      let setups : setupOf a ≡ setupOf b = sym (setup-with-member a m _) ∙ ap setupOf e ∙ setup-with-member b m _ in
+      let same : recordBytes a m 0 recordSize ≡ recordBytes b m 0 recordSize =
+      sym (record-there a) ∙ ap (λ c. recordBytes c m 0 recordSize) f ∙ record-there b in
+      let setups : setupOf a ≡ setupOf b = sym (setup-with-fresh a m _) ∙ ap setupOf e ∙ setup-with-fresh b m _ in
       by-cases (isMember a m)
       (λ h. sym (rebuilt a sa h) ∙ rw (e, same) (rebuilt b sb (rw setups at h)))
-      (λ h. sym (clear-none m m-low a sa h) ∙ e ∙ clear-none m m-low b sb (rw setups at h))
+      (λ h. sym (mask-none m m-low a sa h) ∙ e ∙ mask-none m m-low b sb (rw setups at h))
 
 -- ---- any two numbers ----
 

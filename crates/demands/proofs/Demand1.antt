@@ -20,7 +20,7 @@ use Rattle.card.specs.Sound.{isSound, soundSetup}
 use Rattle.card.proofs.LayoutLaws.{members-read, setup-fresh}
 use Rattle.card.proofs.SoundLaws.{sound-of, is-sound, sound-fresh-card}
 use Rattle.events.specs.Events.{setupWith, setUp}
-use Rattle.reply.specs.Reply.{finalOf, replyOf}
+use Rattle.reply.specs.Reply.{finalOf, replyOf, written}
 use Rattle.reply.proofs.Reply.{head-long, final-room, reply-refused, reply-done}
 use Rattle.admin.specs.Command.{askIn, perform, respond, delivered, commandOf}
 use Rattle.demands.specs.Claims.{NotWritten, Delivered, SetsUp}
@@ -29,7 +29,7 @@ use Rattle.demands.proofs.Respond.{respond-none, respond-cases}
 -- ---- nothing written ----
 
 untouched : (c r b : List ℕ) → leb 8 (length b) and isSound c ≡ false → commandOf c r b ≡ (0, (c, b))
-unfolding commandOf delivered
+unfolding commandOf delivered written
 untouched c r b e = rw (respond-none c r (length b) e, put-nil 0 b)
 
 pub not-written : NotWritten
@@ -52,7 +52,7 @@ respond-short c r room =
     (λ h s. let e = perform c r (askIn c r) in reply-short (e .outcome) (e .result) room h)
 
 pub delivers : Delivered
-unfolding commandOf delivered
+unfolding commandOf delivered written
 delivers c r b =
     let h = respond-short c r (length b) in
     record { card = refl; reported = refl; within = h; buffer = put-front _ b h }

@@ -4,7 +4,7 @@ use mathlib.Core.Path.{_≡_, refl}
 use mathlib.Core.List.{List}
 use Prim.Native.Nat.{ℕ, _+_, _≤_, _<_}
 use native.Mathlib.Omega.{arith}
-use lib.ListN.{length}
+use lib.ListN.{length, take}
 use Rattle.theory.specs.Logic.{if_then_else_}
 use Rattle.theory.specs.Bytes.{put}
 use Rattle.theory.proofs.Tests.{unless-cases, inside}
@@ -18,22 +18,23 @@ use Rattle.objects.specs.declared.Found.{Found}
 use Rattle.objects.specs.declared.Found.the-variants.{Live, Nothing}
 use Rattle.objects.specs.Objects.{onFound}
 use Rattle.member.specs.declared.Member.{Member}
-use Rattle.member.specs.Record.{recordSize, recordOf}
+use Rattle.member.specs.Record.{memberSize, memberBytes}
 use Rattle.member.specs.Objects.{lookupOf}
 use Rattle.changes.specs.declared.Changed.{Changed}
 use Rattle.changes.specs.Changes.{refuse, setPartsOf, changeOf}
 use Rattle.changes.proofs.Kept.{change-sound}
-use Rattle.card.specs.Layout.{inUseAt, setupOf, recordAt, withInUse, withRecord, memberIn, withMember}
+use Rattle.card.specs.Layout.{inUseAt, memberBytesAt, recordSize, setupOf, recordAt, withInUse, withRecordBytes, memberIn, withMember, withFresh}
 use Rattle.card.proofs.LayoutLaws.{member-same}
+use Rattle.events.proofs.Cases.{on-member-cases}
 use Rattle.card.proofs.SoundLaws.{Sound, sound-of, sound-has, sound-member-in}
 use Rattle.events.specs.Events.{resetMember}
 use Rattle.frame.specs.declared.Ask.{Ask}
 use Rattle.frame.specs.declared.Ask.the-variants.{Refused, Change}
-use Rattle.frame.specs.Frame.{opcodeOf, targetOf, dataOf}
+use Rattle.frame.specs.Frame.{opcodeOf, targetOf, dataOf, givenList}
 use Rattle.frame.specs.Fields.{setIn, useIn, fieldsOf}
 use Rattle.frame.specs.Ask.{framedOf, askOf}
 use Rattle.frame.proofs.Asked.{Named, Facts}
-use Rattle.admin.specs.Command.{askIn, givenList, perform, respond}
+use Rattle.admin.specs.Command.{askIn, perform, respond}
 use Rattle.demands.specs.Calls.{step}
 use Rattle.demands.specs.Claims.{SameOutside, DifferAtMost, Integrity}
 use Rattle.demands.proofs.Respond.{card-cases}
@@ -47,20 +48,25 @@ put-outside : (at size : ℕ) (x c : List ℕ) → length x ≤ size → SameOut
 put-outside at size x c h =
     record { before = take-before at at x c (omega arith); after = drop-after (at + size) at x c (omega arith) }
 
-member-outside : (m : ℕ) (c : List ℕ) (x : Member) → DifferAtMost m (withMember c m x) c
-unfolding withMember withRecord
-member-outside m c x = put-outside (recordAt m) recordSize _ c (length-bytesAt-le 0 recordSize (recordOf x))
+bytes-outside : (m : ℕ) (c : List ℕ) (at n : ℕ) (x : List ℕ) → at + n ≤ recordSize → DifferAtMost m (withRecordBytes c m at n x) c
+unfolding withRecordBytes
+bytes-outside m c at n x i =
+    let w = length-bytesAt-le 0 n x in
+    record {
+      before = take-before (recordAt m) (recordAt m + at) (take n x) c (omega arith);
+      after = drop-after (recordAt m + recordSize) (recordAt m + at) (take n x) c (omega arith);
+    }
 
 leaves-outside : (m : ℕ) (c d : List ℕ) → Leaves m c d → DifferAtMost m d c
+unfolding withMember
 leaves-outside m c _ unchanged = same _ _ c
-leaves-outside m c _ (changed h x) = member-outside m c x
+leaves-outside m c _ (changed h x) = bytes-outside m c memberBytesAt memberSize (memberBytes x) (omega arith)
 
 reset-outside : (c : List ℕ) (m : ℕ) → DifferAtMost m (resetMember c m .1) c
-unfolding resetMember
+unfolding resetMember withFresh
 reset-outside c m =
-    unless-cases (λ (y : EventAnswer × List ℕ). DifferAtMost m (y .1) c) _ _ _ (λ t. same _ _ c) λ t.
-    unless-cases (λ (y : EventAnswer × List ℕ). DifferAtMost m (y .1) c) _ _ _ (λ t. same _ _ c) λ t.
-    member-outside m c _
+    on-member-cases c m _ (λ (y : EventAnswer × List ℕ). DifferAtMost m (y .1) c) (λ a d. same _ _ c)
+    (λ s h. bytes-outside m c 0 recordSize _ (omega arith))
 
 -- ---- a command, by its opcode ----
 

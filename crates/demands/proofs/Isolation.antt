@@ -4,7 +4,6 @@ use mathlib.Core.Path.{_≡_, refl, ap, sym, _∙_}
 use mathlib.Core.Bool.{true, false}
 use mathlib.Core.List.{List}
 use Prim.Native.Nat.{ℕ, _≤_}
-use native.Mathlib.Omega.{arith}
 use lib.Dec.{eqb}
 use lib.ListN.{length}
 use borrow.Author.Tests.{eqb-true, eqb-false}
@@ -12,19 +11,17 @@ use Rattle.theory.specs.Logic.{unless_answer_then_}
 use Rattle.theory.proofs.Tests.{by-cases, within-low}
 use Rattle.theory.proofs.Unwinding.{Masking, isolated-by-mask}
 use Rattle.protocol.specs.Answers.{eventNumber}
-use Rattle.member.specs.Member.{freshOf}
-use Rattle.member.specs.Record.{recordSize, recordOf}
-use Rattle.member.proofs.Record.{length-record}
-use Rattle.card.specs.Layout.{inUseAt, setupOf, isMember, withMember}
+use Rattle.card.specs.Layout.{inUseAt, setupOf, isMember}
 use Rattle.card.specs.Sound.{isSound}
-use Rattle.card.proofs.LayoutLaws.{record-eq, same-setup, setup-with-member}
-use Rattle.card.proofs.SoundLaws.{sound-of, sound-long, sound-has}
+use Rattle.card.proofs.LayoutLaws.{features-long, same-setup, setup-with-fresh, fresh-eq}
+use Rattle.card.proofs.SoundLaws.{sound-of, sound-has}
 use Rattle.events.specs.Events.{resetMember, resetCard, store}
+use Rattle.events.proofs.Cases.{on-sound}
 use Rattle.demands.specs.Calls.{Call, command, memberReset, cardReset, cardStore, written, answered, step, names, Resets, ofMember, ofCard}
 use Rattle.demands.specs.Claims.{DifferAtMost, Isolation}
 use Rattle.demands.proofs.Sound.{stays-sound}
 use Rattle.demands.proofs.Named.{named-leaves}
-use Rattle.demands.proofs.Mask.{clear, fresh-shaped, clear-leaves, clear-clear, clear-again, clear-member, has-head, masked-sound, clear-none, respond-answers, store-answers}
+use Rattle.demands.proofs.Mask.{mask, mask-leaves, mask-mask, mask-again, mask-fresh, has-head, masked-sound, mask-none, respond-answers, store-answers}
 
 -- ---- the laws of one step ----
 
@@ -32,39 +29,39 @@ module _ (m : ℕ) (low : 1 ≤ m) (c : List ℕ) (e : isSound c ≡ true) where
   long : inUseAt ≤ length c
   long = has-head m low c e
 
-  sound : isSound (clear m c) ≡ true
+  sound : isSound (mask m c) ≡ true
   sound = masked-sound m low c e
 
   -- a call that does not name m answers from the masked card alike, and leaves the same masked card
   answers : (x : Call) → names m x ≡ false
-      → (step (clear m c) x .1 ≡ step c x .1) × (clear m (step (clear m c) x .0) ≡ clear m (step c x .0))
+      → (step (mask m c) x .1 ≡ step c x .1) × (mask m (step (mask m c) x .0) ≡ mask m (step c x .0))
   unfolding step resetMember resetCard store unless_answer_then_ names
   answers (command r room) n = let z = respond-answers m low c e r _ n in (ap written (z .0), z .1)
   answers (memberReset k) n =
-      rw (e, sound, setup-with-member) (by-cases (isMember c k)
+      rw (on-sound c k _ e, on-sound (mask m c) k _ sound, setup-with-fresh) (by-cases (isMember c k)
       (λ t. rw t (
         refl,
         by-cases (eqb k m)
-            (λ q. rw (eqb-true k m q) (ap (clear m) (clear-again m c long)))
-            (λ q. clear-member m low c long k _ (within-low _ _ k t) (eqb-false k m q)),
+            (λ q. rw (eqb-true k m q) (ap (mask m) (mask-again m c long)))
+            (λ q. mask-fresh m low c long k _ (within-low _ _ k t) (eqb-false k m q)),
       ))
-      (λ t. rw t (refl, clear-clear m c long)))
-  answers cardReset n = rw (e, sound, setup-with-member) (refl, refl)
+      (λ t. rw t (refl, mask-mask m c long)))
+  answers cardReset n = rw (e, sound, setup-with-fresh) (refl, refl)
   answers (cardStore k t s value) n =
-      rw (e, sound, setup-with-member) (by-cases (isMember c k)
+      rw (on-sound c k _ e, on-sound (mask m c) k _ sound, setup-with-fresh) (by-cases (isMember c k)
       (λ h.
       let z = store-answers m low c long k t _ value (within-low _ _ k h) (eqb-false k m n) in
       rw h (ap (λ a. answered (eventNumber a)) (z .0), z .1))
-      (λ h. rw h (refl, clear-clear m c long)))
+      (λ h. rw h (refl, mask-mask m c long)))
 
   -- a reset of m, or of the whole card, leaves nothing of what was masked
-  wiped : (x : Call) → Resets m x → step (clear m c) x ≡ step c x
+  wiped : (x : Call) → Resets m x → step (mask m c) x ≡ step c x
   unfolding step resetMember resetCard unless_answer_then_
   wiped _ ofMember =
-      rw (e, sound, setup-with-member) (by-cases (isMember c m)
-      (λ t. rw (t, clear-again m c long))
-      (λ t. rw (t, clear-none m low c e t)))
-  wiped _ ofCard = rw (e, sound, setup-with-member)
+      rw (on-sound c m _ e, on-sound (mask m c) m _ sound, setup-with-fresh) (by-cases (isMember c m)
+      (λ t. rw (t, mask-again m c long))
+      (λ t. rw (t, mask-none m low c e t)))
+  wiped _ ofCard = rw (e, sound, setup-with-fresh)
 
 -- no reset names m
 resets-unnamed : (m : ℕ) (x : Call) → Resets m x → names m x ≡ false
@@ -72,10 +69,10 @@ unfolding names
 resets-unnamed m _ ofMember = refl
 resets-unnamed m _ ofCard = refl
 
-pub masking : (m : ℕ) → 1 ≤ m → Masking step (names m) (λ x y. Resets m x) (λ c. isSound c ≡ true) (clear m)
+pub masking : (m : ℕ) → 1 ≤ m → Masking step (names m) (λ x y. Resets m x) (λ c. isSound c ≡ true) (mask m)
 masking m low = record {
   stays = stays-sound;
-  hides = λ c x e n. clear-leaves m c (long m low c e) _ (named-leaves m c x n);
+  hides = λ c x e n. mask-leaves m c (long m low c e) _ (named-leaves m c x n);
   answers = λ c x e. answers m low c e x;
   shown = λ x y w. resets-unnamed m x w;
   wiped = λ c x e. wiped m low c e x;
@@ -84,17 +81,15 @@ masking m low = record {
 -- ---- the theorem ----
 
 -- cards that differ in m's record at most have the same mask
-same-mask : (m : ℕ) (c d : List ℕ) → isSound c ≡ true → isSound d ≡ true → isMember c m ≡ true → DifferAtMost m c d → clear m c ≡ clear m d
-unfolding withMember
+same-mask : (m : ℕ) (c d : List ℕ) → isSound c ≡ true → isSound d ≡ true → isMember c m ≡ true → DifferAtMost m c d → mask m c ≡ mask m d
 same-mask m c d e f h b =
     let g = same-setup c d m (b .before) in
-    let x = recordOf (freshOf (setupOf c .features)) in
     let s = sound-of c e in
-    let n : length x ≡ recordSize = length-record _ (fresh-shaped m c (omega (arith, sound-long c s))) in
+    let n = features-long c (long m (within-low _ _ m h) c e) in
     rw (← g)
-    (record-eq c m x (sound-has c s m h) n
+    (fresh-eq c m (setupOf c .features) n (sound-has c s m h)
     ∙ (rw (b .before, b .after))
-    ∙ sym (record-eq d m x (sound-has d (sound-of d f) m (rw g at h)) n))
+    ∙ sym (fresh-eq d m (setupOf c .features) n (sound-has d (sound-of d f) m (rw g at h))))
 
 pub isolation : Isolation
 isolation c₁ c₂ e₁ e₂ m h d =

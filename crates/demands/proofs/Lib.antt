@@ -2,7 +2,6 @@ pub mod Model
 pub mod Examples
 pub mod WrongPrograms
 pub mod WrongProgramsExample
-pub mod Requests
 pub mod Respond
 pub mod Named
 pub mod Sound

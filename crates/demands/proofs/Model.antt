@@ -12,23 +12,23 @@ use Rattle.rules.specs.Rules.{known, knownOrSkipped, lengthRight, featuresSame,
 use Rattle.values.specs.Apply.{storable, stored, applied}
 use Rattle.capture.specs.Capture.{headerItem, headersOf, partAt, asks, partItem, partsWritten}
 use Rattle.objects.specs.Objects.{count, allUpTo, withinLimits}
-use Rattle.member.specs.Record.{memberOf, recordOf}
+use Rattle.member.specs.Record.{memberOf, memberBytes}
 use Rattle.member.specs.Objects.{lookupOf, withObject}
 use Rattle.member.specs.Member.{freshOf}
 use Rattle.member.specs.Sound.{soundRecord}
 use Rattle.changes.specs.Changes.{limited, createOf, modifyOf, destroyOf, setPartsOf}
 use Rattle.reads.specs.Reads.{queryOf, throughGet, selectedOf}
-use Rattle.card.specs.Layout.{setupIn, setupOf, inUseOf, withInUse, recordIn, withRecord, memberIn, withMember, freshHead, freshCard}
+use Rattle.card.specs.Layout.{setupIn, setupOf, inUseOf, withInUse, recordBytes, withRecordBytes, memberIn, withMember, freshRecord, withFresh, freshHeader, freshCard}
 use Rattle.card.specs.Sound.{inNumbers, soundSetup, soundUpTo, isSound}
-use Rattle.events.specs.Events.{setUp, resetMember, resetCard, ifDone, storeIn, store}
+use Rattle.events.specs.Events.{setUp, memberAnswer, ifDone, onMember, resetMember, resetCard, storeIn, store}
 use Rattle.frame.specs.Fields.{objectValid, flagsValid, kindValid, createIn, modifyIn, queryIn, destroyIn, metadataIn, getIn, setIn, modeIn, useIn, fieldsOf}
 use Rattle.frame.specs.Ask.{usable, reaches, framedOf, askOf}
 use Rattle.reply.specs.Result.{numberBytes, resultOf}
-use Rattle.reply.specs.Reply.{headOf, finalOf, replyOf}
+use Rattle.reply.specs.Reply.{headOf, finalOf, replyOf, replied}
 use Rattle.admin.specs.Command.{askIn, perform, conclude, respond}
 use Rattle.demands.specs.Calls.{refused, step, names}
 use Rattle.demands.specs.Statuses.{firstOf, namesObject, hasFlags, hasKind, needsGet, badField, badList, askedSize, resultSize, rowsAt}
-use Rattle.demands.specs.Requests.{request, objectHeader, getAll, setParts}
+use Rattle.frame.specs.Requests.{request, objectHeader, getAll, setParts}
 use Rattle.demands.specs.Examples.{exampleCard, headersListed, joined, nineHeaders, nineParts, workedExamples, repliesTo, lastSize}
 
 unfoldable pub model : Unit {0}
@@ -36,12 +36,12 @@ unfolding if_then_else_ unless_answer_then_ _and_ _or_ within indicator put repe
     opcodeRows opcodeRow supported lengthFits namesMember bit supportedOnly
     inventoryRows rowAt present offsetOf selectorOf isRow seek placeOf headerOf headerAt stepAt atMost partsFrom
     known knownOrSkipped lengthRight featuresSame asksKnown whole every among repeated causeIn askedIn storable stored applied
-    headerItem headersOf partAt asks partItem partsWritten memberOf recordOf lookupOf withObject count allUpTo withinLimits
+    headerItem headersOf partAt asks partItem partsWritten memberOf memberBytes lookupOf withObject count allUpTo withinLimits
     freshOf soundRecord limited createOf modifyOf destroyOf setPartsOf queryOf throughGet selectedOf
-    setupIn setupOf inUseOf withInUse recordIn withRecord memberIn withMember freshHead freshCard inNumbers soundSetup soundUpTo isSound
-    setUp resetMember resetCard ifDone storeIn store
+    setupIn setupOf inUseOf withInUse recordBytes withRecordBytes memberIn withMember freshRecord withFresh freshHeader freshCard inNumbers soundSetup soundUpTo isSound
+    setUp memberAnswer ifDone onMember resetMember resetCard storeIn store
     objectValid flagsValid kindValid createIn modifyIn queryIn destroyIn metadataIn getIn setIn modeIn useIn fieldsOf
-    usable reaches framedOf askOf numberBytes resultOf headOf finalOf replyOf askIn perform conclude respond refused step names
+    usable reaches framedOf askOf numberBytes resultOf headOf finalOf replyOf replied askIn perform conclude respond refused step names
     firstOf namesObject hasFlags hasKind needsGet badField badList askedSize resultSize rowsAt
     request objectHeader getAll setParts exampleCard headersListed joined nineHeaders nineParts workedExamples repliesTo lastSize
 model = tt

@@ -8,12 +8,13 @@ use native.Mathlib.Omega.{arith}
 use lib.Dec.{eqb}
 use lib.ListN.{length}
 use borrow.Author.Tests.{eqb-true}
-use Rattle.theory.proofs.Tests.{inside, if-cases, unless-cases, true-and, false-and, and-false}
+use Rattle.theory.proofs.Tests.{inside, true-and, false-and, and-false}
 use Rattle.protocol.specs.declared.EventAnswer.{EventAnswer}
 use Rattle.protocol.specs.Opcodes.{namesMember}
 use Rattle.member.specs.declared.Member.{Member}
 use Rattle.card.specs.Layout.{setupOf, inUseOf, isMember, withMember}
-use Rattle.events.specs.Events.{ifDone, storeIn, store}
+use Rattle.events.specs.Events.{storeIn, store}
+use Rattle.events.proofs.Cases.{if-done-cases, on-member-cases}
 use Rattle.frame.specs.declared.Ask.{Ask}
 use Rattle.frame.specs.declared.Ask.the-variants.{Refused, QueryList, UseList, Read, Change}
 use Rattle.frame.specs.Frame.{opcodeOf}
@@ -77,12 +78,11 @@ abbrev EventLeaves : ℕ → List ℕ → EventAnswer × List ℕ → Type 0
 EventLeaves m c y = Leaves m c (y .1)
 
 pub named-leaves : (m : ℕ) (c : List ℕ) (x : Call) → names m x ≡ true → Leaves m c (step c x .0)
-unfolding step names store storeIn ifDone
+unfolding step names store storeIn
 named-leaves m c (command r room) e = respond-leaves m c r _ e
 named-leaves m c (memberReset k) e = never e
 named-leaves m c cardReset e = never e
 named-leaves m c (cardStore k t s value) e =
     rw (eqb-true k m e)
-    (unless-cases (EventLeaves m c) _ _ _ (λ t. unchanged) λ t.
-    unless-cases (EventLeaves m c) _ _ _ (λ t. unchanged) λ h.
-    if-cases (Leaves m c) _ _ _ (λ t. changed h _) (λ t. unchanged))
+    (on-member-cases c m _ (EventLeaves m c) (λ a d. unchanged) λ i h.
+    if-done-cases (EventLeaves m c) _ _ c (λ d. unchanged) (changed h _))

@@ -12,7 +12,8 @@ use Rattle.protocol.specs.declared.Answer.{Answer}
 use Rattle.protocol.specs.declared.EventAnswer.{EventAnswer}
 use Rattle.protocol.specs.Answers.{statusOf, isDone, eventNumber}
 use Rattle.card.specs.Sound.{isSound}
-use Rattle.events.specs.Events.{resetMember, resetCard, ifDone, storeIn, store}
+use Rattle.events.specs.Events.{resetMember, resetCard, storeIn, store}
+use Rattle.events.proofs.Cases.{if-done-cases, on-unsound, on-member-cases}
 use Rattle.reply.specs.Reply.{headOf, replyOf}
 use Rattle.admin.specs.Command.{askIn, perform, respond}
 use Rattle.demands.specs.Calls.{Call, command, memberReset, cardReset, cardStore, written, answered, refused, step}
@@ -45,26 +46,20 @@ respond-keeps c r room =
     let x = perform c r (askIn c r) in
     kept (statusOf (lastAnswer room x)) (x .card) c (says-refused (lastAnswer room x) (x .result) e))
 
-done-keeps : (a : EventAnswer) (next c : List ℕ) → KeepsEvent c (ifDone a next c)
-unfolding KeepsEvent ifDone refused
-done-keeps a next c e = kept (eventNumber a) next c e
-
 pub refusals-change-nothing : RefusalsChangeNothing
 unfolding step resetMember resetCard store storeIn refused KeepsEvent
 refusals-change-nothing c (command r room) = respond-keeps c r _
-refusals-change-nothing c (memberReset m) =
-    unless-cases (KeepsEvent c) _ _ _ (λ t e. refl) (λ t.
-    unless-cases (KeepsEvent c) _ _ _ (λ t e. refl) (λ t e. cc))
+refusals-change-nothing c (memberReset m) = on-member-cases c m _ (KeepsEvent c) (λ a d e. refl) (λ s h e. cc)
 refusals-change-nothing c cardReset =
     unless-cases (KeepsEvent c) _ _ _ (λ t e. refl) (λ t e. cc)
 refusals-change-nothing c (cardStore m t s value) =
-    unless-cases (KeepsEvent c) _ _ _ (λ t e. refl) (λ t.
-    unless-cases (KeepsEvent c) _ _ _ (λ t e. refl) (λ t. done-keeps _ _ c))
+    on-member-cases c m _ (KeepsEvent c) (λ a d e. refl) λ u h.
+    if-done-cases (KeepsEvent c) _ _ c (λ d e. refl) (λ e. cc)
 
 -- a card that is not sound stays
 pub unsound-stays : (c : List ℕ) (x : Call) → isSound c ≡ false → step c x .0 ≡ c
 unfolding step resetMember resetCard store unless_answer_then_
 unsound-stays c (command r room) e = ap (λ (y : List ℕ × List ℕ). y .0) (respond-none c r _ (rw e (and-false _)))
-unsound-stays c (memberReset m) e = rw e
+unsound-stays c (memberReset m) e = rw (on-unsound c m _ e)
 unsound-stays c cardReset e = rw e
-unsound-stays c (cardStore m t s value) e = rw e
+unsound-stays c (cardStore m t s value) e = rw (on-unsound c m _ e)

@@ -11,7 +11,7 @@ use Rattle.theory.proofs.Tests.{both, if-cases, unless-cases}
 use Rattle.protocol.specs.declared.Answer.{Answer}
 use Rattle.protocol.specs.Answers.{isDone}
 use Rattle.card.specs.Sound.{isSound}
-use Rattle.reply.specs.Reply.{finalOf, replyOf}
+use Rattle.reply.specs.Reply.{finalOf, replyOf, replied}
 use Rattle.admin.specs.Command.{askIn, Effect, perform, conclude, respond}
 
 -- steps 11 and 12: the answer in the end, the card after and the reply
@@ -28,12 +28,12 @@ module _ (c r : List ℕ) (room : ℕ) where
   respond-none t = rw t
 
   pub respond-is : 8 ≤ room → isSound c ≡ true → respond c r room ≡ ended c room (perform c r (askIn c r))
-  unfolding respond conclude unless_answer_then_ _and_
+  unfolding respond conclude replied unless_answer_then_ _and_
   respond-is h s = rw (le-leb 8 room h, s)
 
   pub respond-cases : (P : List ℕ × List ℕ → Type 0) → P (c, [])
       → (8 ≤ room → isSound c ≡ true → P (ended c room (perform c r (askIn c r)))) → P (respond c r room)
-  unfolding respond conclude
+  unfolding respond conclude replied
   respond-cases P f g = unless-cases P _ _ _ (λ t. f) (λ t. g (leb-true 8 room (both _ _ t .0)) (both _ _ t .1))
 
   -- the card after it

@@ -31,7 +31,7 @@ use Rattle.member.specs.Objects.{lookupOf}
 use Rattle.member.specs.Member.{featuresIn, withValues}
 use Rattle.member.proofs.Sound.{sound-applied}
 use Rattle.member.proofs.Live.{live-below}
-use Rattle.changes.specs.Changes.{done, setPartsOf}
+use Rattle.changes.specs.Changes.{setPartsOf}
 use Rattle.reads.specs.Reads.{throughGet}
 use Rattle.card.specs.declared.Setup.{Setup}
 use Rattle.card.specs.Layout.{setupOf, inUseOf, isMember, memberIn, withMember}
@@ -41,9 +41,9 @@ use Rattle.card.proofs.SoundLaws.{Sound, SoundIn, sound-of, is-sound, sound-has
 use Rattle.reply.specs.Result.{resultOf}
 use Rattle.reply.specs.Reply.{headOf, finalOf, replyOf}
 use Rattle.admin.specs.Command.{askIn, effect, perform, respond}
-use Rattle.demands.specs.Requests.{getAll}
+use Rattle.frame.specs.Requests.{getAll}
 use Rattle.demands.specs.RoundTrip.{Restorable, RestoredSame, RoundTrip, capture, restore}
-use Rattle.demands.proofs.Requests.{get-all-asked}
+use Rattle.frame.proofs.Requests.{get-all-asked}
 use Rattle.demands.proofs.Respond.{respond-is}
 use Rattle.demands.proofs.PartsSet.{partsSetOf, respond-parts-set}
 
@@ -93,8 +93,8 @@ module _ (c : List ℕ) (m : ℕ) (x : Reached c m) where
   -- an accepted list through a live set object, where the member is stopped
   set-done : (j : ℕ) (list : List ℕ) → lookupOf (memberIn c m) j ≡ Live Set → bit (inUseOf c) 0x10 ≡ true
       → memberIn c m .mode ≡ Stopped → causeOf (setupOf c .queues) (featuresIn (memberIn c m)) list ≡ Accepted
-      → partsSetOf c m j list ≡ done (withValues (memberIn c m) (applied (setupOf c .queues) (partsOf Parts list) (memberIn c m .values)))
-  unfolding partsSetOf setPartsOf unless_answer_then_
+      → partsSetOf c m j list ≡ (Done, withMember c m (withValues (memberIn c m) (applied (setupOf c .queues) (partsOf Parts list) (memberIn c m .values))))
+  unfolding partsSetOf setPartsOf if_then_else_ unless_answer_then_
   set-done j list e u k a = rw (u, lt-ltb j _ (valid j Set e), e, k, a)
 
 -- the head of a reply is eight bytes

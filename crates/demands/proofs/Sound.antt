@@ -4,16 +4,15 @@ use mathlib.Core.Bool.{true}
 use mathlib.Core.List.{List}
 use Prim.Native.Nat.{ℕ, _+_}
 use native.Mathlib.Omega.{arith}
-use lib.ListN.{length}
-use Rattle.theory.proofs.Tests.{inside, within-low, if-cases, unless-cases}
+use Rattle.theory.proofs.Tests.{inside, within-low, unless-cases}
 use Rattle.protocol.specs.declared.EventAnswer.{EventAnswer}
-use Rattle.member.specs.Member.{freshOf}
-use Rattle.member.proofs.Sound.{sound-fresh, sound-part}
+use Rattle.member.proofs.Sound.{sound-part}
 use Rattle.changes.proofs.Kept.{change-sound}
 use Rattle.card.specs.Layout.{setupOf, isMember, memberIn}
-use Rattle.events.specs.Events.{resetMember, resetCard, ifDone, storeIn, store}
+use Rattle.events.specs.Events.{resetMember, resetCard, storeIn, store}
+use Rattle.events.proofs.Cases.{if-done-cases, on-member-cases}
 use Rattle.card.proofs.LayoutLaws.{features-long}
-use Rattle.card.proofs.SoundLaws.{Sound, SoundIn, sound-of, is-sound, numbers-sound, sound-long, sound-member-in, sound-with-member, sound-with-use, sound-fresh-card}
+use Rattle.card.proofs.SoundLaws.{Sound, sound-of, is-sound, numbers-sound, sound-long, sound-member-in, sound-with-member, sound-with-fresh, sound-with-use, sound-fresh-card}
 use Rattle.frame.specs.declared.Ask.{Ask}
 use Rattle.frame.specs.declared.Ask.the-variants.{Refused, QueryList, UseList, Read, Change}
 use Rattle.frame.proofs.Asked.{Facts}
@@ -24,13 +23,6 @@ use Rattle.demands.proofs.Respond.{card-cases}
 use Rattle.demands.proofs.Named.{asked-of}
 
 module _ (c : List ℕ) (s : Sound c) where
-  -- the device features are 16 bytes
-  sixteen : length (setupOf c .features) ≡ 16
-  sixteen = features-long c (omega (arith, sound-long c s))
-
-  fresh-in : SoundIn c (freshOf (setupOf c .features))
-  fresh-in = sound-fresh _ _ (setupOf c .features) sixteen
-
   perform-sound : (r : List ℕ) (a : Ask) → Facts (setupOf c .members) (setupOf c .gets + setupOf c .sets) r a → Sound (perform c r a .card)
   unfolding perform
   perform-sound r (Refused a) f = s
@@ -45,11 +37,10 @@ module _ (c : List ℕ) (s : Sound c) where
   respond-sound r room = card-cases c r room Sound s (λ e. perform-sound r _ (asked-of c r))
 
   store-sound : (m t k : ℕ) (value : List ℕ) → isMember c m ≡ true → Sound (storeIn c m t k value .1)
-  unfolding storeIn ifDone
+  unfolding storeIn
   store-sound m t k value h =
-      if-cases Sound _ _ _
-      (λ t. sound-with-member c m _ s (within-low _ _ m h) (sound-part _ _ _ _ (sound-member-in c s m h) (setupOf c .queues) _ k value))
-      (λ t. s)
+      if-done-cases (λ (y : EventAnswer × List ℕ). Sound (y .1)) _ _ c (λ d. s)
+      (sound-with-member c m _ s (within-low _ _ m h) (sound-part _ _ _ _ (sound-member-in c s m h) (setupOf c .queues) _ k value))
 
 -- the card after an event is sound
 abbrev Leaves : EventAnswer × List ℕ → Type 0
@@ -59,16 +50,11 @@ step-sound : (c : List ℕ) (x : Call) → Sound c → Sound (step c x .0)
 unfolding step resetMember resetCard store
 step-sound c (command r room) s = respond-sound c s r _
 step-sound c (memberReset m) s =
-    unless-cases Leaves _ _ _ (λ t. s) λ t.
-    unless-cases Leaves _ _ _ (λ t. s) λ h.
-    sound-with-member c m _ s (within-low _ _ m h) (fresh-in c s)
+    on-member-cases c m _ Leaves (λ a d. s) (λ e h. sound-with-fresh c m s (within-low _ _ m h))
 step-sound c cardReset s =
     unless-cases Leaves _ _ _ (λ t. s) λ t.
-    sound-fresh-card (setupOf c) (numbers-sound _ (s .numbers)) (sixteen c s)
-step-sound c (cardStore m t k value) s =
-    unless-cases Leaves _ _ _ (λ t. s) λ u.
-    unless-cases Leaves _ _ _ (λ t. s) λ h.
-    store-sound c s m t _ value h
+    sound-fresh-card (setupOf c) (numbers-sound _ (s .numbers)) (features-long c (omega (arith, sound-long c s)))
+step-sound c (cardStore m t k value) s = on-member-cases c m _ Leaves (λ a d. s) (λ e h. store-sound c s m t _ value h)
 
 pub stays-sound : StaysSound
 stays-sound c x e = is-sound _ (step-sound c x (sound-of c e))

@@ -16,7 +16,7 @@ use Rattle.protocol.specs.declared.Answer.the-variants.{Done}
 use Rattle.protocol.specs.declared.Mode.{Mode}
 use Rattle.protocol.specs.declared.Mode.the-variants.{Running, Stopped}
 use Rattle.protocol.specs.declared.ObjectKind.{ObjectKind}
-use Rattle.protocol.specs.Answers.{kindNumber, statusOf, qualifierOf, isDone}
+use Rattle.protocol.specs.Answers.{isGet, isSet, kindNumber, statusOf, qualifierOf, isDone}
 use Rattle.protocol.specs.Opcodes.{supported, bit, namesMember, lengthFits, supportedMask, supportedOnly}
 use Rattle.protocol.proofs.Rows.{supported-is}
 use Rattle.inventory.specs.Inventory.{valuesSize, partCount, partsSize}
@@ -32,14 +32,14 @@ use Rattle.changes.specs.Changes.{limited, createOf, modifyOf, destroyOf, setPa
 use Rattle.reads.specs.Reads.{queryOf, throughGet, selectedOf}
 use Rattle.card.specs.Layout.{setupOf, inUseOf, isMember}
 use Rattle.card.proofs.SoundLaws.{Sound, sound-of, sound-member-in}
-use Rattle.frame.specs.Frame.{opcodeOf, groupOf, targetOf, dataOf}
+use Rattle.frame.specs.Frame.{opcodeOf, groupOf, targetOf, dataOf, askedList, givenList}
 use Rattle.frame.specs.Fields.{objectValid, flagsValid, kindValid, createIn, modifyIn, queryIn, destroyIn, metadataIn, getIn, setIn, modeIn, useIn, fieldsOf}
 use Rattle.frame.specs.Ask.{usable, reaches, framedOf, askOf}
 use Rattle.reply.specs.Result.{numberBytes, resultOf}
 use Rattle.reply.specs.Reply.{headOf, finalOf, replyOf}
 use Rattle.reply.proofs.Result.{number-long}
 use Rattle.reply.proofs.Reply.{head-long}
-use Rattle.admin.specs.Command.{askIn, askedList, givenList, Effect, perform}
+use Rattle.admin.specs.Command.{askIn, Effect, perform}
 use Rattle.demands.specs.Statuses.{Row, row, firstOf, namesObject, objectType, objectId, hasFlags, flagBytes, hasKind, kindByte, typeByte, needsGet, memberNamed, objectNamed, memberMade, badField, badList, askedSize, resultSize, rowsAt, rows, Statuses}
 use Rattle.demands.proofs.Respond.{lastAnswer, respond-is}
 
@@ -164,7 +164,7 @@ module _ (c r : List ℕ) (room : ℕ) where
   at-set =
       headed (λ e. rw e) (λ e f. rw (e, f)) λ e f. rw (e, f) (
       looked (objectNamed c r) (λ e. rw e) λ k e. rw e (
-      guard (eqb (kindNumber k) 1) (λ e. rw e) λ e. rw e (
+      guard (isSet k) (λ e. rw e) λ e. rw e (
       moded (memberNamed c r .mode) (λ e. rw e) λ e. rw e (
       guard (isAccepted (causeOf queues (featuresIn (memberNamed c r)) (givenList r))) (λ e. rw e) λ e. rw e (fits [] 0 refl)))))
 
@@ -183,7 +183,7 @@ module _ (c r : List ℕ) (room : ℕ) where
         headed (λ e. rw e) (λ e f. rw (e, f)) λ e f. rw (e, f) (
         guard (leb (typeByte d) 2) (λ e. rw e) λ l. rw l (
         looked (objectNamed c r) (λ e. rw e) λ k e. rw e (
-        guard (eqb (kindNumber k) 0) (λ e. rw e) λ e. rw e (
+        guard (isGet k) (λ e. rw e) λ e. rw e (
         up-to-two (typeByte d) l
         (λ e. rw e (fits (numberBytes (partsSize queues)) 8 (number-long _)))
         (λ e. rw e (fits (numberBytes (partCount queues)) 8 (number-long _)))
@@ -200,11 +200,11 @@ module _ (c r : List ℕ) (room : ℕ) where
         λ o. rw (eqb-true (typeByte d) 1 o) (
         guard (eqb (length d) 16) (λ e. rw e) λ e. rw e (
         looked (objectNamed c r) (λ e. rw e) λ k e. rw e (
-        guard (eqb (kindNumber k) 0) (λ e. rw e) λ e. rw e (
+        guard (isGet k) (λ e. rw e) λ e. rw e (
         fits (captureOf queues (memberNamed c r .values)) _ (capture-length queues _ few long))))))
         λ z. rw (eqb-true (typeByte d) 0 z) (
         looked (objectNamed c r) (λ e. rw e) λ k e. rw e (
-        guard (eqb (kindNumber k) 0) (λ e. rw e) λ e. rw e (
+        guard (isGet k) (λ e. rw e) λ e. rw e (
         guard (askedOf queues (askedList r)) (λ e. rw e) λ e. rw e (
         fits (partsWritten Asked queues (askedList r) (memberNamed c r .values)) _ (asked-length queues (askedList r) _ long))))))
 

@@ -5,7 +5,7 @@ use Prim.Native.Nat.{ℕ, suc}
 use Rattle.theory.specs.Logic.{if_then_else_}
 use Rattle.theory.specs.Machine.{run}
 use Rattle.demands.specs.Calls.{Call, command, memberReset, cardReset, cardStore, step}
-use Rattle.demands.specs.Requests.{request, getAll, setParts}
+use Rattle.frame.specs.Requests.{request, getAll, setParts}
 use Rattle.demands.specs.Examples.{exampleCard, send, useList, setMode, create, destroy, metadata, allUsed, objectsLive}
 use Rattle.demands.specs.Statuses.{Row, rows}
 use Rattle.demands.proofs.Model.{model}

@@ -10,8 +10,7 @@ use Prim.Native.Nat.{ℕ, _+_, _≤_, _<_}
 use lib.ListN.{length, take, drop, replicate}
 use Rattle.theory.specs.Machine.{trace, seen, visible, Swappable}
 use Rattle.protocol.specs.declared.EventAnswer.the-variants.{Done}
-use Rattle.member.specs.Record.{recordSize}
-use Rattle.card.specs.Layout.{inUseAt, setupOf, isMember, recordAt, memberIn}
+use Rattle.card.specs.Layout.{inUseAt, recordSize, setupOf, isMember, recordAt, memberIn}
 use Rattle.card.specs.Sound.{isSound}
 use Rattle.frame.specs.Frame.{opcodeOf, targetOf}
 use Rattle.events.specs.Events.{setupWith, setUp}

@@ -9,7 +9,7 @@ use Rattle.wire.specs.Le.{bytes}
 use Rattle.card.specs.Layout.{cardSize}
 use Rattle.events.specs.Events.{setUp}
 use Rattle.demands.specs.Calls.{Call, command, cardStore, Reply, written, answered, step}
-use Rattle.demands.specs.Requests.{request, objectHeader, getAll, setParts}
+use Rattle.frame.specs.Requests.{request, objectHeader, getAll, setParts}
 
 -- "Setup N=2, Q=1, G=1, S=1, features all zero"
 unfoldable pub exampleCard : List ℕ

@@ -1,5 +1,4 @@
 pub mod Calls
-pub mod Requests
 pub mod Statuses
 pub mod Examples
 pub mod WrongPrograms

@@ -17,7 +17,7 @@ use Rattle.card.specs.Layout.{setupOf, inUseOf, isMember, memberIn}
 use Rattle.card.specs.Sound.{isSound}
 use Rattle.reply.specs.Reply.{headOf}
 use Rattle.admin.specs.Command.{respond}
-use Rattle.demands.specs.Requests.{getAll, setParts}
+use Rattle.frame.specs.Requests.{getAll, setParts}
 
 -- Member m of a sound card c is captured through a live get object i. Member k of a sound card d with the same setup is
 -- stopped and has a live set object j and a live get object l. (d may be c and k may be m.) Parts get, 0x0f, is in use on

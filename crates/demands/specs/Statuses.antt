@@ -9,7 +9,7 @@ use lib.Dec.{leb, ltb, eqb}
 use lib.ListN.{length, getD, take, replicate}
 use Rattle.theory.specs.Logic.{if_then_else_, _and_, _or_, within}
 use Rattle.wire.specs.Le.{bytes, number}
-use Rattle.protocol.specs.Answers.{kindNumber}
+use Rattle.protocol.specs.Answers.{isStopped, isGet, isSet}
 use Rattle.protocol.specs.Opcodes.{supported, bit, namesMember, lengthFits, supportedOnly}
 use Rattle.inventory.specs.Inventory as inventory
 use Rattle.inventory.specs.Inventory.{total, partCount, partsSize}
@@ -18,14 +18,13 @@ use Rattle.capture.specs.Capture.{Asked, asks}
 use Rattle.objects.specs.declared.Found.{Found}
 use Rattle.objects.specs.Objects.{slotFor, onFound}
 use Rattle.member.specs.declared.Member.{Member}
-use Rattle.member.specs.Record.{modeByte}
 use Rattle.member.specs.Objects.{lookupOf, withObject, roomIn}
 use Rattle.member.specs.Member.{featuresIn}
 use Rattle.card.specs.Layout.{setupOf, inUseOf, isMember, memberIn}
 use Rattle.card.specs.Sound.{isSound}
-use Rattle.frame.specs.Frame.{opcodeOf, groupOf, targetOf, dataOf}
+use Rattle.frame.specs.Frame.{opcodeOf, groupOf, targetOf, dataOf, askedList, givenList}
 use Rattle.frame.specs.Fields.{kindIn}
-use Rattle.admin.specs.Command.{askedList, givenList, respond}
+use Rattle.admin.specs.Command.{respond}
 
 -- ---- the first row that applies ----
 
@@ -88,9 +87,11 @@ memberMade c r = withObject (memberNamed c r) (objectId (dataOf r)) (slotFor (ki
 abbrev pub isLive : Found → Bool
 isLive x = onFound x (λ k. true) false
 
--- live, and of this kind: 0 get, 1 set
-abbrev pub isOfKind : ℕ → Found → Bool
-isOfKind n x = onFound x (λ k. eqb (kindNumber k) n) false
+abbrev pub isLiveGet : Found → Bool
+isLiveGet x = onFound x isGet false
+
+abbrev pub isLiveSet : Found → Bool
+isLiveSet x = onFound x isSet false
 
 -- step 7, "a field"; ids is G + S
 unfoldable pub badField : ℕ → ℕ → List ℕ → Bool
@@ -142,8 +143,8 @@ rowsAt c r room op =
     -- "create or modify that would make more than G get or S set objects"
     ∷ row (hasKind op and not (roomIn (setupOf c .gets) (setupOf c .sets) (memberMade c r))) 28 1
     -- "object of the wrong kind for metadata, get or set"
-    ∷ row ((needsGet op and not (isOfKind 0 (objectNamed c r))) or (eqb op 0x10 and not (isOfKind 1 (objectNamed c r)))) 22 3
-    ∷ row (eqb op 0x10 and eqb (modeByte (memberNamed c r .mode)) 0) 11 7  -- 9
+    ∷ row ((needsGet op and not (isLiveGet (objectNamed c r))) or (eqb op 0x10 and not (isLiveSet (objectNamed c r)))) 22 3
+    ∷ row (eqb op 0x10 and not (isStopped (memberNamed c r .mode))) 11 7  -- 9
     ∷ row (badList c r op) 22 3  -- 10
     ∷ row (not (leb (8 + resultSize c r op) room)) 12 6  -- 11
     ∷ []

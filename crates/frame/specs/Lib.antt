@@ -1,3 +1,4 @@
 pub mod Frame
 pub mod Fields
 pub mod Ask
+pub mod Requests

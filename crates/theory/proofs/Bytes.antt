@@ -46,6 +46,14 @@ put-comm zero (v ∷ x) (suc j) y (b ∷ l) h = ap (v ∷_) (put-comm zero x j y
 put-comm (suc i) x zero y (b ∷ l) h = absurd (omega arith)
 put-comm (suc i) x (suc j) y (b ∷ l) h = ap (b ∷_) (put-comm i x j y l (omega arith))
 
+-- to put what is there changes nothing
+pub put-bytesAt : (at n : ℕ) (l : List ℕ) → put at (bytesAt at n l) l ≡ l
+unfolding put
+put-bytesAt at n [] = refl
+put-bytesAt zero zero (b ∷ l) = refl
+put-bytesAt zero (suc n) (b ∷ l) = ap (b ∷_) (put-bytesAt zero n l)
+put-bytesAt (suc at) n (b ∷ l) = ap (b ∷_) (put-bytesAt at n l)
+
 -- past the end nothing is put
 pub put-out : (at : ℕ) (x l : List ℕ) → length l ≤ at → put at x l ≡ l
 unfolding put

@@ -1,4 +1,4 @@
--- Requests as bytes, for the round trip and the worked examples: document 01, "The frame" and "What each command does".
+-- Requests as bytes: document 01, "The frame" and "What each command does".
 -- Assumes nothing.
 use mathlib.Core.List.{List, _∷_, _++_}
 use Prim.Native.Nat.{ℕ}

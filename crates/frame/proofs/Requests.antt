@@ -15,11 +15,11 @@ use Rattle.protocol.specs.Opcodes.{largest, opcodeRows, opcodeRow, supported, l
 use Rattle.protocol.specs.declared.ReadOp.the-variants.{GetAll}
 use Rattle.protocol.specs.declared.ChangeOp.the-variants.{SetParts}
 use Rattle.protocol.specs.declared.Answer.the-variants.{BadOpcode, BadField}
 use Rattle.frame.specs.declared.Ask.the-variants.{Refused, Read, Change}
 use Rattle.frame.specs.Frame.{opcodeOf, groupOf, targetOf}
 use Rattle.frame.specs.Fields.{idOf, objectValid, getIn, setIn, fieldsOf}
 use Rattle.frame.specs.Ask.{usable, reaches, framedOf, askOf}
-use Rattle.demands.specs.Requests.{request, objectHeader, getAll, setParts}
+use Rattle.frame.specs.Requests.{request, objectHeader, getAll, setParts}
 
 -- ---- the frame ----
 
