@@ -104,8 +104,8 @@ fn write_run(
     end
 }
 
-// All parts of a member, at the front of what is lent, as runs: the first row of each, and its rows. They are constants at
-// the call, and so are then the entries of the tables at the first row.
+// All parts of a member, at the front of what is lent, run by run: a run's first row, how many rows it has, and what the
+// tables have at its first row. The rows are written out, since the compiler folds a table that is read at a constant.
 pub fn write_all(out: &mut [u8], values: &[u8], queues: u8)
     requires { ⌜ CaptureFits queues (now values) (now out) ⌝ }
     ensures { λ _. ⌜ now (out .exit) ≡ put 0 (captureOf queues (now (values .entry))) (now (out .entry)) ⌝ }

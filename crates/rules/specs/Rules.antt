@@ -18,14 +18,18 @@ use Rattle.rules.specs.declared.Cause.the-variants.{Accepted, Cut, Unkno
 unfoldable pub known : ℕ → ℕ → ℕ → Bool
 known queues t s = onPlace (placeOf queues t s) (λ i. true) false
 
--- "a part the member has not got lacks the optional bit, or has a type of 0x600 or more"
+-- the optional bit is bit 0 of the flags; no part of the type 0x600 or above is skipped
+abbrev pub isOptional : ℕ → Bool
+isOptional flags = eqb (flags % 2) 1
+
 abbrev pub neverSkipped : ℕ
 neverSkipped = 0x600
 
+-- "a part the member has not got lacks the optional bit, or has a type of 0x600 or more"
 unfoldable pub knownOrSkipped : ℕ → Part → Bool
 knownOrSkipped queues p =
     known queues (p .partType) (p .selector)
-    or (eqb (p .flags % 2) 1 and ltb (p .partType) neverSkipped)
+    or (isOptional (p .flags) and ltb (p .partType) neverSkipped)
 
 -- "a known part has another length than the table's"
 unfoldable pub lengthRight : ℕ → Part → Bool

@@ -1,13 +1,12 @@
 // Step 10, a bad list, given or asked: the rules of one part, and of a list.
 ghost use mathlib.Core.Path.{_≡_};
 ghost use mathlib.Core.Bool.{true, not};
-ghost use Prim.Native.Nat.{_%_};
 ghost use lib.Dec.{eqb, ltb};
 ghost use Rattle.theory.specs.Logic.{_and_, _or_};
 ghost use Rattle.theory.specs.Bytes.{same};
 ghost use Rattle.inventory.specs.Inventory.{rowAt, deviceFeatures, placeOf, onPlace};
 ghost use Rattle.parts.specs.List.{partsOf, partWith};
-ghost use Rattle.rules.specs.Rules.{neverSkipped, known, asksKnown, every, repeated, causeOf, isAccepted, askedOf};
+ghost use Rattle.rules.specs.Rules.{isOptional, neverSkipped, known, asksKnown, every, repeated, causeOf, isAccepted, askedOf};
 ghost use Rattle.rules.specs.ByName.{obeys};
 use inventory::DEVICE_FEATURES;
 use inventory::Place;
@@ -47,9 +46,10 @@ fn is_known(queues: u8, t: u16, selector: u64) -> bool
     }
 }
 
-// Whether the member has got the part, or it is to be skipped.
+// Whether the member has got the part, or it is to be skipped: it has the optional bit, bit 0 of the flags, and its type is
+// low enough.
 fn is_known_or_skipped(queues: u8, t: u16, flags: u8, selector: u64) -> bool
-    ensures { λ r. ⌜ r ≡ known queues t selector or (eqb (flags % 2) 1 and ltb t neverSkipped) ⌝ }
+    ensures { λ r. ⌜ r ≡ known queues t selector or (isOptional flags and ltb t neverSkipped) ⌝ }
 {
     if is_known(queues, t, selector) {
         return true;
