@@ -1,14 +1,31 @@
--- Each row of the status table is the first that applies to some command, and so is success. Assumes nothing.
+-- The hypotheses of the status table can be met, and each of its rows is the first that applies to some command.
+-- Assumes nothing.
 use mathlib.Core.Path.{_≡_, refl}
+use mathlib.Core.Bool.{true}
 use mathlib.Core.List.{List, [], _∷_, _++_, map}
 use Prim.Native.Nat.{ℕ, suc}
+use native.Mathlib.Omega.{arith}
 use Rattle.theory.specs.Logic.{if_then_else_}
 use Rattle.theory.specs.Machine.{run}
+use Rattle.card.specs.Sound.{isSound}
 use Rattle.demands.specs.Calls.{Call, command, memberReset, cardReset, cardStore, step}
 use Rattle.frame.specs.Requests.{request, getAll, setParts}
 use Rattle.demands.specs.Examples.{exampleCard, send, useList, setMode, create, destroy, metadata, allUsed, objectsLive}
-use Rattle.demands.specs.Statuses.{Row, rows}
+use Rattle.demands.specs.Statuses.{Row, firstOf, rows, FirstRowAnswers}
 use Rattle.demands.proofs.Model.{model}
+use Rattle.demands.proofs.Statuses.{statuses}
+
+sound : isSound exampleCard ≡ true
+unfolding model
+sound = refl
+
+-- opcode 0x0a is not in use on a fresh card
+answers : FirstRowAnswers exampleCard (request 0x0a 1 0 []) 8
+answers = statuses exampleCard (request 0x0a 1 0 []) 8 sound (omega arith)
+
+first-row : firstOf (rows exampleCard (request 0x0a 1 0 []) 8) ≡ (22, 2)
+unfolding model
+first-row = refl
 
 -- the place of the first row that applies
 place : List Row → ℕ

@@ -1,6 +1,7 @@
--- WHAT IS CLAIMED OF THE CARD, by demand. Each claim is over the definitions that the contracts of the exported functions cite:
--- setUp, commandOf (a command and its buffer; respond without the buffer), resetMember, resetCard and store. The record Claims at
--- the end lists them all; ../proofs/Claims.antt proves it. Hypotheses that can be met: by which example, each claim says.
+-- WHAT IS CLAIMED OF THE CARD, by demand. Each claim is over the definitions that the contracts of the exported
+-- functions cite: setUp, commandOf (a command with its buffer; respond is the same without it), resetMember, resetCard
+-- and store. The record Claims at the end lists all of them, and ../proofs/Claims.antt proves it. A claim with
+-- hypotheses says which example meets them; where no file is named it is in ../proofs/ClaimsExample.antt.
 -- Assumes nothing.
 use mathlib.Core.Path.{_≡_}
 use mathlib.Core.Logic.{_≢_}
@@ -21,8 +22,7 @@ use Rattle.demands.specs.Examples.{ExamplesHold}
 use Rattle.demands.specs.WrongPrograms.{WrongProgramsRejected}
 use Rattle.demands.specs.RoundTrip.{RoundTrip}
 
--- "Every call on a sound card leaves a sound card". Example: sound-card in ../proofs/ClaimsExample.antt, as for every claim that
--- names no other file
+-- "Every call on a sound card leaves a sound card". Example: sound-card
 abbrev pub StaysSound : Type 0
 StaysSound = (c : List ℕ) (x : Call) → isSound c ≡ true → isSound (step c x .0) ≡ true
 
@@ -34,8 +34,8 @@ pub record NotWritten : Type 0 where
   pub shortBuffer : (c r b : List ℕ) → length b < 8 → commandOf c r b ≡ (0, (c, b))
   pub unsoundCard : (c r b : List ℕ) → isSound c ≡ false → commandOf c r b ≡ (0, (c, b))
 
--- What a command leaves is the card and the reply that `respond` gives for the buffer's length: the reply lies within the buffer,
--- as many bytes as are reported, and "bytes of the reply buffer past those written keep their values"
+-- What a command leaves is the card and the reply that `respond` gives for the buffer's length: the reply lies within
+-- the buffer, as many bytes as are reported, and "bytes of the reply buffer past those written keep their values"
 pub record Delivers (c r b : List ℕ) : Type 0 where
   pub card : commandOf c r b .1 .0 ≡ respond c r (length b) .0
   pub reported : commandOf c r b .0 ≡ length (respond c r (length b) .1)
@@ -49,8 +49,8 @@ Delivered = (c r b : List ℕ) → Delivers c r b
 abbrev pub RefusalsChangeNothing : Type 0
 RefusalsChangeNothing = (c : List ℕ) (x : Call) → refused (step c x .1) ≡ true → step c x .0 ≡ c
 
--- Setup, done, gives a sound card of this setup; "refused, it gives a card of zeros, which is not sound", as long as the buffer.
--- Examples: setup-done, setup-refused
+-- Setup, done, gives a sound card of this setup; "refused, it gives a card of zeros, which is not sound", as long as
+-- the buffer. Examples: setup-done, setup-refused
 pub record SetsUp : Type 0 where
   pub done : (b : List ℕ) (n q g s : ℕ) (f : List ℕ) → setUp b n q g s f .0 ≡ Done
       → (isSound (setUp b n q g s f .1) ≡ true) × (setupOf (setUp b n q g s f .1) ≡ setupWith n q g s f)
@@ -60,9 +60,10 @@ pub record SetsUp : Type 0 where
 
 -- ---- DEMAND 2 ----
 
--- Which status a command gets: Statuses.antt, example ../proofs/StatusesExample.antt. The worked examples B1 to B12:
--- Examples.antt. The programs that 01 wants rejected fail them: WrongPrograms.antt, example ../proofs/WrongProgramsExample.antt.
--- The round trip: RoundTrip.antt, example ../proofs/RoundTripExample.antt
+-- Which status a command gets: Statuses.antt. Example: ../proofs/StatusesExample.antt
+-- The worked examples B1 to B12: Examples.antt
+-- The programs that 01 wants rejected fail them: WrongPrograms.antt. Example: ../proofs/WrongProgramsExample.antt
+-- The round trip: RoundTrip.antt. Example: ../proofs/RoundTripExample.antt
 
 -- ---- DEMAND 3 ----
 
@@ -75,8 +76,8 @@ pub record SameOutside (at size : ℕ) (c d : List ℕ) : Type 0 where
 abbrev pub DifferAtMost : ℕ → List ℕ → List ℕ → Type 0
 DifferAtMost m c d = SameOutside (recordAt m) recordSize c d
 
--- Two sound cards differ in member m's record at most. Two sequences of calls, p₁ then r then t on the one and p₂ then r
--- then t on the other: r resets m, t is any, and p₁ and p₂ are the same once every call that names m is struck out of
+-- Two sound cards differ in member m's record at most. Two sequences of calls, p₁ then r then t on the one and p₂ then
+-- r then t on the other: r resets m, t is any, and p₁ and p₂ are the same once every call that names m is struck out of
 -- both. Then the replies, one by one, to all calls before r that do not name m are the same on both cards, and so are
 -- the reply to r and to every call after it, and the whole card after r and after each later call. Example:
 -- ../proofs/IsolationExample.antt
@@ -90,7 +91,8 @@ Isolation =
 
 -- Integrity, beside isolation, on any card: what a call leaves alone. Examples: names-member, uses-list, sets-parts
 pub record Integrity : Type 0 where
-  -- one that names m, and a reset of m, changes m's record at most: the setup, the list in use and every other record stay
+  -- one that names m, and a reset of m, changes m's record at most: the setup, the list in use and every other record
+  -- stay
   pub named : (c : List ℕ) (m : ℕ) (x : Call) → names m x ≡ true → DifferAtMost m (step c x .0) c
   pub reset : (c : List ℕ) (m : ℕ) → DifferAtMost m (step c (memberReset m) .0) c
   -- list use changes the list in use alone
@@ -102,9 +104,9 @@ pub record Integrity : Type 0 where
 
 -- ---- REQUEST 12 of document 02: calls for different members, in any order ----
 
--- In any sequence of calls on any card, p, then x and y, then t, where x and y name different members: x and y can change places.
--- Each keeps its own reply, all other replies are the same one by one, and so is the card at the end, byte for byte. Replies
--- of any length, refused calls included. Example: ../proofs/CommutationExample.antt
+-- In any sequence of calls on any card, p, then x and y, then t, where x and y name different members: x and y can
+-- change places. Each keeps its own reply, all other replies are the same one by one, and so is the card at the end,
+-- byte for byte. Replies of any length, refused calls included. Example: ../proofs/CommutationExample.antt
 abbrev pub Commutation : Type 0
 Commutation =
     (c : List ℕ) (m k : ℕ) → m ≢ k → (x y : Call) → names m x ≡ true → names k y ≡ true

@@ -1,5 +1,5 @@
--- THE WORKED EXAMPLES of document 01, "Shown on the bench", in its order, as one table. Each has the calls that lead to it,
--- the calls that it is about, and their replies. Assumes nothing.
+-- THE WORKED EXAMPLES of document 01, "Shown on the bench", in its order, as one table. Each has the calls that lead to
+-- it, the calls that it is about, and their replies. Assumes nothing.
 use mathlib.Core.Path.{_≡_}
 use mathlib.Core.List.{List, [], _∷_, _++_, map}
 use Prim.Native.Nat.{ℕ}

@@ -1,6 +1,5 @@
--- DEMAND 2: "A full capture of one member, set in a stopped member of a sound card with the same setup, through a live set object,
--- is accepted, and a capture there through a live get object gives the same bytes, if these commands are in use and the buffers are
--- long enough." Assumes nothing.
+-- DEMAND 2, the round trip: a full capture of one member can be set in another, and a capture there gives the same bytes.
+-- Assumes nothing.
 use mathlib.Core.Path.{_≡_}
 use mathlib.Core.Bool.{true}
 use mathlib.Core.List.{List}
@@ -20,8 +19,8 @@ use Rattle.admin.specs.Command.{respond}
 use Rattle.frame.specs.Requests.{getAll, setParts}
 
 -- Member m of a sound card c is captured through a live get object i. Member k of a sound card d with the same setup is
--- stopped and has a live set object j and a live get object l. (d may be c and k may be m.) Parts get, 0x0f, is in use on
--- both cards, and parts set, 0x10, where the capture is set.
+-- stopped and has a live set object j and a live get object l. (d may be c and k may be m.) Parts get, 0x0f, is in use
+-- on both cards, and parts set, 0x10, where the capture is set.
 pub record Restorable (c : List ℕ) (m i : ℕ) (d : List ℕ) (k j l : ℕ) : Type 0 where
   pub soundSource : isSound c ≡ true
   pub soundTarget : isSound d ≡ true

@@ -1,6 +1,6 @@
--- THE STATUS TABLE of document 01, "Statuses, and which comes first", steps 2 to 12, as one list of rows in its order, and the
--- claim that each status is given exactly when its row is the first that applies. The rows read the bytes of the request and the
--- card, and not what the decoder makes of them. Assumes nothing.
+-- THE STATUS TABLE of document 01, "Statuses, and which comes first", steps 2 to 12, as one list of rows in its order,
+-- and the claim that each status is given exactly when its row is the first that applies. The rows read the bytes of
+-- the request and the card, and not what the decoder makes of them. Assumes nothing.
 use mathlib.Core.Path.{_≡_}
 use mathlib.Core.Bool.{Bool, true, false, not}
 use mathlib.Core.List.{List, [], _∷_, _++_, map}
@@ -152,8 +152,8 @@ rowsAt c r room op =
 abbrev pub rows : List ℕ → List ℕ → ℕ → List Row
 rows c r room = rowsAt c r room (opcodeOf r)
 
--- Past step 1, which the two hypotheses rule out: the reply starts with the status and the qualifier of the first row that
--- applies and four zero bytes. "A refusal's reply is exactly 8 bytes"; a success adds the result
+-- Past step 1, which the two hypotheses rule out: the reply starts with the status and the qualifier of the first row
+-- that applies and four zero bytes. "A refusal's reply is exactly 8 bytes"; a success adds the result
 pub record FirstRowAnswers (c r : List ℕ) (room : ℕ) : Type 0 where
   pub head : take 8 (respond c r room .1)
       ≡ bytes 2 (firstOf (rows c r room) .0) ++ (bytes 2 (firstOf (rows c r room) .1) ++ replicate 4 0)

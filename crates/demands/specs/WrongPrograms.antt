@@ -1,5 +1,6 @@
--- THE WRONG PROGRAMS that document 01 wants rejected, "What the contracts have to nail down", each as a kind of machine: whatever
--- its states are and whatever else it does, it fails the worked examples that 01 names. Assumes nothing.
+-- THE WRONG PROGRAMS that document 01 wants rejected, "What the contracts have to nail down", each as a kind of
+-- machine: whatever its states are and whatever else it does, it fails the worked examples that 01 names. Assumes
+-- nothing.
 use mathlib.Core.Path.{_≡_}
 use mathlib.Core.Logic.{_≢_}
 use mathlib.Core.Bool.{true}
@@ -24,7 +25,8 @@ module _ {State : Type 0} (machine : State → Call → State × Reply) (start :
     -- "one with a single fixed reply (B1 against B2)"
     pub fixedReply : (x : Reply) → ((s : State) (r : List ℕ) (room : ℕ) → machine s (command r room) .1 ≡ x)
         → Passes 1 → Passes 2 → ⊥
-    -- "one that never changes the card (B5, B7)"
+    -- "one that never changes the card (B5, B7)": B5 catches every one, B7 the card with its changes left out, which is
+    -- unchanging in ../proofs/WrongProgramsExample.antt
     pub neverChanges : ((s : State) (r : List ℕ) (room : ℕ) → machine s (command r room) .0 ≡ s) → Passes 5 → ⊥
     -- "one that obeys the first command only (B7, after B5)"
     pub firstOnly : ((s : State) (q r : List ℕ) (i j : ℕ) → refused (machine (machine s (command q i) .0) (command r j) .1) ≡ true)

@@ -1,4 +1,4 @@
--- A machine that takes calls one by one, a run of it, what an observer sees of the run, and when two neighbouring calls of it
+-- A machine that takes calls one by one, a run of it, what an observer sees of the run, and when two neighbouring calls
 -- can change places. Nothing here knows what the machine is. Assumes nothing.
 use mathlib.Core.Path.{_≡_}
 use mathlib.Core.Bool.{Bool}
@@ -58,8 +58,8 @@ swapAt zero (a ∷ []) = a ∷ []
 swapAt zero (a ∷ b ∷ l) = b ∷ a ∷ l
 swapAt (suc n) (a ∷ l) = a ∷ swapAt n l
 
--- In a run of p, then x and y, then t, the two can change places: each keeps its own reply, all other replies are the same
--- one by one, and so is the state at the end
+-- In a run of p, then x and y, then t, the two can change places: each keeps its own reply, all other replies are the
+-- same one by one, and so is the state at the end
 pub record Swappable {State Call Reply : Type 0} (step : State → Call → State × Reply) (s : State)
     (p : List Call) (x y : Call) (t : List Call) : Type 0 where
   pub sameReplies : replies step s (p ++ y ∷ x ∷ t) ≡ swapAt (length p) (replies step s (p ++ x ∷ y ∷ t))
