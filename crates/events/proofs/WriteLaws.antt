@@ -1,12 +1,10 @@
--- What setup writes: zeros, or a fresh card. Assumes nothing.
+-- What setup and a reset of the card write: a fresh card. Assumes nothing.
 use mathlib.Core.Path.{_≡_, refl, sym, _∙_}
 use mathlib.Core.List.{List, [], _∷_, _++_}
 use Prim.Native.Nat.{ℕ, _+_, _*_, _-_, _≤_, _<_}
 use native.Mathlib.Nat.{sub-zero}
 use native.Mathlib.Omega.{arith}
-use native.Mathlib.Numerals.{add-one}
-use lib.ListN.{length, take, set, replicate, length-append, replicate-append-replicate}
-use lib.Seq.{take-suc-set, take-all}
+use lib.ListN.{length, length-append}
 use Rattle.theory.specs.Bytes.{put, repeat}
 use Rattle.theory.proofs.Bytes.{put-append, put-nil, put-all, repeat-step, repeat-end}
 use Rattle.wire.specs.Le.{bytes}
@@ -16,16 +14,6 @@ use Rattle.member.specs.Member.{featuresSize}
 use Rattle.card.specs.declared.Setup.{Setup}
 use Rattle.card.specs.Layout.{featuresAt, inUseAt, cardHeaderSize, recordSize, cardSize, recordAt, HasRecord, withFresh, freshRecord, freshHeader, freshCard}
 use Rattle.card.proofs.LayoutLaws.{length-with-fresh, fresh-record-long, fresh-put, length-fresh}
-
--- ---- every byte 0 ----
-
--- the first i bytes of d are 0
-module _ (d : List ℕ) (i : ℕ) (e : take i d ≡ replicate i 0) where
-  pub clears-on : i < length d → take (i + 1) (set d i 0) ≡ replicate (i + 1) 0
-  clears-on h = rw (add-one, take-suc-set d i 0 h, e, replicate-append-replicate {A = ℕ} i 1 0, add-one)
-
-  pub cleared : (n : ℕ) → i ≤ n → length d ≤ i → length d ≡ n → d ≡ replicate n 0
-  cleared n l h k = let j : i ≡ n = omega arith in sym (take-all i d (omega arith)) ∙ e ∙ rw j
 
 -- ---- a fresh card ----
 

@@ -2,7 +2,7 @@
 ghost use mathlib.Core.Path.{_≡_};
 ghost use Prim.Native.Nat.{_≤_};
 ghost use lib.Dec.{eqb};
-ghost use lib.ListN.{length, replicate};
+ghost use lib.ListN.{length};
 ghost use Rattle.theory.specs.Logic.{_and_};
 ghost use Rattle.theory.specs.Bytes.{put, repeat};
 ghost use Rattle.member.specs.Member.{featuresSize};
@@ -17,17 +17,6 @@ use protocol::EventAnswer;
 use protocol::FRESH_MASK;
 
 // ---- setup ----
-
-// A buffer of zeros, which is no sound card.
-fn clear(card: &mut [u8])
-    ensures { λ _. ⌜ now (card .exit) ≡ replicate (length (now (card .entry))) 0 ⌝ }
-{
-    let mut i = 0;
-    while i < card.len() {
-        card[i] = 0;
-        i += 1;
-    }
-}
 
 // The header of a fresh card.
 fn write_header(card: &mut [u8], s: Setup)
@@ -104,7 +93,7 @@ pub fn set_up(
     ensures { λ r. ⌜ (r, now (card .exit)) ≡ setUp (now (card .entry)) members queues gets sets (now (features .entry)) ⌝ }
 {
     if !is_setup(members, queues, gets, sets, features.len(), card.len()) {
-        clear(card);
+        wire::zero(card);
         return EventAnswer::BadSetup;
     }
     let made = setup_from(members, queues, gets, sets, features);
