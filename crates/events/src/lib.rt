@@ -125,8 +125,8 @@ pub fn reset_member(card: &mut [u8], m: u64) -> EventAnswer
         return a;
     }
     let s = card::setup_of(card);
-    let features = s.features;
-    card::reset_record(card, m, features);
+    let fresh = s.features;
+    card::reset_record(card, m, fresh);
     EventAnswer::Done
 }
 
