@@ -179,26 +179,26 @@ padded-cut (b ∷ d) (suc n) (suc k) h l =
     rw e (ap (b ∷_) (padded-cut d n k (omega arith) (omega arith)))
 
 -- the padded data is long enough to be cut to the fixed fields
-pub fixed-inside : (op n k : ℕ) → supported op ≡ true → n ≡ fixedSize op → k ≡ longestFixed → n ≤ k
-fixed-inside op n k s e l = omega (arith, fixed-longest op s)
+pub fixed-inside : (op n k : ℕ) → n ≡ fixedSize op → k ≡ longestFixed → n ≤ k
+fixed-inside op n k e l = omega (arith, fixed-longest op)
 
 -- n bytes of the padded data where the data is short, else the data
-module _ (op n : ℕ) (d padded whole : List ℕ) (s : supported op ≡ true) (e : n ≡ fixedSize op)
+module _ (op n : ℕ) (d padded whole : List ℕ) (e : n ≡ fixedSize op)
     (q : whole ≡ (if leb n (length d) then d else take (n - 0) (drop 0 padded))) where
   pub whole-long : length padded ≡ longestFixed → fixedSize op ≤ length whole
   unfolding if_then_else_
   whole-long l =
-      let most = fixed-longest op s in
+      let most = fixed-longest op in
       by-cases (leb n (length d))
       (λ t. rw (q, t) (omega tests))
       (λ t. rw (q, t, sub-zero, length-bytesAt 0 n padded (omega arith)) (omega arith))
 
   pub whole-read : (ids m : ℕ) (x : Ask)
       → padded ≡ (if leb n (length d) then replicate longestFixed 0 else put 0 d (replicate longestFixed 0))
-      → x ≡ fieldsOf ids m op whole → x ≡ fieldsOf ids m op d
+      → x ≡ fieldsOf ids m op whole → supported op ≡ true → x ≡ fieldsOf ids m op d
   unfolding if_then_else_
-  whole-read ids m x w r =
-      let most = fixed-longest op s in
+  whole-read ids m x w r s =
+      let most = fixed-longest op in
       by-cases (leb n (length d))
       (λ t. r ∙ rw (q, t))
       (λ t. r ∙ rw (q, w, t, sub-zero, padded-cut d n longestFixed (omega tests) (omega arith))
