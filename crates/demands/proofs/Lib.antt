@@ -5,6 +5,7 @@ pub mod WrongPrograms
 pub mod WrongProgramsExample
 pub mod Respond
 pub mod Named
+pub mod AnyLength
 pub mod Sound
 pub mod Refusals
 pub mod Demand1
