@@ -1,9 +1,11 @@
 pub mod Model
 pub mod Examples
+pub mod LengthExamples
 pub mod WrongPrograms
 pub mod WrongProgramsExample
 pub mod Respond
 pub mod Named
+pub mod AnyLength
 pub mod Sound
 pub mod Refusals
 pub mod Demand1
