@@ -128,17 +128,28 @@ enum {
 #define KAJURNAT_REPLY_BYTES_MAX \
     (KAJURNAT_REPLY_HEAD_BYTES + KAJURNAT_CAPTURE_BYTES(KAJURNAT_QUEUES_MAX))
 
-/* Opcodes, with the length of the data and of the result. */
+/*
+ * Opcodes, with the length of the fixed fields of the data, what follows them,
+ * and the length of the result.
+ *
+ * Data may have any length. Bytes of the fixed fields that are missing read as
+ * zero, each for itself: an id of which one byte came has three zero bytes
+ * more. So without data mode set resumes, and list use blocks every command
+ * until kajurnat_reset_card(). Bytes past the fixed fields are
+ *   - bits of opcodes from 64 on, in list use: zero, or the mask is refused;
+ *   - a list of headers or of parts, in parts get and parts set;
+ *   - ignored, in every other command.
+ */
 enum {
-    KAJURNAT_CMD_LIST_QUERY = 0x00,             /* 0; mask of opcodes, 8 */
-    KAJURNAT_CMD_LIST_USE = 0x01,               /* mask of opcodes, 8; 0 */
+    KAJURNAT_CMD_LIST_QUERY = 0x00,             /*  0; mask of opcodes, 8 */
+    KAJURNAT_CMD_LIST_USE = 0x01,               /*  8, mask of opcodes; 0 */
     KAJURNAT_CMD_RESOURCE_OBJ_CREATE = 0x0a,    /* 24; 0 */
     KAJURNAT_CMD_RESOURCE_OBJ_MODIFY = 0x0b,    /* 24; 0 */
     KAJURNAT_CMD_RESOURCE_OBJ_QUERY = 0x0c,     /* 16; 8 */
     KAJURNAT_CMD_RESOURCE_OBJ_DESTROY = 0x0d,   /*  8; 0 */
     KAJURNAT_CMD_DEV_PARTS_METADATA_GET = 0x0e, /* 16; 8 (+ 16 a part) */
-    KAJURNAT_CMD_DEV_PARTS_GET = 0x0f,          /* 16 (+ 16 a part); parts */
-    KAJURNAT_CMD_DEV_PARTS_SET = 0x10,          /*  8 + parts; 0 */
+    KAJURNAT_CMD_DEV_PARTS_GET = 0x0f,          /* 16, headers; parts */
+    KAJURNAT_CMD_DEV_PARTS_SET = 0x10,          /*  8, parts; 0 */
     KAJURNAT_CMD_DEV_MODE_SET = 0x11            /*  1; 0 */
 };
 
@@ -170,7 +181,8 @@ enum {
 
 /*
  * The order of refusals. The first row that applies answers, and the card
- * stays as it was; if none applies, the command succeeds.
+ * stays as it was; if none applies, the command succeeds. The rows have the
+ * numbers of the specification's steps; there is no row 6.
  *
  *    1  (0 bytes written)       the card is not sound, or the reply buffer is
  *                               under 8 bytes
@@ -178,13 +190,13 @@ enum {
  *    3  EINVAL INVALID_GROUP    the group type is not KAJURNAT_GROUP_SRIOV
  *    4  EINVAL INVALID_OPCODE   the opcode is not supported, or not in use
  *    5  EINVAL INVALID_MEMBER   0x0a to 0x11: there is no such member
- *    6  EINVAL INVALID_COMMAND  the data is not of the command's length
  *    7  EINVAL INVALID_FIELD    a mask bit that is not supported, an object
  *                               type other than KAJURNAT_OBJ_DEV_PARTS, an id
  *                               of gets + sets or more, flags that are not
  *                               zero, a kind, a metadata or a get byte out of
- *                               range, one of the mode bits 1 to 7, headers
- *                               with KAJURNAT_PARTS_ALL
+ *                               range, one of the mode bits 1 to 7, a byte
+ *                               past the fixed fields with
+ *                               KAJURNAT_PARTS_ALL
  *    8  EEXIST INVALID_COMMAND  create: the id is live
  *       ENXIO  INVALID_COMMAND  0x0b to 0x10: the id is not live
  *       ENOSPC INVALID_COMMAND  create, modify: there would be more than gets
@@ -283,7 +295,7 @@ enum {
  * A value is kept and given back whole, its reserved bytes too.
  *
  * A list of parts is taken whole or not at all. It is bad if
- *   - a header or a value runs past its end;
+ *   - a header or a value runs past its end, also a header that is asked for;
  *   - it has a part that the member does not have. Parts set skips such a part
  *     if it has KAJURNAT_PART_F_OPTIONAL and a type below 0x600;
  *   - a value to set is not of the part's length;

@@ -1,7 +1,7 @@
 /*
  * What kajurnat.h says, tried from C: the worked examples, a refusal for each
- * row of the header's order that also meets later rows, NULL with length 0,
- * soundness and version.
+ * row of the header's order that also meets later rows, data of other lengths,
+ * NULL with length 0, soundness and version.
  */
 #include "common.h"
 #include "kajurnat.h"
@@ -85,7 +85,6 @@ static const struct row rows[] = {
     {"row 3", 0xffff, 2, 0, DATA(1), 8, EINVAL(GROUP), 8},
     {"row 4", 0xffff, 1, 0, DATA(1), 8, EINVAL(OPCODE), 8},
     {"row 5", SET, 1, 0, DATA(1), 8, EINVAL(MEMBER), 8},
-    {"row 6", SET, 1, 1, DATA(1), 8, EINVAL(COMMAND), 8},
     {"row 7", SET, 1, 1, DATA(0, 0, 0, 0, 9, 0, 0, 0, 1), 8, EINVAL(FIELD), 8},
     {"row 8, wrong kind", SET, 1, 1, DATA(GET_OBJECT, 1), 8, EINVAL(FIELD), 8},
     {"row 9", SET, 1, 1, DATA(SET_OBJECT, 1), 8, EAGAIN, 8},
@@ -100,6 +99,22 @@ static const struct row rows[] = {
     {"B12", GET, 1, 1, DATA(GET_OBJECT, 1, ZERO_7), 237, OK, 237},
     {"set", SET, 1, 1, DATA(SET_OBJECT, DRIVER_FEATURES), ROOM, OK, 8},
     {"empty", SET, 1, 1, DATA(SET_OBJECT), ROOM, OK, 8},
+
+    {"ignored", LIST_QUERY, 1, 0, DATA(1), ROOM, OK, 16},
+    {"ignored", DESTROY, 1, 1, DATA(SET_OBJECT, 1), ROOM, OK, 8},
+    {"cut", CREATE, 1, 1, DATA(SET_OBJECT, ZERO_8, 1), ROOM, OK, 8},
+    {"cut id", QUERY, 1, 1, DATA(0, 0, 0, 0, 1), ROOM, OK, 16},
+    {"no id", CREATE, 1, 1, NO_DATA, ROOM, EEXIST, 8},
+    {"get-all, a byte more", GET, 1, 1, DATA(GET_OBJECT, 1, ZERO_8), ROOM,
+     EINVAL(FIELD), 8},
+    {"half a header", GET, 1, 1, DATA(GET_OBJECT, ZERO_8, 0x03, 0x01), ROOM,
+     EINVAL(FIELD), 8},
+    {"no mode", MODE, 1, 1, NO_DATA, ROOM, OK, 8},
+    {"resumed", SET, 1, 1, DATA(SET_OBJECT), ROOM, EAGAIN, 8},
+    {"bit 64", LIST_USE, 1, 0, DATA(ZERO_8, 1), ROOM, EINVAL(FIELD), 8},
+    {"zero past bit 63", LIST_USE, 1, 0, DATA(0x03, ZERO_8), ROOM, OK, 8},
+    {"no mask", LIST_USE, 1, 0, NO_DATA, ROOM, OK, 8},
+    {"blocked", LIST_USE, 1, 0, DATA(0x03), ROOM, EINVAL(OPCODE), 8},
 };
 
 static uint8_t card[KAJURNAT_CARD_BYTES(MEMBERS)];

@@ -1,7 +1,6 @@
 //! Lengths past 32 bits, which random sequences do not reach: the archive
 //! beside the plain card, with buffers of 4 GiB and a valid length.
 
-use compare::device::is_sound;
 use compare::memory::Huge;
 use compare::request::{object_and_type, request};
 use kajurnat::raw;
@@ -94,7 +93,7 @@ fn a_card_is_not_sound() {
     assert_eq!(raw::reset_member(card, 1), 9);
     assert_eq!(raw::reset_card(card), 9);
     assert_eq!(raw::store(card, 1, 0x101, 0, &[7; 16]), 9);
-    assert_eq!((is_sound(card), exported::is_sound(card)), (0, 0));
+    assert_eq!((raw::is_sound(card), exported::is_sound(card)), (0, 0));
     assert_eq!(reply, [7; 600]);
     assert_eq!(card[..length], self::card());
 }

@@ -80,7 +80,7 @@ impl Device for Archive {
     }
 
     fn is_sound(&mut self) -> u8 {
-        is_sound(self.card.bytes())
+        raw::is_sound(self.card.bytes())
     }
 
     fn violations(&mut self) -> Vec<String> {
@@ -88,14 +88,4 @@ impl Device for Archive {
         violations.extend(self.card.violations("card"));
         violations
     }
-}
-
-/// What the archive answers if asked whether the bytes are a sound card.
-#[allow(unsafe_code)]
-pub fn is_sound(card: &[u8]) -> u8 {
-    extern "C" {
-        fn kajurnat_is_sound(card: *const u8, card_len: usize) -> u8;
-    }
-    // SAFETY: pointer and length are those of one slice, which is borrowed.
-    unsafe { kajurnat_is_sound(card.as_ptr(), card.len()) }
 }

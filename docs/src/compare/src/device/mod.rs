@@ -3,7 +3,7 @@
 mod archive;
 mod plain;
 
-pub use archive::{is_sound, Archive, Lending, Misuse};
+pub use archive::{Archive, Lending, Misuse};
 pub use plain::Plain;
 
 use crate::call::Call;

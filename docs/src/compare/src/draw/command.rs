@@ -16,12 +16,16 @@ use crate::request::{
 /// Room for any reply.
 const LARGE: usize = 480;
 
-/// A command: a good request, spoiled at no, one or a few places.
+/// A command: a good request, its data of another length now and then, spoiled
+/// at no, one or a few places.
 pub fn command(random: &mut Random, card: &Card, favoured: Favoured) -> Call {
     let mut request = match random.chance(1) {
         true => any_request(random),
         false => good(random, card, favoured),
     };
+    if random.chance(15) {
+        length::other_data(random, &mut request);
+    }
     for _ in 0..random.weighted(&[66, 20, 9, 5]) {
         spoil::spoil(random, card, favoured, &mut request);
     }

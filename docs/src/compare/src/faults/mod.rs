@@ -9,6 +9,7 @@
 // Changes of a request or card all have one type, whether they grow it or not.
 #![allow(clippy::ptr_arg)]
 
+mod data;
 mod events;
 mod exchange;
 mod frame;
@@ -94,6 +95,8 @@ pub struct Memory {
     obeyed: bool,
     /// The member that was named last.
     named: Option<u64>,
+    /// Whether the last mode set with data stops.
+    stopped: bool,
 }
 
 /// The plain card, with a fault or without.
@@ -218,6 +221,7 @@ pub fn all() -> Vec<&'static Fault> {
         programs::FAULTS,
         order::FAULTS,
         frame::FAULTS,
+        data::FAULTS,
         length::FAULTS,
         objects::FAULTS,
         parts::FAULTS,

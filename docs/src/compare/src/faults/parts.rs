@@ -37,7 +37,6 @@ pub const FAULTS: &[Fault] = &[
     fault("parts: short value filled up", Plant::Mishear(value_filled)),
     fault("parts: set while running", Plant::Leave(set_running)),
     fault("parts: asked order kept", Plant::Leave(asked_order)),
-    fault("parts: headers with get-all ignored", Plant::Mishear(headers_ignored)),
     fault("parts: queues beyond Q told", Plant::Leave(queues_beyond)),
     breaking(&[Property::RoundTrip], "parts: end of a queue not set", Plant::Leave(queue_cut)),
     breaking(&[Property::RoundTrip], "parts: features refused", Plant::Refuse(features_refused)),
@@ -202,14 +201,6 @@ fn asked_order(outcome: &mut Outcome) {
         let parts: Vec<u8> =
             names.flat_map(|name| crate::request::part(name, values.get(name))).collect();
         outcome.reply[8..8 + parts.len()].copy_from_slice(&parts);
-    }
-}
-
-fn headers_ignored(card: &Card, request: &mut Vec<u8>) {
-    let mut shorter = request.clone();
-    shorter.truncate(40);
-    if matches!(operation(card, &shorter), Some((_, Operation::GetAll(_)))) {
-        *request = shorter;
     }
 }
 
