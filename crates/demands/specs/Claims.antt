@@ -120,7 +120,7 @@ RestIsIgnored =
     (c r x : List ℕ) (room : ℕ) → 24 + fixedSize (opcodeOf r) ≤ length r → opcodeRow (opcodeOf r) .listed ≡ false
     → length r + length x ≤ 4096 → respond c (r ++ x) room ≡ respond c r room
 
--- The worked examples L1 to L13: Lengths.antt
+-- The worked examples L1 to L15: Lengths.antt
 
 -- ---- REQUEST 12 of document 02: calls for different members, in any order ----
 
