@@ -6,7 +6,7 @@ use Rattle.demands.proofs.Refusals.{refusals-change-nothing}
 use Rattle.demands.proofs.Statuses.{statuses}
 use Rattle.demands.proofs.Examples.{examples-hold}
 use Rattle.demands.proofs.LengthExamples.{length-examples-hold}
-use Rattle.demands.proofs.AnyLength.{any-length}
+use Rattle.demands.proofs.AnyLength.{missing-is-zero, rest-is-ignored}
 use Rattle.demands.proofs.WrongPrograms.{wrong-programs-rejected}
 use Rattle.demands.proofs.RoundTrip.{round-trip}
 use Rattle.demands.proofs.Isolation.{isolation}
@@ -26,7 +26,8 @@ claims = record {
   roundTrip = round-trip;
   isolation = isolation;
   integrity = integrity;
-  anyLength = any-length;
+  missingIsZero = missing-is-zero;
+  restIsIgnored = rest-is-ignored;
   lengthExamples = length-examples-hold;
   commutation = commutation;
   commandsCommute = commands-commute;
