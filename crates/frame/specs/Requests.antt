@@ -1,5 +1,4 @@
--- Requests as bytes: document 01, "The frame" and "What each command does".
--- Assumes nothing.
+-- Requests as bytes: SPEC 3.2, 4.9 and 4.10. Assumes nothing.
 use mathlib.Core.List.{List, _∷_, _++_}
 use Prim.Native.Nat.{ℕ}
 use lib.ListN.{replicate}

@@ -1,6 +1,6 @@
-// The worked examples of document 01, B1 to B12 and the metadata list, and those of requests of any length (02, request 2),
-// L1 to L7, through the exported library: each reply in hexadecimal under its name. Setup: two members, one queue, one get
-// and one set object each, features all zero.
+// The worked examples of SPEC 10, B1 to B12 and the metadata list, and L1 to L7 of requests of any length, through the
+// exported library: each reply in hexadecimal under its name. Setup: two members, one queue, one get and one set object
+// each, features all zero.
 use transcript::GET;
 use transcript::Request;
 use transcript::SET;
