@@ -22,7 +22,7 @@ sent op m id place x = record { opcode = op; member = m; id = id; place = place;
 
 -- "The member field of these two is not read": zero. Kind, type and mode are the last field that is read, and so is the
 -- mask; a command that has none of them ends in the object header, or in the flags, which are 0
-abbrev pub sentOf : Command → Sent
+unfoldable pub sentOf : Command → Sent
 sentOf ListQuery = sent 0x00 0 0 0 0
 sentOf (ListUse mask) = sent 0x01 0 0 0 mask
 sentOf (Create m id kind) = sent 0x0a m id kindAt kind

@@ -73,16 +73,76 @@ fn sent_of(command: Command) -> Sent
     ensures { λ r. ⌜ r ≡ sentOf command ⌝ }
 {
     match command {
-        Command::ListQuery => Sent { opcode: 0x00, member: 0, id: 0, place: 0, value: 0 },
-        Command::ListUse(mask) => Sent { opcode: 0x01, member: 0, id: 0, place: 0, value: mask },
-        Command::Create(m, id, kind) => Sent { opcode: 0x0a, member: m, id: id, place: KIND_AT, value: kind as u64 },
-        Command::Modify(m, id, kind) => Sent { opcode: 0x0b, member: m, id: id, place: KIND_AT, value: kind as u64 },
-        Command::Query(m, id) => Sent { opcode: 0x0c, member: m, id: id, place: TYPE_AT, value: 0 },
-        Command::Destroy(m, id) => Sent { opcode: 0x0d, member: m, id: id, place: TYPE_AT, value: 0 },
-        Command::Metadata(m, id, what) => Sent { opcode: 0x0e, member: m, id: id, place: TYPE_AT, value: what as u64 },
-        Command::Get(m, id, which) => Sent { opcode: 0x0f, member: m, id: id, place: TYPE_AT, value: which as u64 },
-        Command::Set(m, id) => Sent { opcode: 0x10, member: m, id: id, place: TYPE_AT, value: 0 },
-        Command::SetMode(m, mode) => Sent { opcode: 0x11, member: m, id: 0, place: 0, value: mode as u64 },
+        Command::ListQuery => Sent {
+            opcode: 0x00,
+            member: 0,
+            id: 0,
+            place: 0,
+            value: 0,
+        },
+        Command::ListUse(mask) => Sent {
+            opcode: 0x01,
+            member: 0,
+            id: 0,
+            place: 0,
+            value: mask,
+        },
+        Command::Create(m, id, kind) => Sent {
+            opcode: 0x0a,
+            member: m,
+            id: id,
+            place: KIND_AT,
+            value: kind as u64,
+        },
+        Command::Modify(m, id, kind) => Sent {
+            opcode: 0x0b,
+            member: m,
+            id: id,
+            place: KIND_AT,
+            value: kind as u64,
+        },
+        Command::Query(m, id) => Sent {
+            opcode: 0x0c,
+            member: m,
+            id: id,
+            place: TYPE_AT,
+            value: 0,
+        },
+        Command::Destroy(m, id) => Sent {
+            opcode: 0x0d,
+            member: m,
+            id: id,
+            place: TYPE_AT,
+            value: 0,
+        },
+        Command::Metadata(m, id, what) => Sent {
+            opcode: 0x0e,
+            member: m,
+            id: id,
+            place: TYPE_AT,
+            value: what as u64,
+        },
+        Command::Get(m, id, which) => Sent {
+            opcode: 0x0f,
+            member: m,
+            id: id,
+            place: TYPE_AT,
+            value: which as u64,
+        },
+        Command::Set(m, id) => Sent {
+            opcode: 0x10,
+            member: m,
+            id: id,
+            place: TYPE_AT,
+            value: 0,
+        },
+        Command::SetMode(m, mode) => Sent {
+            opcode: 0x11,
+            member: m,
+            id: 0,
+            place: 0,
+            value: mode as u64,
+        },
     }
 }
 
