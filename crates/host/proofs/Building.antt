@@ -67,6 +67,10 @@ module _ (s : Sent) (fixed : ℕ) (b o₁ o₂ o₃ o₄ : List ℕ) where
 
 -- ---- the numbers of a command ----
 
+-- s was made for the case z
+pub as-sent : (x z : Command) (s y : Sent) → s ≡ y → x ≡ z → y ≡ sentOf z → s ≡ sentOf x
+as-sent x z s y e f g = e ∙ g ∙ ap sentOf (sym f)
+
 module _ (x : Command) (s : Sent) (e : s ≡ sentOf x) where
   pub sent-supported : supported (s .opcode) ≡ true
   sent-supported = rw e (command-supported x)

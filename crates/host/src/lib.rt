@@ -7,7 +7,7 @@ ghost use lib.ListN.{length};
 ghost use Rattle.theory.specs.Bytes.{put};
 ghost use Rattle.protocol.specs.Opcodes.{opcodeRow};
 ghost use Rattle.reply.specs.Reply.{headSize};
-ghost use Rattle.host.specs.Request.{sentOf, startWith, startOf, StartFits, begun, built};
+ghost use Rattle.host.specs.Request.{sent, sentOf, startWith, startOf, StartFits, begun, built};
 ghost use Rattle.host.specs.Reply.{resultIn, formOf, countFits, resultFits, lengthRight, knownStatus, handledStatus, handledQualifier, readReply};
 use parts::ListForm;
 
@@ -69,80 +69,32 @@ pub enum Outcome {
     Answered(Head),
 }
 
+fn fields(opcode: u16, member: u64, id: u32, place: usize, value: u64) -> Sent
+    ensures { λ r. ⌜ r ≡ sent opcode member id place value ⌝ }
+{
+    Sent {
+        opcode: opcode,
+        member: member,
+        id: id,
+        place: place,
+        value: value,
+    }
+}
+
 fn sent_of(command: Command) -> Sent
     ensures { λ r. ⌜ r ≡ sentOf command ⌝ }
 {
     match command {
-        Command::ListQuery => Sent {
-            opcode: 0x00,
-            member: 0,
-            id: 0,
-            place: 0,
-            value: 0,
-        },
-        Command::ListUse(mask) => Sent {
-            opcode: 0x01,
-            member: 0,
-            id: 0,
-            place: 0,
-            value: mask,
-        },
-        Command::Create(m, id, kind) => Sent {
-            opcode: 0x0a,
-            member: m,
-            id: id,
-            place: KIND_AT,
-            value: kind as u64,
-        },
-        Command::Modify(m, id, kind) => Sent {
-            opcode: 0x0b,
-            member: m,
-            id: id,
-            place: KIND_AT,
-            value: kind as u64,
-        },
-        Command::Query(m, id) => Sent {
-            opcode: 0x0c,
-            member: m,
-            id: id,
-            place: TYPE_AT,
-            value: 0,
-        },
-        Command::Destroy(m, id) => Sent {
-            opcode: 0x0d,
-            member: m,
-            id: id,
-            place: TYPE_AT,
-            value: 0,
-        },
-        Command::Metadata(m, id, what) => Sent {
-            opcode: 0x0e,
-            member: m,
-            id: id,
-            place: TYPE_AT,
-            value: what as u64,
-        },
-        Command::Get(m, id, which) => Sent {
-            opcode: 0x0f,
-            member: m,
-            id: id,
-            place: TYPE_AT,
-            value: which as u64,
-        },
-        Command::Set(m, id) => Sent {
-            opcode: 0x10,
-            member: m,
-            id: id,
-            place: TYPE_AT,
-            value: 0,
-        },
-        Command::SetMode(m, mode) => Sent {
-            opcode: 0x11,
-            member: m,
-            id: 0,
-            place: 0,
-            value: mode as u64,
-        },
+        Command::ListQuery => fields(0x00, 0, 0, 0, 0),
+        Command::ListUse(mask) => fields(0x01, 0, 0, 0, mask),
+        Command::Create(m, id, kind) => fields(0x0a, m, id, KIND_AT, kind as u64),
+        Command::Modify(m, id, kind) => fields(0x0b, m, id, KIND_AT, kind as u64),
+        Command::Query(m, id) => fields(0x0c, m, id, TYPE_AT, 0),
+        Command::Destroy(m, id) => fields(0x0d, m, id, TYPE_AT, 0),
+        Command::Metadata(m, id, what) => fields(0x0e, m, id, TYPE_AT, what as u64),
+        Command::Get(m, id, which) => fields(0x0f, m, id, TYPE_AT, which as u64),
+        Command::Set(m, id) => fields(0x10, m, id, TYPE_AT, 0),
+        Command::SetMode(m, mode) => fields(0x11, m, 0, 0, mode as u64),
     }
 }
 
