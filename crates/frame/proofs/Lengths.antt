@@ -1,25 +1,26 @@
 -- Data of any length: bytes past the fixed fields are ignored where no list follows, and missing ones read as zero, which is
 -- how the code reads short data. Assumes nothing.
-use mathlib.Core.Path.{_≡_, refl, sym, _∙_}
+use mathlib.Core.Path.{_≡_, refl, ap, sym, _∙_}
 use mathlib.Core.Bool.{Bool, true, false}
-use mathlib.Core.List.{List, [], _∷_}
-use Prim.Native.Nat.{ℕ, zero, suc, _-_, _≤_, _<_}
+use mathlib.Core.List.{List, [], _∷_, _++_}
+use Prim.Native.Nat.{ℕ, zero, suc, _+_, _-_, _≤_, _<_}
 use native.Mathlib.Nat.{sub-zero}
 use native.Mathlib.Omega.{arith}
-use borrow.Author.Tests.{eqb-true, eqb-false, ltb-true, le-leb}
-use lib.Dec.{leb, ltb, eqb}
-use lib.ListN.{length, getD, take, drop, replicate, List·getD-eq-default}
-use lib.Seq.{getD-take}
-use Rattle.theory.specs.Logic.{if_then_else_}
+use borrow.Author.Tests.{eqb-true, eqb-false, le-leb}
+use lib.Dec.{leb, eqb}
+use lib.ListN.{length, getD, take, drop, replicate, length-append, length-replicate, List·getD-append}
+use lib.Seq.{drop-append-le}
+use Rattle.theory.specs.Logic.{if_then_else_, unless_answer_then_, _and_}
 use Rattle.theory.specs.Bytes.{put}
-use Rattle.theory.proofs.Tests.{by-cases, tests}
-use Rattle.theory.proofs.Bytes.{length-bytesAt, length-bytesAt-le}
-use Rattle.wire.specs.Le.{le}
+use Rattle.theory.proofs.Tests.{by-cases, inside, tests}
+use Rattle.theory.proofs.Bytes.{put-nil, length-bytesAt}
+use Rattle.wire.specs.Le.{le, number}
 use Rattle.protocol.specs.Opcodes.{opcodeRows, opcodeRow, supported, fixedSize, longestFixed}
 use Rattle.protocol.proofs.Rows.{fixed-is, fixed-longest, data-long}
 use Rattle.frame.specs.declared.Ask.{Ask}
-use Rattle.frame.specs.Frame.{idAt, objectSize, flagsAt, kindAt, typeAt, headersAt}
+use Rattle.frame.specs.Frame.{groupAt, memberAt, dataAt, longest, opcodeOf, groupOf, targetOf, dataOf, idAt, objectSize, flagsAt, kindAt, typeAt, headersAt}
 use Rattle.frame.specs.Fields.{idOf, objectValid, flagsValid, kindValid, createIn, modifyIn, queryIn, destroyIn, metadataIn, getIn, setIn, modeIn, useIn, fieldsOf}
+use Rattle.frame.specs.Ask.{usable, framedOf, askOf}
 use Rattle.frame.proofs.Numbers.{le-alike, number-alike}
 use Rattle.frame.proofs.Steps.{last-long}
 
@@ -102,79 +103,103 @@ module _ (k : ℕ) (a d : List ℕ) (f : (i : ℕ) → i < k → getD a i 0 ≡ 
       (eqb-false op 0x0c nc) (eqb-false op 0x0d nd) (eqb-false op 0x0e ne) (eqb-false op 0x0f nf)
       (eqb-false op 0x10 ng) k h))))))))))
 
--- ---- bytes past the fixed fields ----
+-- ---- bytes more at the end of data ----
 
--- "bytes past a command's fixed fields are ignored" where its row has no list
-pub rest-ignored : (ids m op : ℕ) (d : List ℕ) → supported op ≡ true → opcodeRow op .listed ≡ false
-    → fieldsOf ids m op (take (fixedSize op) d) ≡ fieldsOf ids m op d
+-- "bytes past a command's fixed fields are ignored": where no list follows them
+pub rest-ignored : (ids m op : ℕ) (d x : List ℕ) → supported op ≡ true → opcodeRow op .listed ≡ false → fixedSize op ≤ length d
+    → fieldsOf ids m op (d ++ x) ≡ fieldsOf ids m op d
 unfolding opcodeRow opcodeRows
-rest-ignored ids m op d s o =
-    fields-alike (fixedSize op) (take (fixedSize op) d) d (λ i h. getD-take (fixedSize op) d i 0 h) ids m op s (omega arith)
+rest-ignored ids m op d x s o h =
+    fields-alike (fixedSize op) (d ++ x) d (λ i l. List·getD-append d x 0 i (omega arith)) ids m op s (omega arith)
     (λ e. let z = rw e at o in cc) (λ e. let z = rw e at o in cc)
 
--- ---- missing bytes ----
-
-zeros-read : (n i : ℕ) → getD {A = ℕ} (replicate n 0) i 0 ≡ 0
-zeros-read zero i = refl
-zeros-read (suc n) zero = refl
-zeros-read (suc n) (suc i) = zeros-read n i
-
-over-zeros : (d z : List ℕ) → ((i : ℕ) → getD z i 0 ≡ 0) → length d ≤ length z → (i : ℕ) → getD (put 0 d z) i 0 ≡ getD d i 0
-unfolding put
-over-zeros [] [] f h i = refl
-over-zeros [] (b ∷ z) f h i = f i
-over-zeros (v ∷ d) [] f h i = absurd (omega arith)
-over-zeros (v ∷ d) (b ∷ z) f h zero = refl
-over-zeros (v ∷ d) (b ∷ z) f h (suc i) = over-zeros d z (λ j. f (suc j)) (omega arith) i
-
--- n bytes of it that hold the data
-padded-read : (n : ℕ) (d z : List ℕ) → ((i : ℕ) → getD z i 0 ≡ 0) → length d ≤ n → n ≤ length z
-    → (i : ℕ) → getD (take n (put 0 d z)) i 0 ≡ getD d i 0
-padded-read n d z f h l i =
-    by-cases (ltb i n)
-    (λ e. getD-take n (put 0 d z) i 0 (ltb-true i n e) ∙ over-zeros d z f (omega arith) i)
-    (λ e.
-    let past : length (take n (put 0 d z)) ≤ i = omega (tests, length-bytesAt-le 0 n (put 0 d z)) in
-    let done : length d ≤ i = omega tests in
-    List·getD-eq-default (take n (put 0 d z)) 0 past ∙ sym (List·getD-eq-default d 0 done))
+zeros-read : (d : List ℕ) (n i : ℕ) → getD (d ++ replicate n 0) i 0 ≡ getD d i 0
+zeros-read [] zero i = refl
+zeros-read [] (suc n) zero = refl
+zeros-read [] (suc n) (suc i) = zeros-read [] n i
+zeros-read (b ∷ d) n zero = refl
+zeros-read (b ∷ d) n (suc i) = zeros-read d n i
 
 -- "missing bytes of the fixed fields read as zero"
-pub missing-zero : (ids m op : ℕ) (d : List ℕ) → supported op ≡ true → length d < fixedSize op
-    → fieldsOf ids m op (take (fixedSize op) (put 0 d (replicate longestFixed 0))) ≡ fieldsOf ids m op d
+pub missing-zero : (ids m op n : ℕ) (d : List ℕ) → supported op ≡ true → length d + n ≤ fixedSize op
+    → fieldsOf ids m op (d ++ replicate n 0) ≡ fieldsOf ids m op d
 unfolding opcodeRows
-missing-zero ids m op d s h =
-    let p : List ℕ = take (fixedSize op) (put 0 d (replicate longestFixed 0)) in
-    let most = fixed-longest op s in
-    let long : length p ≤ fixedSize op = length-bytesAt-le 0 (fixedSize op) (put 0 d (replicate longestFixed 0)) in
-    let g : (i : ℕ) → getD p i 0 ≡ getD d i 0 =
-    padded-read (fixedSize op) d (replicate longestFixed 0) (zeros-read longestFixed) (omega arith) (omega arith) in
-    fields-alike (fixedSize op) p d (λ i l. g i) ids m op s (omega arith) (λ o. le-alike p d g)
+missing-zero ids m op n d s h =
+    fields-alike (fixedSize op) (d ++ replicate n 0) d (λ i l. zeros-read d n i) ids m op s (omega arith)
+    (λ o. le-alike (d ++ replicate n 0) d (zeros-read d n))
     (λ o.
     let k : fixedSize op ≡ headersAt = rw o (sym (fixed-is 0x0f)) in
-    le-leb (length p) headersAt (omega arith) ∙ sym (le-leb (length d) headersAt (omega arith)))
+    let l : length (d ++ replicate n 0) ≡ length d + n = rw (length-append, length-replicate) in
+    le-leb (length (d ++ replicate n 0)) headersAt (omega arith) ∙ sym (le-leb (length d) headersAt (omega arith)))
+
+-- ---- bytes more at the end of a request ----
+
+framed-alike : (members ids inUse group op m : ℕ) (a d : List ℕ)
+    → (supported op ≡ true → fieldsOf ids m op a ≡ fieldsOf ids m op d)
+    → framedOf members ids inUse group op m a ≡ framedOf members ids inUse group op m d
+unfolding framedOf usable _and_ unless_answer_then_
+framed-alike members ids inUse group op m a d f = by-cases (supported op) (λ e. rw (f e)) (λ e. rw e)
+
+module _ (r x : List ℕ) (long : dataAt ≤ length r) where
+  pub number-more : (n at : ℕ) → at + n ≤ dataAt → number at n (r ++ x) ≡ number at n r
+  number-more n at h = number-alike dataAt (r ++ x) r (λ i l. List·getD-append r x 0 i (omega arith)) n at h
+
+  pub ask-more : (members ids inUse : ℕ) → length (r ++ x) ≤ longest
+      → (supported (opcodeOf r) ≡ true
+      → fieldsOf ids (targetOf r) (opcodeOf r) (dataOf r ++ x) ≡ fieldsOf ids (targetOf r) (opcodeOf r) (dataOf r))
+      → askOf members ids inUse (r ++ x) ≡ askOf members ids inUse r
+  unfolding askOf unless_answer_then_
+  ask-more members ids inUse h f =
+      let l = length-append r x in
+      rw (
+        inside dataAt longest (length (r ++ x)) (omega arith) h,
+        inside dataAt longest (length r) long (omega arith),
+        number-more 2 0 (omega arith),
+        number-more 2 groupAt (omega arith),
+        number-more 8 memberAt (omega arith),
+        drop-append-le dataAt r x long,
+      )
+      (framed-alike members ids inUse (groupOf r) (opcodeOf r) (targetOf r) (dataOf r ++ x) (dataOf r) f)
 
 -- ---- what the code reads ----
 
+-- short data over zeros, cut to n bytes
+zeros-cut : (n k : ℕ) → n ≤ k → take {A = ℕ} n (replicate k 0) ≡ replicate n 0
+zeros-cut zero k h = refl
+zeros-cut (suc n) zero h = absurd (omega arith)
+zeros-cut (suc n) (suc k) h = ap (0 ∷_) (zeros-cut n k (omega arith))
+
+padded-cut : (d : List ℕ) (n k : ℕ) → length d ≤ n → n ≤ k → take n (put 0 d (replicate k 0)) ≡ d ++ replicate (n - length d) 0
+unfolding put
+padded-cut [] n k h l = rw (put-nil, sub-zero) (zeros-cut n k l)
+padded-cut (b ∷ d) zero k h l = absurd (omega arith)
+padded-cut (b ∷ d) (suc n) zero h l = absurd (omega arith)
+padded-cut (b ∷ d) (suc n) (suc k) h l =
+    let e : suc n - suc (length d) ≡ n - length d = omega arith in
+    rw e (ap (b ∷_) (padded-cut d n k (omega arith) (omega arith)))
+
 -- the padded data is long enough to be cut to the fixed fields
-pub fixed-inside : (op n k : ℕ) → supported op ≡ true → n ≡ fixedSize op → k ≡ longestFixed → n ≤ k
-fixed-inside op n k s e l = omega (arith, fixed-longest op s)
+pub fixed-inside : (op n k : ℕ) → n ≡ fixedSize op → k ≡ longestFixed → n ≤ k
+fixed-inside op n k e l = omega (arith, fixed-longest op)
 
 -- n bytes of the padded data where the data is short, else the data
-module _ (op n : ℕ) (d padded whole : List ℕ) (s : supported op ≡ true) (e : n ≡ fixedSize op)
+module _ (op n : ℕ) (d padded whole : List ℕ) (e : n ≡ fixedSize op)
     (q : whole ≡ (if leb n (length d) then d else take (n - 0) (drop 0 padded))) where
   pub whole-long : length padded ≡ longestFixed → fixedSize op ≤ length whole
   unfolding if_then_else_
   whole-long l =
-      let most = fixed-longest op s in
+      let most = fixed-longest op in
       by-cases (leb n (length d))
       (λ t. rw (q, t) (omega tests))
       (λ t. rw (q, t, sub-zero, length-bytesAt 0 n padded (omega arith)) (omega arith))
 
   pub whole-read : (ids m : ℕ) (x : Ask)
       → padded ≡ (if leb n (length d) then replicate longestFixed 0 else put 0 d (replicate longestFixed 0))
-      → x ≡ fieldsOf ids m op whole → x ≡ fieldsOf ids m op d
+      → x ≡ fieldsOf ids m op whole → supported op ≡ true → x ≡ fieldsOf ids m op d
   unfolding if_then_else_
-  whole-read ids m x w r =
+  whole-read ids m x w r s =
+      let most = fixed-longest op in
       by-cases (leb n (length d))
       (λ t. r ∙ rw (q, t))
-      (λ t. r ∙ rw (q, w, t, sub-zero, e) (missing-zero ids m op d s (omega tests)))
+      (λ t. r ∙ rw (q, w, t, sub-zero, padded-cut d n longestFixed (omega tests) (omega arith))
+      (missing-zero ids m op (n - length d) d s (omega tests)))

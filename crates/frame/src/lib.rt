@@ -275,10 +275,10 @@ fn padded(fixed: usize, d: &[u8]) -> [u8; protocol::LONGEST_FIXED]
 fn complete<'a>(fixed: usize, d: &'a [u8], instead: &'a [u8]) -> &'a [u8]
     ensures { λ r. ⌜ now r ≡ (if leb fixed (length (now (d .entry))) then now (d .entry) else now (instead .entry)) ⌝ }
 {
-    if fixed <= d.len() {
-        return d;
+    if d.len() < fixed {
+        return instead;
     }
-    instead
+    d
 }
 
 // Step 7: the fields of each command's data. They are read in one place, whether the data is short or not, so that the

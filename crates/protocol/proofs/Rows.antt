@@ -26,16 +26,18 @@ module _ (op : ℕ) where
   unfolding supported opcodeRow opcodeRows
   supported-out h = rw (List·getD-eq-default opcodeRows unsupported h)
 
-  module _ (s : supported op ≡ true) where
-    pub supported-below : op < 18
-    supported-below =
-        by-cases (ltb 17 op)
-        (λ e. let z : _≡_ {A = ℕ} 0 1 = cc (supported-out (ltb-true 17 op e)) in omega arith)
-        (λ e. omega tests)
+  pub supported-below : supported op ≡ true → op < 18
+  supported-below s =
+      by-cases (ltb 17 op)
+      (λ e. let z : _≡_ {A = ℕ} 0 1 = cc (supported-out (ltb-true 17 op e)) in omega arith)
+      (λ e. omega tests)
 
-    pub fixed-longest : fixedSize op ≤ longestFixed
-    unfolding every _and_ fixedSize opcodeRow opcodeRows
-    fixed-longest = leb-true _ _ (at (λ (k : ℕ) (r : OpcodeRow). leb (r .fixed) longestFixed) unsupported opcodeRows refl op supported-below)
+  pub fixed-longest : fixedSize op ≤ longestFixed
+  unfolding every _and_ fixedSize opcodeRow opcodeRows
+  fixed-longest =
+      by-cases (ltb 17 op)
+      (λ e. rw (List·getD-eq-default opcodeRows unsupported (ltb-true 17 op e)) (omega arith))
+      (λ e. leb-true _ _ (at (λ (k : ℕ) (r : OpcodeRow). leb (r .fixed) longestFixed) unsupported opcodeRows refl op (omega tests)))
 
 -- data that holds the fixed fields of opcode o is at least k bytes long, where k is at most what the row says
 pub data-long : (op o n k : ℕ) → fixedSize op ≤ n → op ≡ o → T (leb k (getD fixeds o 0)) → k ≤ n

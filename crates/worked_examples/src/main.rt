@@ -1,5 +1,6 @@
-// The worked examples of document 01, B1 to B12 and the metadata list, through the exported library: each reply in
-// hexadecimal under its name. Setup: two members, one queue, one get and one set object each, features all zero.
+// The worked examples of document 01, B1 to B12 and the metadata list, and those of requests of any length (02, request 2),
+// L1 to L13, through the exported library: each reply in hexadecimal under its name. Setup: two members, one queue, one get
+// and one set object each, features all zero.
 use transcript::GET;
 use transcript::Request;
 use transcript::SET;
@@ -138,6 +139,213 @@ fn room(card: &mut [u8]) {
     );
 }
 
+// ---- requests of any length: data of their own, for member 1 ----
+
+const LIST_USE: u64 = 0x01;
+
+const QUERY: u64 = 0x0c;
+
+const MODE_SET: u64 = 0x11;
+
+// No data; more may follow.
+fn begin(opcode: u64) -> Request {
+    Request::new(opcode, 1, 1)
+}
+
+// An object header that ends after the first byte of its id.
+fn cut_header(opcode: u64) -> Request {
+    begin(opcode).number(4, 0).number(1, 1)
+}
+
+fn create_of_17() -> Request {
+    begin(transcript::CREATE)
+        .object(1)
+        .number(8, 0)
+        .number(1, SET)
+}
+
+fn create_of_30() -> Request {
+    create(0, GET).number(6, 0xffffffffffff)
+}
+
+// Id 256, of which two bytes came.
+fn create_of_6() -> Request {
+    begin(transcript::CREATE).number(4, 0).number(2, 0x100)
+}
+
+// Flags 1, of which one byte came.
+fn create_of_9() -> Request {
+    begin(transcript::CREATE).object(0).number(1, 1)
+}
+
+fn use_of_9(last: u64) -> Request {
+    Request::list_use(3).number(1, last)
+}
+
+fn use_of_3() -> Request {
+    begin(LIST_USE).number(3, transcript::ALL)
+}
+
+fn get_all_of_17() -> Request {
+    Request::get_all(1).number(1, 0)
+}
+
+fn get_all_of_9() -> Request {
+    begin(transcript::PARTS_GET).object(0).number(1, 1)
+}
+
+// The device status and the first half of another header.
+fn get_of_40() -> Request {
+    begin(transcript::PARTS_GET)
+        .object(0)
+        .number(8, 0)
+        .header(0x103, 0, 0)
+        .number(8, 0x105)
+}
+
+fn set_of_9() -> Request {
+    begin(transcript::PARTS_SET).object(1).number(1, 0)
+}
+
+// ---- each example on a card of its own ----
+
+fn all_used(card: &mut [u8]) {
+    fresh(card);
+    send(Request::list_use(transcript::ALL), card);
+}
+
+fn objects_live(card: &mut [u8]) {
+    all_used(card);
+    send(create(0, GET), card);
+    send(create(1, SET), card);
+}
+
+fn cut_create(card: &mut [u8]) {
+    all_used(card);
+    show(b"L1 create of 17 bytes", create_of_17(), card);
+    show(b"L1 query of 5 bytes", cut_header(QUERY), card);
+}
+
+fn long_create(card: &mut [u8]) {
+    all_used(card);
+    show(b"L2 create of 30 bytes", create_of_30(), card);
+    show(b"L2 query of no data", begin(QUERY), card);
+}
+
+fn cut_fields(card: &mut [u8]) {
+    all_used(card);
+    show(b"L3 create, id 256 of two bytes", create_of_6(), card);
+    show(b"L3 create, flags 1 of one byte", create_of_9(), card);
+}
+
+fn resumed(card: &mut [u8]) {
+    objects_live(card);
+    send(Request::mode_set(1, 1), card);
+    show(b"L4 mode set of no data", begin(MODE_SET), card);
+    show(b"L4 parts set", set_once(), card);
+}
+
+fn blocked(card: &mut [u8]) {
+    all_used(card);
+    show(b"L5 list use of no data", begin(LIST_USE), card);
+    show(b"L5 list query", begin(transcript::LIST_QUERY), card);
+}
+
+fn unblocked(card: &mut [u8]) {
+    show(b"L5 list use", Request::list_use(3), card);
+    kajurnat::kajurnat_reset_card(card);
+    show(
+        b"L5 list query, card reset",
+        begin(transcript::LIST_QUERY),
+        card,
+    );
+}
+
+fn long_masks(card: &mut [u8]) {
+    fresh(card);
+    show(b"L6 list use of 9 bytes, bit 64", use_of_9(1), card);
+    show(b"L6 list use of 9 bytes, the last zero", use_of_9(0), card);
+}
+
+fn short_mask(card: &mut [u8]) {
+    show(b"L6 list use of 3 bytes", use_of_3(), card);
+    show(b"L6 mode set", Request::mode_set(1, 1), card);
+}
+
+fn all_asked(card: &mut [u8]) {
+    all_used(card);
+    show(b"L7 get all, one byte past 16", get_all_of_17(), card);
+    objects_live(card);
+    show(b"L8 get all of 9 bytes", get_all_of_9(), card);
+}
+
+fn cut_lists(card: &mut [u8]) {
+    let mut short = [0u8; 8];
+    objects_live(card);
+    show_in(
+        b"L9 one header and a half, room for 8",
+        get_of_40(),
+        card,
+        &mut short,
+    );
+    all_used(card);
+    show(b"L10 one header and a half, no object", get_of_40(), card);
+}
+
+fn empty_lists(card: &mut [u8]) {
+    objects_live(card);
+    show(
+        b"L11 parts get of no data",
+        begin(transcript::PARTS_GET),
+        card,
+    );
+    show(
+        b"L11 metadata of no data",
+        begin(transcript::METADATA),
+        card,
+    );
+}
+
+fn lists_given(card: &mut [u8]) {
+    objects_live(card);
+    send(Request::mode_set(1, 1), card);
+    show(
+        b"L12 parts set of 5 bytes",
+        cut_header(transcript::PARTS_SET),
+        card,
+    );
+    show(b"L12 parts set of 9 bytes", set_of_9(), card);
+}
+
+// Shorter than the frame.
+fn no_frame(card: &mut [u8]) {
+    let mut reply = [0u8; 512];
+    let written = kajurnat::kajurnat_command(card, &[0u8; 23], &mut reply);
+    show_reply(b"L13 a request of 23 bytes", &reply, written);
+}
+
+fn fields_of_any_length(card: &mut [u8]) {
+    cut_create(card);
+    long_create(card);
+    cut_fields(card);
+    resumed(card);
+}
+
+fn masks_of_any_length(card: &mut [u8]) {
+    blocked(card);
+    unblocked(card);
+    long_masks(card);
+    short_mask(card);
+}
+
+fn lists_of_any_length(card: &mut [u8]) {
+    all_asked(card);
+    cut_lists(card);
+    empty_lists(card);
+    lists_given(card);
+    no_frame(card);
+}
+
 fn main() {
     let mut card = [0u8; 472];
     fresh(&mut card);
@@ -149,4 +357,7 @@ fn main() {
     parts(&mut card);
     stopped(&mut card);
     room(&mut card);
+    fields_of_any_length(&mut card);
+    masks_of_any_length(&mut card);
+    lists_of_any_length(&mut card);
 }
