@@ -4,6 +4,9 @@ pub mod LengthExamples
 pub mod WrongPrograms
 pub mod WrongProgramsExample
 pub mod Respond
+pub mod Requests
+pub mod Taken
+pub mod ReadBack
 pub mod Named
 pub mod Sound
 pub mod Refusals

@@ -5,3 +5,4 @@ pub mod Lengths
 pub mod WrongPrograms
 pub mod RoundTrip
 pub mod Claims
+pub mod Host

@@ -80,7 +80,7 @@ module _ (x : Command) where
   place-low = leb-true _ _ (both _ _ (each-stands x) .1)
 
   pub fixed-most : fixedSize (sentOf x .opcode) ≤ longestFixed
-  fixed-most = fixed-longest (sentOf x .opcode) command-supported
+  fixed-most = fixed-longest (sentOf x .opcode)
 
 -- ---- the data ----
 
