@@ -5,6 +5,8 @@ use Rattle.demands.proofs.Demand1.{not-written, delivers, sets-up}
 use Rattle.demands.proofs.Refusals.{refusals-change-nothing}
 use Rattle.demands.proofs.Statuses.{statuses}
 use Rattle.demands.proofs.Examples.{examples-hold}
+use Rattle.demands.proofs.LengthExamples.{length-examples-hold}
+use Rattle.demands.proofs.AnyLength.{any-length}
 use Rattle.demands.proofs.WrongPrograms.{wrong-programs-rejected}
 use Rattle.demands.proofs.RoundTrip.{round-trip}
 use Rattle.demands.proofs.Isolation.{isolation}
@@ -24,6 +26,8 @@ claims = record {
   roundTrip = round-trip;
   isolation = isolation;
   integrity = integrity;
+  anyLength = any-length;
+  lengthExamples = length-examples-hold;
   commutation = commutation;
   commandsCommute = commands-commute;
 }

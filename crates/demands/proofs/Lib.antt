@@ -8,6 +8,7 @@ pub mod Requests
 pub mod Taken
 pub mod ReadBack
 pub mod Named
+pub mod AnyLength
 pub mod Sound
 pub mod Refusals
 pub mod Demand1

@@ -11,6 +11,7 @@ use Prim.Native.Nat.{ℕ, _+_, _≤_, _<_}
 use lib.ListN.{length, take, drop, replicate}
 use Rattle.theory.specs.Machine.{trace, seen, visible, Swappable}
 use Rattle.protocol.specs.declared.EventAnswer.the-variants.{Done}
+use Rattle.protocol.specs.Opcodes.{opcodeRow, fixedSize}
 use Rattle.card.specs.Layout.{inUseAt, recordSize, setupOf, isMember, recordAt, memberIn}
 use Rattle.card.specs.Sound.{isSound}
 use Rattle.frame.specs.Frame.{opcodeOf, targetOf}
@@ -19,6 +20,7 @@ use Rattle.admin.specs.Command.{respond, commandOf}
 use Rattle.demands.specs.Calls.{Call, command, memberReset, refused, step, names, Resets}
 use Rattle.demands.specs.Statuses.{Statuses}
 use Rattle.demands.specs.Examples.{ExamplesHold}
+use Rattle.demands.specs.Lengths.{LengthExamplesHold}
 use Rattle.demands.specs.WrongPrograms.{WrongProgramsRejected}
 use Rattle.demands.specs.RoundTrip.{RoundTrip}
 
@@ -102,6 +104,18 @@ pub record Integrity : Type 0 where
       → (memberIn (step c (command r room) .0) (targetOf r) .mode ≡ memberIn c (targetOf r) .mode)
       × (memberIn (step c (command r room) .0) (targetOf r) .objects ≡ memberIn c (targetOf r) .objects)
 
+-- ---- REQUEST 2 of document 02: requests of any length ----
+
+-- Whatever the card is, bytes more at the end of a request change neither the card after it nor its reply, if they are
+-- zeros within the fixed fields of its command ("missing bytes of the fixed fields read as zero"), or any bytes past the
+-- fixed fields of a command that has no open list, up to 4,096 in all ("bytes past a command's fixed fields are
+-- ignored"). Examples: cut-create, whole-create; worked examples: Lengths.antt
+pub record AnyLength : Type 0 where
+  pub missing : (c r : List ℕ) (n room : ℕ) → 24 ≤ length r → length r + n ≤ 24 + fixedSize (opcodeOf r)
+      → respond c (r ++ replicate n 0) room ≡ respond c r room
+  pub ignored : (c r x : List ℕ) (room : ℕ) → 24 + fixedSize (opcodeOf r) ≤ length r → opcodeRow (opcodeOf r) .listed ≡ false
+      → length r + length x ≤ 4096 → respond c (r ++ x) room ≡ respond c r room
+
 -- ---- REQUEST 12 of document 02: calls for different members, in any order ----
 
 -- In any sequence of calls on any card, p, then x and y, then t, where x and y name different members: x and y can
@@ -136,6 +150,9 @@ pub record Claims : Type 1 where
   -- demand 3
   pub isolation : Isolation
   pub integrity : Integrity
+  -- request 2
+  pub anyLength : AnyLength
+  pub lengthExamples : LengthExamplesHold
   -- request 12
   pub commutation : Commutation
   pub commandsCommute : CommandsCommute
