@@ -7,6 +7,7 @@ pub mod Respond
 pub mod Requests
 pub mod Taken
 pub mod ReadBack
+pub mod HostExample
 pub mod Named
 pub mod AnyLength
 pub mod Sound

@@ -6,25 +6,25 @@ use Prim.Native.Nat.{ℕ, _+_, _^_, _≤_, _<_}
 use native.Mathlib.Omega.{arith}
 use lib.Dec.{leb, ltb, eqb}
 use lib.ListN.{length, getD, drop, replicate}
-use Rattle.theory.specs.Logic.{if_then_else_, unless_answer_then_, _and_, _or_}
+use Rattle.theory.specs.Logic.{if_then_else_, unless_answer_then_, _and_, _or_, within}
 use Rattle.theory.proofs.Tests as tests
-use Rattle.theory.proofs.Tests.{by-cases, tests}
+use Rattle.theory.proofs.Tests.{by-cases, within-high, tests}
 use Rattle.wire.specs.Le.{le, bytes, number}
 use Rattle.wire.proofs.Le.{le-bytes}
 use Rattle.protocol.specs.declared.ReadOp.the-variants.{QueryObject, GetMetadata, GetSelected, GetAll}
 use Rattle.protocol.specs.declared.ChangeOp.the-variants.{Create, Modify, Destroy, SetParts, SetMode}
-use Rattle.protocol.specs.declared.Answer.the-variants.{BadField}
+use Rattle.protocol.specs.declared.Answer.the-variants.{BadOpcode, BadField}
 use Rattle.protocol.specs.Answers.{modeOf}
-use Rattle.protocol.specs.Opcodes.{opcodeRows, opcodeRow, fixedSize, supportedOnly}
+use Rattle.protocol.specs.Opcodes.{largest, opcodeRows, opcodeRow, supported, fixedSize, namesMember, bit, supportedOnly}
 use Rattle.frame.specs.declared.Ask.{Ask}
 use Rattle.frame.specs.declared.Ask.the-variants.{Refused, UseList, Read, Change}
 use Rattle.frame.specs.Frame.{dataAt, longest, kindAt, typeAt, headersAt, askedList, givenList}
-use Rattle.frame.specs.Fields.{idOf, kindIn, metadataIs, objectValid, flagsValid, kindValid, createIn, modifyIn, queryIn, destroyIn, metadataIn, getIn, setIn, modeIn, useIn}
-use Rattle.frame.specs.Ask.{framedOf, askOf}
+use Rattle.frame.specs.Fields.{idOf, kindIn, metadataIs, objectValid, flagsValid, kindValid, createIn, modifyIn, queryIn, destroyIn, metadataIn, getIn, setIn, modeIn, useIn, fieldsOf}
+use Rattle.frame.specs.Ask.{usable, reaches, framedOf, askOf}
 use Rattle.host.specs.declared.Command.{Command}
 use Rattle.host.specs.declared.Command.the-variants as host
-use Rattle.host.specs.Request.{sentOf, objectHeader, before, fixedOf, listFor, request, startWith, requestOf}
-use Rattle.host.proofs.Request.{length-request, opcode-request, group-request, target-request, data-request, append-request, opcode-small}
+use Rattle.host.specs.Request.{sentOf, objectHeader, before, fixedOf, listFor, request, startWith, requestOf, setParts}
+use Rattle.host.proofs.Request.{length-request, opcode-request, group-request, target-request, data-request, append-request, opcode-small, request-long, list-given}
 
 -- ---- the frame ----
 
@@ -125,3 +125,18 @@ use-read mask d e h = rw (e, h)
 pub mode-read : (m b : ℕ) (d : List ℕ) → getD d 0 0 ≡ b → leb b 1 ≡ true → modeIn m d ≡ Change m (SetMode (modeOf b))
 unfolding modeIn unless_answer_then_
 mode-read m b d e h = rw (e, h)
+
+-- ---- a parts set to a member of the card, in every case ----
+
+module _ (m id : ℕ) (list : List ℕ) where
+  pub set-long : length (setParts m id list) ≡ 32 + length list
+  unfolding laid
+  set-long = request-long (host.Set m id) list
+
+  pub set-parts-asked : (members ids inUse : ℕ) → members ≤ 16 → within 1 members m ≡ true → id < 256 ^ 4 → 8 + length list ≤ largest
+      → askOf members ids inUse (setParts m id list)
+      ≡ (unless bit inUse 0x10 answer Refused BadOpcode then unless ltb id ids answer Refused BadField then Change m (SetParts id))
+  unfolding framedOf usable supported reaches namesMember fieldsOf within _and_ _or_ unless_answer_then_ laid
+  set-parts-asked members ids inUse few here small h =
+      asked-frame (host.Set m id) list members ids inUse (omega (arith, within-high 1 members m here)) (omega (arith, set-long))
+      ∙ by-cases (bit inUse 0x10) (λ u. rw (u, here) (set-read id list small ids m)) (λ u. rw u)

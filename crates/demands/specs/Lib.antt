@@ -4,5 +4,5 @@ pub mod Examples
 pub mod Lengths
 pub mod WrongPrograms
 pub mod RoundTrip
-pub mod Claims
 pub mod Host
+pub mod Claims

@@ -66,6 +66,13 @@ startOf command = startWith (sentOf command)
 unfoldable pub requestOf : Command → List ℕ → List ℕ
 requestOf command list = startOf command ++ listFor command list
 
+-- the two requests of demand 2's round trip: all parts through a get object, and a list of parts through a set object
+abbrev pub getAll : ℕ → ℕ → List ℕ
+getAll m id = requestOf (Get m id 1) []
+
+abbrev pub setParts : ℕ → ℕ → List ℕ → List ℕ
+setParts m id list = requestOf (Set m id) list
+
 -- ---- a request in a lent buffer ----
 
 -- x at the front of a buffer, the start of a request of n bytes: "Only a request over 4,096 bytes, or too long for the
