@@ -35,54 +35,117 @@ fn fresh(card: &mut [u8]) {
     kajurnat::kajurnat_setup(card, 2, 1, 1, 1, &[0u8; 16]);
 }
 
-// The examples create objects of member 1 alone.
-fn create(id: u64, kind: u64) -> Request {
+// The examples are of objects of member 1 alone.
+fn create(id: u32, kind: u8) -> Request {
     Request::create(1, id, kind)
 }
 
-fn metadata(what: u64) -> Request {
-    Request::new(transcript::METADATA, 1, 1)
-        .object(0)
-        .number(8, what)
+fn metadata(what: u8) -> Request {
+    Request::metadata(1, 0, what)
 }
 
-// Queue notify of queue 0, then the device status.
-fn get_two() -> Request {
-    Request::new(transcript::PARTS_GET, 1, 1)
-        .object(0)
-        .number(8, 0)
-        .header(0x105, 0, 0)
-        .header(0x103, 0, 0)
-}
+// The headers of queue notify of queue 0 and of the device status.
+const TWO: [u8; 32] = [
+    0x05,
+    1,
+    0,
+    0,
+    0,
+    0,
+    0,
+    0,
+    0,
+    0,
+    0,
+    0,
+    0,
+    0,
+    0,
+    0,
+    0x03,
+    1,
+    0,
+    0,
+    0,
+    0,
+    0,
+    0,
+    0,
+    0,
+    0,
+    0,
+    0,
+    0,
+    0,
+    0,
+];
 
-// Driver features, given once.
+// Driver features: the header, and the value 0x5aa5.
+const DRIVER: [u8; 32] = [
+    0x01,
+    1,
+    0,
+    0,
+    0,
+    0,
+    0,
+    0,
+    0,
+    0,
+    0,
+    0,
+    16,
+    0,
+    0,
+    0,
+    0xa5,
+    0x5a,
+    0,
+    0,
+    0,
+    0,
+    0,
+    0,
+    0,
+    0,
+    0,
+    0,
+    0,
+    0,
+    0,
+    0,
+];
+
 fn set_once() -> Request {
-    Request::new(transcript::PARTS_SET, 1, 1)
-        .object(1)
-        .header(0x101, 0, 16)
-        .number(16, 0x5aa5)
+    Request::set(1, 1, &DRIVER)
 }
 
 fn set_twice() -> Request {
-    set_once().header(0x101, 0, 16).number(16, 0x5aa5)
+    let mut list = [0u8; 64];
+    wire::copy(&mut list, 0, &DRIVER);
+    wire::copy(&mut list, 32, &DRIVER);
+    Request::set(1, 1, &list)
+}
+
+// Group type 2 and opcode 0xffff: no command, so not built.
+fn no_command(card: &mut [u8]) {
+    let mut reply = [0u8; 512];
+    let mut request = [0u8; 24];
+    request[0] = 0xff;
+    request[1] = 0xff;
+    request[2] = 2;
+    let written = kajurnat::kajurnat_command(card, &request, &mut reply);
+    show_reply(b"B3 group 2 and opcode 0xffff", &reply, written);
 }
 
 fn before_use(card: &mut [u8]) {
-    show(
-        b"B1 list query",
-        Request::new(transcript::LIST_QUERY, 1, 0),
-        card,
-    );
+    show(b"B1 list query", Request::list_query(), card);
     show(
         b"B2 object create, not in use",
-        Request::new(transcript::CREATE, 1, 0),
+        Request::create(0, 0, GET),
         card,
     );
-    show(
-        b"B3 group 2 and opcode 0xffff",
-        Request::new(0xffff, 2, 0),
-        card,
-    );
+    no_command(card);
 }
 
 fn members(card: &mut [u8]) {
@@ -100,11 +163,7 @@ fn ids(card: &mut [u8]) {
 
 fn objects(card: &mut [u8]) {
     show(b"B6 create set object 1", create(1, SET), card);
-    show(
-        b"B7 destroy object 0",
-        Request::new(transcript::DESTROY, 1, 1).object(0),
-        card,
-    );
+    show(b"B7 destroy object 0", Request::destroy(1, 0), card);
     show(b"B7 create get object 0", create(0, GET), card);
     show(b"B8 parts set, member running", set_once(), card);
 }
@@ -112,7 +171,11 @@ fn objects(card: &mut [u8]) {
 fn parts(card: &mut [u8]) {
     show(b"B9 count", metadata(1), card);
     show(b"B9 size", metadata(0), card);
-    show(b"B10 queue notify and device status", get_two(), card);
+    show(
+        b"B10 queue notify and device status",
+        Request::get(1, 0, 0, &TWO),
+        card,
+    );
 }
 
 fn stopped(card: &mut [u8]) {
@@ -139,72 +202,63 @@ fn room(card: &mut [u8]) {
     );
 }
 
-// ---- requests of any length: data of their own, for member 1 ----
-
-const LIST_USE: u64 = 0x01;
-
-const QUERY: u64 = 0x0c;
-
-const MODE_SET: u64 = 0x11;
-
-// No data; more may follow.
-fn begin(opcode: u64) -> Request {
-    Request::new(opcode, 1, 1)
-}
+// ---- requests of any length, for member 1: built ones that are cut, or have bytes more ----
 
 // An object header that ends after the first byte of its id.
-fn cut_header(opcode: u64) -> Request {
-    begin(opcode).number(4, 0).number(1, 1)
+fn query_of_5() -> Request {
+    Request::query(1, 1).cut(11)
+}
+
+fn query_of_0() -> Request {
+    Request::query(1, 1).cut(16)
 }
 
 fn create_of_17() -> Request {
-    begin(transcript::CREATE)
-        .object(1)
-        .number(8, 0)
-        .number(1, SET)
+    create(1, SET).cut(7)
 }
 
 fn create_of_30() -> Request {
-    create(0, GET).number(6, 0xffffffffffff)
+    let r = create(0, GET).more(0xff).more(0xff).more(0xff);
+    r.more(0xff).more(0xff).more(0xff)
 }
 
 // Id 256, of which two bytes came.
 fn create_of_6() -> Request {
-    begin(transcript::CREATE).number(4, 0).number(2, 0x100)
+    create(0x100, GET).cut(18)
 }
 
 // Flags 1, of which one byte came.
 fn create_of_9() -> Request {
-    begin(transcript::CREATE).object(0).number(1, 1)
+    create(0, GET).cut(16).more(1)
 }
 
-fn use_of_9(last: u64) -> Request {
-    Request::list_use(3).number(1, last)
+fn use_of_9(last: u8) -> Request {
+    Request::list_use(3).more(last)
 }
 
 fn use_of_3() -> Request {
-    begin(LIST_USE).number(3, transcript::ALL)
+    Request::list_use(transcript::ALL).cut(5)
 }
 
-fn get_all_of_17() -> Request {
-    Request::get_all(1).number(1, 0)
+fn use_of_0() -> Request {
+    Request::list_use(3).cut(8)
 }
 
-fn get_all_of_9() -> Request {
-    begin(transcript::PARTS_GET).object(0).number(1, 1)
+fn mode_of_0() -> Request {
+    Request::mode_set(1, 1).cut(1)
 }
 
-// The device status and the first half of another header.
+// The first header and half of the second.
 fn get_of_40() -> Request {
-    begin(transcript::PARTS_GET)
-        .object(0)
-        .number(8, 0)
-        .header(0x103, 0, 0)
-        .number(8, 0x105)
+    Request::get(1, 0, 0, &TWO).cut(8)
 }
 
-fn set_of_9() -> Request {
-    begin(transcript::PARTS_SET).object(1).number(1, 0)
+fn get_of_0() -> Request {
+    Request::get_all(1).cut(16)
+}
+
+fn set_of_5() -> Request {
+    Request::set(1, 1, &[]).cut(3)
 }
 
 // ---- each example on a card of its own ----
@@ -223,13 +277,13 @@ fn objects_live(card: &mut [u8]) {
 fn cut_create(card: &mut [u8]) {
     all_used(card);
     show(b"L1 create of 17 bytes", create_of_17(), card);
-    show(b"L1 query of 5 bytes", cut_header(QUERY), card);
+    show(b"L1 query of 5 bytes", query_of_5(), card);
 }
 
 fn long_create(card: &mut [u8]) {
     all_used(card);
     show(b"L2 create of 30 bytes", create_of_30(), card);
-    show(b"L2 query of no data", begin(QUERY), card);
+    show(b"L2 query of no data", query_of_0(), card);
 }
 
 fn cut_fields(card: &mut [u8]) {
@@ -241,24 +295,20 @@ fn cut_fields(card: &mut [u8]) {
 fn resumed(card: &mut [u8]) {
     objects_live(card);
     send(Request::mode_set(1, 1), card);
-    show(b"L4 mode set of no data", begin(MODE_SET), card);
+    show(b"L4 mode set of no data", mode_of_0(), card);
     show(b"L4 parts set", set_once(), card);
 }
 
 fn blocked(card: &mut [u8]) {
     all_used(card);
-    show(b"L5 list use of no data", begin(LIST_USE), card);
-    show(b"L5 list query", begin(transcript::LIST_QUERY), card);
+    show(b"L5 list use of no data", use_of_0(), card);
+    show(b"L5 list query", Request::list_query(), card);
 }
 
 fn unblocked(card: &mut [u8]) {
     show(b"L5 list use", Request::list_use(3), card);
     kajurnat::kajurnat_reset_card(card);
-    show(
-        b"L5 list query, card reset",
-        begin(transcript::LIST_QUERY),
-        card,
-    );
+    show(b"L5 list query, card reset", Request::list_query(), card);
 }
 
 fn long_masks(card: &mut [u8]) {
@@ -274,9 +324,13 @@ fn short_mask(card: &mut [u8]) {
 
 fn all_asked(card: &mut [u8]) {
     all_used(card);
-    show(b"L7 get all, one byte past 16", get_all_of_17(), card);
+    show(
+        b"L7 get all, one byte past 16",
+        Request::get_all(1).more(0),
+        card,
+    );
     objects_live(card);
-    show(b"L8 get all of 9 bytes", get_all_of_9(), card);
+    show(b"L8 get all of 9 bytes", Request::get_all(1).cut(7), card);
 }
 
 fn cut_lists(card: &mut [u8]) {
@@ -294,27 +348,15 @@ fn cut_lists(card: &mut [u8]) {
 
 fn empty_lists(card: &mut [u8]) {
     objects_live(card);
-    show(
-        b"L11 parts get of no data",
-        begin(transcript::PARTS_GET),
-        card,
-    );
-    show(
-        b"L11 metadata of no data",
-        begin(transcript::METADATA),
-        card,
-    );
+    show(b"L11 parts get of no data", get_of_0(), card);
+    show(b"L11 metadata of no data", metadata(0).cut(16), card);
 }
 
 fn lists_given(card: &mut [u8]) {
     objects_live(card);
     send(Request::mode_set(1, 1), card);
-    show(
-        b"L12 parts set of 5 bytes",
-        cut_header(transcript::PARTS_SET),
-        card,
-    );
-    show(b"L12 parts set of 9 bytes", set_of_9(), card);
+    show(b"L12 parts set of 5 bytes", set_of_5(), card);
+    show(b"L12 parts set of 9 bytes", Request::set(1, 1, &[0]), card);
 }
 
 // Shorter than the frame.
