@@ -6,6 +6,8 @@ use Rattle.demands.proofs.Refusals.{refusals-change-nothing}
 use Rattle.demands.proofs.Statuses.{statuses}
 use Rattle.demands.proofs.Examples.{examples-hold}
 use Rattle.demands.proofs.LengthExamples.{length-examples-hold}
+use Rattle.demands.proofs.Taken.{taken}
+use Rattle.demands.proofs.ReadBack.{read-back}
 use Rattle.demands.proofs.AnyLength.{missing-is-zero, rest-is-ignored}
 use Rattle.demands.proofs.WrongPrograms.{wrong-programs-rejected}
 use Rattle.demands.proofs.RoundTrip.{round-trip}
@@ -26,6 +28,8 @@ claims = record {
   roundTrip = round-trip;
   isolation = isolation;
   integrity = integrity;
+  taken = taken;
+  readBack = read-back;
   missingIsZero = missing-is-zero;
   restIsIgnored = rest-is-ignored;
   lengthExamples = length-examples-hold;

@@ -15,7 +15,7 @@ use Rattle.card.specs.Sound.{isSound}
 use Rattle.events.specs.Events.{setUp}
 use Rattle.frame.specs.Frame.{opcodeOf}
 use Rattle.demands.specs.Calls.{refused, step, names}
-use Rattle.frame.specs.Requests.{request, setParts}
+use Rattle.host.specs.Request.{request, setParts}
 use Rattle.demands.specs.Examples.{exampleCard, send, useList, setMode}
 use Rattle.demands.proofs.Model.{model}
 

@@ -8,7 +8,7 @@ use native.Mathlib.Omega.{arith}
 use lib.ListN.{getD}
 use Rattle.theory.specs.Machine.{replies, Swappable}
 use Rattle.demands.specs.Calls.{Call, step, names}
-use Rattle.frame.specs.Requests.{getAll}
+use Rattle.host.specs.Request.{getAll}
 use Rattle.demands.specs.Examples.{exampleCard, send, useList, create, setMode, succeeds, gives, nineParts}
 use Rattle.demands.proofs.Model.{model}
 use Rattle.demands.proofs.Commutation.{commutation}

@@ -10,7 +10,7 @@ use Rattle.theory.specs.Machine.{trace, seen, visible}
 use Rattle.card.specs.Layout.{isMember}
 use Rattle.card.specs.Sound.{isSound}
 use Rattle.demands.specs.Calls.{Call, memberReset, cardStore, step, names, ofMember}
-use Rattle.frame.specs.Requests.{getAll}
+use Rattle.host.specs.Request.{getAll}
 use Rattle.demands.specs.Claims.{DifferAtMost}
 use Rattle.demands.specs.Examples.{exampleCard, send, useList, create, setMode}
 use Rattle.demands.proofs.Model.{model}

@@ -4,6 +4,10 @@ pub mod LengthExamples
 pub mod WrongPrograms
 pub mod WrongProgramsExample
 pub mod Respond
+pub mod Requests
+pub mod Taken
+pub mod ReadBack
+pub mod HostExample
 pub mod Named
 pub mod AnyLength
 pub mod Sound

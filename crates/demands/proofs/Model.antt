@@ -4,7 +4,7 @@ use Rattle.theory.specs.Bytes.{put, repeat, same}
 use Rattle.theory.specs.Items.{itemsFrom}
 use Rattle.theory.specs.Machine.{trace, replies, run, seen, visible}
 use Rattle.wire.specs.Le.{le, bytes, number}
-use Rattle.protocol.specs.Opcodes.{opcodeRows, opcodeRow, supported, namesMember, bit, supportedOnly}
+use Rattle.protocol.specs.Opcodes.{opcodeRows, opcodeRow, supported, fixedSize, namesMember, bit, supportedOnly}
 use Rattle.inventory.specs.Inventory.{rows as inventoryRows, rowAt, present, offsetOf, selectorOf, isRow, seek, placeOf}
 use Rattle.inventory.specs.Header.{headerOf}
 use Rattle.parts.specs.List.{headerAt, stepAt, atMost, partsFrom, whole, among}
@@ -28,12 +28,12 @@ use Rattle.reply.specs.Reply.{headOf, finalOf, replyOf, replied}
 use Rattle.admin.specs.Command.{askIn, perform, conclude, respond}
 use Rattle.demands.specs.Calls.{refused, step, names}
 use Rattle.demands.specs.Statuses.{firstOf, namesObject, hasFlags, hasKind, needsGet, badField, badList, askedSize, resultSize, rowsAt}
-use Rattle.frame.specs.Requests.{request, objectHeader, getAll, setParts}
+use Rattle.host.specs.Request.{sentOf, objectHeader, before, fixedOf, listFor, request, startWith, requestOf}
 use Rattle.demands.specs.Examples.{exampleCard, headersListed, joined, nineHeaders, nineParts, workedExamples, repliesTo, lastSize}
 
 unfoldable pub model : Unit {0}
 unfolding if_then_else_ unless_answer_then_ _and_ _or_ within indicator put repeat same itemsFrom trace replies run seen visible le bytes number
-    opcodeRows opcodeRow supported namesMember bit supportedOnly
+    opcodeRows opcodeRow supported fixedSize namesMember bit supportedOnly
     inventoryRows rowAt present offsetOf selectorOf isRow seek placeOf headerOf headerAt stepAt atMost partsFrom
     known knownOrSkipped lengthRight featuresSame asksKnown whole every among repeated causeIn askedIn storable stored applied
     headerItem headersOf partAt asks partItem partsWritten memberOf memberBytes lookupOf withObject count allUpTo withinLimits
@@ -43,5 +43,5 @@ unfolding if_then_else_ unless_answer_then_ _and_ _or_ within indicator put repe
     objectValid flagsValid kindValid createIn modifyIn queryIn destroyIn metadataIn getIn setIn modeIn useIn fieldsOf
     usable reaches framedOf askOf numberBytes resultOf headOf finalOf replyOf replied askIn perform conclude respond refused step names
     firstOf namesObject hasFlags hasKind needsGet badField badList askedSize resultSize rowsAt
-    request objectHeader getAll setParts exampleCard headersListed joined nineHeaders nineParts workedExamples repliesTo lastSize
+    sentOf objectHeader before fixedOf listFor request startWith requestOf exampleCard headersListed joined nineHeaders nineParts workedExamples repliesTo lastSize
 model = tt

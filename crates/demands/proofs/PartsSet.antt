@@ -8,7 +8,6 @@ use lib.Dec.{ltb}
 use lib.ListN.{length}
 use Rattle.theory.specs.Logic.{if_then_else_, unless_answer_then_}
 use Rattle.theory.proofs.Tests.{by-cases}
-use Rattle.wire.specs.Le.{bytes}
 use Rattle.protocol.specs.declared.Answer.{Answer}
 use Rattle.protocol.specs.declared.Answer.the-variants.{BadOpcode, BadField}
 use Rattle.protocol.specs.declared.ChangeOp.the-variants.{SetParts}
@@ -22,10 +21,9 @@ use Rattle.card.proofs.SoundLaws.{sound-of}
 use Rattle.reply.specs.Reply.{headSize, headOf}
 use Rattle.reply.proofs.Reply.{reply-empty, final-empty}
 use Rattle.admin.specs.Command.{effect, askIn, perform, respond}
-use Rattle.frame.specs.Frame.{givenList}
-use Rattle.frame.specs.Requests.{request, objectHeader, setParts}
-use Rattle.frame.proofs.Requests.{set-parts-asked}
+use Rattle.host.specs.Request.{setParts}
 use Rattle.demands.proofs.Respond.{ended, respond-is}
+use Rattle.demands.proofs.Requests.{parts-given, set-parts-asked}
 
 -- what a change of member m comes to: its answer, and the card after it
 abbrev settled : List ℕ → ℕ → Changed → Answer × List ℕ
@@ -37,11 +35,6 @@ partsSetOf c m id list =
     unless ltb id (setupOf c .gets + setupOf c .sets) answer (BadField, c) then  -- 7: id not valid
     settled c m (changeOf (setupOf c .queues) (setupOf c .gets) (setupOf c .sets) list (SetParts id) (memberIn c m))  -- 8 to 10
 
--- the list of a parts set
-given : (m id : ℕ) (list : List ℕ) → givenList (setParts m id list) ≡ list
-unfolding setParts request objectHeader bytes
-given m id list = refl
-
 module _ (c : List ℕ) (m : ℕ) (e : isSound c ≡ true) (here : isMember c m ≡ true) (room : ℕ) (h : headSize ≤ room) where
   -- a reply with no result fits
   ends : (a : Answer) (next : List ℕ) → ended c room (effect a next []) ≡ (if isDone a then next else c, headOf a)
@@ -51,9 +44,9 @@ module _ (c : List ℕ) (m : ℕ) (e : isSound c ≡ true) (here : isMember c m 
       → respond c (setParts m id list) room ≡ (partsSetOf c m id list .1, headOf (partsSetOf c m id list .0))
   unfolding askIn perform partsSetOf if_then_else_ unless_answer_then_
   respond-parts-set id small list short =
-      rw (respond-is c (setParts m id list) room h e, set-parts-asked _ _ (inUseOf c) m id (sound-of c e .numbers .fewMembers) here small list short)
+      rw (respond-is c (setParts m id list) room h e, set-parts-asked m id list _ _ (inUseOf c) (sound-of c e .numbers .fewMembers) here small short)
       (by-cases (bit (inUseOf c) 0x10)
       (λ u. rw u (by-cases (ltb id (setupOf c .gets + setupOf c .sets))
-      (λ v. rw (v, given m id list) (ends _ _))
+      (λ v. rw (v, parts-given m id list) (ends _ _))
       (λ v. rw v (ends BadField c))))
       (λ u. rw u (ends BadOpcode c)))

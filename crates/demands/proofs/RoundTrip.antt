@@ -2,19 +2,20 @@
 -- same bytes. Assumes nothing.
 use mathlib.Core.Path.{_≡_, refl, ap, sym, _∙_}
 use mathlib.Core.Bool.{true}
-use mathlib.Core.List.{List, _++_}
+use mathlib.Core.List.{List, [], _++_}
 use Prim.Native.Nat.{ℕ, _+_, _^_, _≤_, _<_}
 use native.Mathlib.Omega.{arith}
 use lib.ListN.{length, take, drop}
 use borrow.Author.Tests.{le-leb, lt-ltb}
-use Rattle.theory.specs.Logic.{if_then_else_, unless_answer_then_}
+use Rattle.theory.specs.Logic.{if_then_else_, unless_answer_then_, _and_, _or_}
 use Rattle.theory.specs.Bytes.{bytesAt}
-use Rattle.theory.proofs.Tests.{within-low}
+use Rattle.theory.proofs.Tests.{or-true, within-low}
 use Rattle.wire.specs.Le.{bytes}
 use Rattle.protocol.specs.declared.Answer.the-variants.{Done}
 use Rattle.protocol.specs.declared.Mode.the-variants.{Stopped}
 use Rattle.protocol.specs.declared.ObjectKind.{ObjectKind}
 use Rattle.protocol.specs.declared.ObjectKind.the-variants.{Get, Set}
+use Rattle.protocol.specs.declared.ReadOp.the-variants.{GetAll}
 use Rattle.protocol.specs.Opcodes.{bit}
 use Rattle.inventory.specs.Inventory.{valuesSize, partsSize}
 use Rattle.parts.specs.declared.ListForm.the-variants.{Parts}
@@ -41,10 +42,16 @@ use Rattle.card.proofs.SoundLaws.{Sound, SoundIn, sound-of, is-sound, sound-has
 use Rattle.reply.specs.Result.{resultOf}
 use Rattle.reply.specs.Reply.{headOf, finalOf, replyOf}
 use Rattle.admin.specs.Command.{askIn, effect, perform, respond}
-use Rattle.frame.specs.Requests.{getAll}
+use Rattle.frame.specs.declared.Ask.the-variants.{Read}
+use Rattle.frame.specs.Ask.{reaches}
+use Rattle.host.specs.declared.Command.the-variants as host
+use Rattle.host.specs.Request.{getAll}
+use Rattle.host.proofs.Request.{request-long}
+use Rattle.demands.specs.Host.{inside}
 use Rattle.demands.specs.RoundTrip.{Restorable, RestoredSame, RoundTrip, capture, restore}
-use Rattle.frame.proofs.Requests.{get-all-asked}
 use Rattle.demands.proofs.Respond.{respond-is}
+use Rattle.demands.proofs.Requests.{laid}
+use Rattle.demands.proofs.Taken.{taken}
 use Rattle.demands.proofs.PartsSet.{partsSetOf, respond-parts-set}
 
 -- a command with a result that succeeds and has room
@@ -79,11 +86,27 @@ module _ (c : List ℕ) (m : ℕ) (x : Reached c m) where
   small : (i : ℕ) → i < setupOf c .gets + setupOf c .sets → i < 256 ^ 4
   small i h = omega (arith, ids)
 
+  reached : (op : ℕ) → reaches (setupOf c .members) op m ≡ true
+  unfolding reaches
+  reached op = rw (x .here) (or-true _)
+
+  -- the request of a full capture is taken
+  get-taken : (i : ℕ) → lookupOf (memberIn c m) i ≡ Live Get → bit (inUseOf c) 0x0f ≡ true → askIn c (getAll m i) ≡ Read m (GetAll i)
+  unfolding inside _and_ _or_ laid
+  get-taken i e u =
+      taken c (host.Get m i 1) [] (record {
+        sound = x .sound;
+        inUse = u;
+        member = reached 0x0f;
+        fields = rw (lt-ltb i _ (valid i Get e));
+        short = rw (request-long (host.Get m i 1) []) (omega arith);
+      }) .asked
+
   -- a full capture through a live get object
   get-performs : (i : ℕ) → lookupOf (memberIn c m) i ≡ Live Get → bit (inUseOf c) 0x0f ≡ true
       → perform c (getAll m i) (askIn c (getAll m i)) ≡ effect Done c (captureOf (setupOf c .queues) (memberIn c m .values))
-  unfolding askIn perform throughGet resultOf unless_answer_then_
-  get-performs i e u = let v = valid i Get e in rw (get-all-asked _ _ _ m i few (x .here) (small i v) u v, e)
+  unfolding perform throughGet resultOf unless_answer_then_
+  get-performs i e u = rw (get-taken i e u, e)
 
   capture-is : (i room : ℕ) → lookupOf (memberIn c m) i ≡ Live Get → bit (inUseOf c) 0x0f ≡ true
       → 8 + length (captureOf (setupOf c .queues) (memberIn c m .values)) ≤ room

@@ -9,7 +9,7 @@ use Rattle.theory.specs.Logic.{if_then_else_}
 use Rattle.theory.specs.Machine.{run}
 use Rattle.card.specs.Sound.{isSound}
 use Rattle.demands.specs.Calls.{Call, command, memberReset, cardReset, cardStore, step}
-use Rattle.frame.specs.Requests.{request, getAll, setParts}
+use Rattle.host.specs.Request.{request, getAll, setParts}
 use Rattle.demands.specs.Examples.{exampleCard, send, useList, setMode, create, destroy, metadata, allUsed, objectsLive}
 use Rattle.demands.specs.Statuses.{Row, firstOf, rows, FirstRowAnswers}
 use Rattle.demands.proofs.Model.{model}

@@ -23,6 +23,7 @@ use Rattle.demands.specs.Examples.{ExamplesHold}
 use Rattle.demands.specs.Lengths.{LengthExamplesHold}
 use Rattle.demands.specs.WrongPrograms.{WrongProgramsRejected}
 use Rattle.demands.specs.RoundTrip.{RoundTrip}
+use Rattle.demands.specs.Host.{Taken, ReadBack}
 
 -- No call makes a sound card unsound: SPEC 2.4. Example: sound-card
 abbrev pub StaysSound : Type 0
@@ -106,6 +107,11 @@ pub record Integrity : Type 0 where
       → (memberIn (step c (command r room) .0) (targetOf r) .mode ≡ memberIn c (targetOf r) .mode)
       × (memberIn (step c (command r room) .0) (targetOf r) .objects ≡ memberIn c (targetOf r) .objects)
 
+-- ---- REQUEST 1, SPEC 13.1: the host's half ----
+
+-- A built request is taken, and whatever is answered to it is read: Host.antt. Example: ../proofs/HostExample.antt
+-- The round trip of demand 2 is by built requests: RoundTrip.antt
+
 -- ---- REQUEST 2, SPEC 13.2: requests of any length ----
 
 -- Whatever the card is, zeros more at the end of a request change neither the card after it nor its reply, as long as they
@@ -157,6 +163,9 @@ pub record Claims : Type 1 where
   -- demand 3
   pub isolation : Isolation
   pub integrity : Integrity
+  -- request 1
+  pub taken : Taken
+  pub readBack : ReadBack
   -- request 2
   pub missingIsZero : MissingIsZero
   pub restIsIgnored : RestIsIgnored

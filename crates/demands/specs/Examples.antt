@@ -9,7 +9,9 @@ use Rattle.wire.specs.Le.{bytes}
 use Rattle.card.specs.Layout.{cardSize}
 use Rattle.events.specs.Events.{setUp}
 use Rattle.demands.specs.Calls.{Call, command, cardStore, Reply, written, answered, step}
-use Rattle.frame.specs.Requests.{request, objectHeader, getAll, setParts}
+use Rattle.host.specs.declared.Command.{Command}
+use Rattle.host.specs.declared.Command.the-variants as host
+use Rattle.host.specs.Request.{request, requestOf, getAll, setParts}
 
 -- two members; one queue, one get object and one set object for each; features all zero
 unfoldable pub exampleCard : List ℕ
@@ -21,27 +23,31 @@ exampleCard = setUp (replicate (cardSize 2) 0) 2 1 1 1 (replicate 16 0) .1
 abbrev pub send : List ℕ → Call
 send r = command r 4096
 
+-- one that is built and has no list
+abbrev pub sendAlone : Command → Call
+sendAlone x = send (requestOf x [])
+
 -- list use of this mask
 abbrev pub useList : ℕ → Call
-useList mask = send (request 0x01 1 0 (bytes 8 mask))
+useList mask = sendAlone (host.ListUse mask)
 
 abbrev pub setMode : ℕ → ℕ → Call
-setMode m mode = send (request 0x11 1 m (mode ∷ []))
+setMode m mode = sendAlone (host.SetMode m mode)
 
--- to member 1: flags 8 bytes, kind 1 byte (0 get, 1 set), reserved 7
+-- to member 1, as those below; kind 0 get, 1 set
 abbrev pub create : ℕ → ℕ → Call
-create id kind = send (request 0x0a 1 1 (objectHeader id ++ (replicate 8 0 ++ (kind ∷ replicate 7 0))))
+create id kind = sendAlone (host.Create 1 id kind)
 
 abbrev pub destroy : ℕ → Call
-destroy id = send (request 0x0d 1 1 (objectHeader id))
+destroy id = sendAlone (host.Destroy 1 id)
 
--- type 1 byte (0 size, 1 count, 2 list), reserved 7
+-- 0 size, 1 count, 2 list
 abbrev pub metadata : ℕ → ℕ → Call
-metadata id what = send (request 0x0e 1 1 (objectHeader id ++ (what ∷ replicate 7 0)))
+metadata id what = sendAlone (host.Metadata 1 id what)
 
--- parts get of the asked headers: type byte 0, reserved 7
+-- parts get of the asked headers
 abbrev pub getSelected : ℕ → List ℕ → Call
-getSelected id headers = send (request 0x0f 1 1 (objectHeader id ++ (replicate 8 0 ++ headers)))
+getSelected id headers = send (requestOf (host.Get 1 id 0) headers)
 
 -- all commands are used, by list use of 0x3FC03; then get object 0 and set object 1 are made
 abbrev pub allUsed : List Call
@@ -126,7 +132,7 @@ example before calls expected = record { before = before; calls = calls; expecte
 unfoldable pub workedExamples : List Example
 workedExamples =
     -- B1 fresh, list query, group 1: 03 FC 03 00 00 00 00 00 after the head
-    example [] (send (request 0x00 1 0 []) ∷ []) (gives (0x03 ∷ 0xfc ∷ 0x03 ∷ 0 ∷ 0 ∷ 0 ∷ 0 ∷ 0 ∷ []) ∷ [])
+    example [] (sendAlone host.ListQuery ∷ []) (gives (0x03 ∷ 0xfc ∷ 0x03 ∷ 0 ∷ 0 ∷ 0 ∷ 0 ∷ 0 ∷ []) ∷ [])
     -- B2 fresh, group 1, opcode 0x0a: 16 00 02 00 00 00 00 00
     ∷ example [] (send (request 0x0a 1 0 []) ∷ []) (written (0x16 ∷ 0 ∷ 2 ∷ 0 ∷ 0 ∷ 0 ∷ 0 ∷ 0 ∷ []) ∷ [])
     -- B3 group 2 and opcode 0xffff: 22/4

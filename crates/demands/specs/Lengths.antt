@@ -5,7 +5,7 @@ use mathlib.Core.List.{List, [], _∷_, _++_, map}
 use Prim.Native.Nat.{ℕ}
 use lib.ListN.{replicate}
 use Rattle.wire.specs.Le.{bytes}
-use Rattle.frame.specs.Requests.{request, objectHeader, setParts}
+use Rattle.host.specs.Request.{request, objectHeader, setParts}
 use Rattle.demands.specs.Calls.{Call, command, cardReset, answered, step}
 use Rattle.demands.specs.Examples.{exampleCard, send, useList, setMode, allUsed, objectsLive, refuses, gives, succeeds, aNumber, header, headerBytes, nineParts, driverPart, Example, example, repliesTo}
 

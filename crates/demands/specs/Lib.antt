@@ -4,4 +4,5 @@ pub mod Examples
 pub mod Lengths
 pub mod WrongPrograms
 pub mod RoundTrip
+pub mod Host
 pub mod Claims

@@ -1,5 +1,5 @@
--- DEMAND 2, the round trip, SPEC 9.2: a full capture of one member can be set in another, and a capture there gives the same
--- bytes. Assumes nothing.
+-- DEMAND 2, the round trip, SPEC 9.2, by requests that the host's half builds: a full capture of one member can be set in
+-- another, and a capture there gives the same bytes. Assumes nothing.
 use mathlib.Core.Path.{_≡_}
 use mathlib.Core.Bool.{true}
 use mathlib.Core.List.{List}
@@ -16,7 +16,7 @@ use Rattle.card.specs.Layout.{setupOf, inUseOf, isMember, memberIn}
 use Rattle.card.specs.Sound.{isSound}
 use Rattle.reply.specs.Reply.{headOf}
 use Rattle.admin.specs.Command.{respond}
-use Rattle.frame.specs.Requests.{getAll, setParts}
+use Rattle.host.specs.Request.{getAll, setParts}
 
 -- Member m of a sound card c is captured through a live get object i. Member k of a sound card d with the same setup is
 -- stopped and has a live set object j and a live get object l. (d may be c and k may be m.) Parts get, 0x0f, is in use

@@ -1,4 +1,3 @@
 pub mod Frame
 pub mod Fields
 pub mod Ask
-pub mod Requests

@@ -1,11 +1,17 @@
 // The exported functions: SPEC 1.2. A card is a buffer that the caller lends; each function is one call, and each contract
 // cites a definition of a lower crate.
 ghost use mathlib.Core.Path.{_≡_};
+ghost use mathlib.Core.List.{[]};
 ghost use Rattle.theory.specs.Logic.{indicator};
 ghost use Rattle.card.specs.Layout.{version, cardBytes};
 ghost use Rattle.card.specs.Sound.{isSound};
 ghost use Rattle.events.specs.Events.{numbered, setUp, resetMember, resetCard, store};
 ghost use Rattle.admin.specs.Command.{commandOf};
+ghost use Rattle.host.specs.Request.{built};
+ghost use Rattle.host.specs.Reply.{readReply};
+ghost use Rattle.kajurnat.specs.Told.{told};
+use host::Command;
+use host::Outcome;
 
 // Raised whenever a card's bytes change their meaning: a card that was kept is for the same version.
 #[no_mangle]
@@ -80,4 +86,129 @@ pub extern "C" fn kajurnat_store(
     ensures { λ r. ⌜ (r, now (card .exit)) ≡ numbered (store (now (card .entry)) member «part_type» selector (now (value .entry))) ⌝ }
 {
     protocol::event_number(events::store(card, member, part_type, selector, value))
+}
+
+// The host's half. Each builder writes the request of its command at the front of the buffer and answers its length; 0,
+// with nothing written, where it is over 4,096 bytes or too long for the buffer.
+#[no_mangle]
+pub extern "C" fn kajurnat_request_list_query(request: &mut [u8]) -> usize
+    ensures { λ r. ⌜ (r, now (request .exit)) ≡ built Command.ListQuery [] (now (request .entry)) ⌝ }
+{
+    host::list_query(request)
+}
+
+#[no_mangle]
+pub extern "C" fn kajurnat_request_list_use(request: &mut [u8], mask: u64) -> usize
+    ensures { λ r. ⌜ (r, now (request .exit)) ≡ built (Command.ListUse mask) [] (now (request .entry)) ⌝ }
+{
+    host::list_use(request, mask)
+}
+
+#[no_mangle]
+pub extern "C" fn kajurnat_request_create(
+    request: &mut [u8],
+    member: u64,
+    id: u32,
+    kind: u8,
+) -> usize
+    ensures { λ r. ⌜ (r, now (request .exit)) ≡ built (Command.Create member id kind) [] (now (request .entry)) ⌝ }
+{
+    host::create(request, member, id, kind)
+}
+
+#[no_mangle]
+pub extern "C" fn kajurnat_request_modify(
+    request: &mut [u8],
+    member: u64,
+    id: u32,
+    kind: u8,
+) -> usize
+    ensures { λ r. ⌜ (r, now (request .exit)) ≡ built (Command.Modify member id kind) [] (now (request .entry)) ⌝ }
+{
+    host::modify(request, member, id, kind)
+}
+
+#[no_mangle]
+pub extern "C" fn kajurnat_request_query(request: &mut [u8], member: u64, id: u32) -> usize
+    ensures { λ r. ⌜ (r, now (request .exit)) ≡ built (Command.Query member id) [] (now (request .entry)) ⌝ }
+{
+    host::query(request, member, id)
+}
+
+#[no_mangle]
+pub extern "C" fn kajurnat_request_destroy(request: &mut [u8], member: u64, id: u32) -> usize
+    ensures { λ r. ⌜ (r, now (request .exit)) ≡ built (Command.Destroy member id) [] (now (request .entry)) ⌝ }
+{
+    host::destroy(request, member, id)
+}
+
+#[no_mangle]
+pub extern "C" fn kajurnat_request_metadata(
+    request: &mut [u8],
+    member: u64,
+    id: u32,
+    what: u8,
+) -> usize
+    ensures { λ r. ⌜ (r, now (request .exit)) ≡ built (Command.Metadata member id what) [] (now (request .entry)) ⌝ }
+{
+    host::metadata(request, member, id, what)
+}
+
+#[no_mangle]
+pub extern "C" fn kajurnat_request_get(
+    request: &mut [u8],
+    member: u64,
+    id: u32,
+    which: u8,
+    headers: &[u8],
+) -> usize
+    ensures { λ r. ⌜ (r, now (request .exit)) ≡ built (Command.Get member id which) (now (headers .entry)) (now (request .entry)) ⌝ }
+{
+    host::get(request, member, id, which, headers)
+}
+
+#[no_mangle]
+pub extern "C" fn kajurnat_request_set(
+    request: &mut [u8],
+    member: u64,
+    id: u32,
+    list: &[u8],
+) -> usize
+    ensures { λ r. ⌜ (r, now (request .exit)) ≡ built (Command.Set member id) (now (list .entry)) (now (request .entry)) ⌝ }
+{
+    host::set(request, member, id, list)
+}
+
+#[no_mangle]
+pub extern "C" fn kajurnat_request_mode(request: &mut [u8], member: u64, mode: u8) -> usize
+    ensures { λ r. ⌜ (r, now (request .exit)) ≡ built (Command.SetMode member mode) [] (now (request .entry)) ⌝ }
+{
+    host::set_mode(request, member, mode)
+}
+
+// The answer to the command sent, by its opcode and, of a metadata command, its type byte: 0, with the status and the
+// qualifier to act on and both as they were sent, or 1 for a reply that is refused, and nothing written. The result is
+// the reply from byte 8.
+#[no_mangle]
+pub extern "C" fn kajurnat_reply_read(
+    opcode: u16,
+    what: u8,
+    reply: &[u8],
+    status: &mut u16,
+    qualifier: &mut u16,
+    sent_status: &mut u16,
+    sent_qualifier: &mut u16,
+) -> u8
+    ensures { λ r. ⌜ (r, (now (status .exit), (now (qualifier .exit), (now («sent_status» .exit), now («sent_qualifier» .exit))))) ≡ told (readReply opcode what (now (reply .entry))) (now (status .entry)) (now (qualifier .entry)) (now («sent_status» .entry)) (now («sent_qualifier» .entry)) ⌝ }
+{
+    match host::read_reply(opcode, what, reply) {
+        Outcome::Refused => 1,
+        Outcome::Answered(h) => {
+            *status = h.status;
+            *qualifier = h.qualifier;
+            *sent_status = h.sent_status;
+            *sent_qualifier = h.sent_qualifier;
+            0
+        }
+    }
 }

@@ -1,5 +1,6 @@
 // A guest moves: it is stopped and captured on one card, restored on another and resumed there; its first place is
 // reset, and the next guest is shown to find nothing of it. A transcript goes to standard output.
+use host::Outcome;
 use transcript::Request;
 
 // A card of four members with two queues each.
@@ -20,7 +21,7 @@ const HEADER: usize = 16;
 // The one feature that the cards offer and the guest's driver takes.
 const VERSION_1: [u8; 16] = [0, 0, 0, 0, 1, 0, 0, 0, 0, 0, 0, 0, 0, 0, 0, 0];
 
-fn name_status(status: u8) {
+fn name_status(status: u16) {
     match status {
         0 => transcript::print(b"OK"),
         6 => transcript::print(b"ENXIO"),
@@ -33,17 +34,33 @@ fn name_status(status: u8) {
     }
 }
 
+// The status of a reply to the request.
+fn show_status(request: &[u8], reply: &[u8]) {
+    if request.len() < 2 {
+        return;
+    }
+    match host::read_reply(wire::read_u16(request, 0), 0, reply) {
+        Outcome::Refused => transcript::print(b"no reply to it"),
+        Outcome::Answered(head) => name_status(head.status),
+    }
+}
+
+fn show_written(request: &[u8], reply: &[u8], written: usize) {
+    if written <= reply.len() {
+        show_status(request, &reply[..written]);
+    }
+}
+
 // Sends a command and tells how it went; answers the bytes written.
 fn tell(name: &[u8], request: Request, card: &mut [u8], reply: &mut [u8]) -> usize {
+    let bytes = request.bytes;
     let len = request.len;
     let written = request.send(card, reply);
     transcript::print(b"  ");
     transcript::print(name);
     transcript::print_number(len as u64);
     transcript::print(b" bytes -> ");
-    if 0 < reply.len() {
-        name_status(reply[0]);
-    }
+    show_written(&bytes, reply, written);
     transcript::print(b", ");
     transcript::print_number(written as u64);
     transcript::print(b" bytes\n");
@@ -52,11 +69,10 @@ fn tell(name: &[u8], request: Request, card: &mut [u8], reply: &mut [u8]) -> usi
 
 // The capture without the reply's head, as a list to set.
 fn restore(member: u64, reply: &[u8]) -> Request {
-    let empty = Request::new(transcript::PARTS_SET, 1, member).object(1);
     if reply.len() < CAPTURE {
-        return empty;
+        return Request::set(member, 1, &[]);
     }
-    empty.list(&reply[HEAD..CAPTURE])
+    Request::set(member, 1, host::result(reply))
 }
 
 fn objects(card: &mut [u8], member: u64, reply: &mut [u8]) {

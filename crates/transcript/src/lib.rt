@@ -1,115 +1,125 @@
-// For the programs: a request made field by field, and lines of text on standard output.
+// For the programs: requests that the host's half builds, and lines of text on standard output.
 ghost use Prim.Native.Nat.{_<_};
 use libc::STDOUT_FILENO;
 
-// Opcodes, the mask of all ten, and the kinds of objects, as numbers of a request.
-pub const LIST_QUERY: u64 = 0x00;
-
-const LIST_USE: u64 = 0x01;
-
-pub const CREATE: u64 = 0x0a;
-
-pub const DESTROY: u64 = 0x0d;
-
-pub const METADATA: u64 = 0x0e;
-
-pub const PARTS_GET: u64 = 0x0f;
-
-pub const PARTS_SET: u64 = 0x10;
-
-const MODE_SET: u64 = 0x11;
-
+// The mask of all ten opcodes, and the kinds of objects.
 pub const ALL: u64 = 0x3fc03;
 
-pub const GET: u64 = 0;
+pub const GET: u8 = 0;
 
-pub const SET: u64 = 1;
+pub const SET: u8 = 1;
 
-// The room of a request: a full capture of four queues and its headers fit.
+// A request that the host's half built. Its room is for a list of 472 bytes: a full capture of four queues fits.
 pub struct Request {
     pub bytes: [u8; 512],
     pub len: usize,
 }
 
 impl Request {
-    // The frame: opcode, group type, reserved bytes, member.
-    pub fn new(opcode: u64, group: u64, member: u64) -> Request {
-        let empty = Request {
-            bytes: [0u8; 512],
-            len: 0,
-        };
-        empty
-            .number(2, opcode)
-            .number(2, group)
-            .number(12, 0)
-            .number(8, member)
+    pub fn list_query() -> Request {
+        let mut bytes = [0u8; 512];
+        let len = host::list_query(&mut bytes);
+        Request {
+            bytes: bytes,
+            len: len,
+        }
+    }
+
+    pub fn list_use(mask: u64) -> Request {
+        let mut bytes = [0u8; 512];
+        let len = host::list_use(&mut bytes, mask);
+        Request {
+            bytes: bytes,
+            len: len,
+        }
+    }
+
+    pub fn create(member: u64, id: u32, kind: u8) -> Request {
+        let mut bytes = [0u8; 512];
+        let len = host::create(&mut bytes, member, id, kind);
+        Request {
+            bytes: bytes,
+            len: len,
+        }
+    }
+
+    pub fn query(member: u64, id: u32) -> Request {
+        let mut bytes = [0u8; 512];
+        let len = host::query(&mut bytes, member, id);
+        Request {
+            bytes: bytes,
+            len: len,
+        }
+    }
+
+    pub fn destroy(member: u64, id: u32) -> Request {
+        let mut bytes = [0u8; 512];
+        let len = host::destroy(&mut bytes, member, id);
+        Request {
+            bytes: bytes,
+            len: len,
+        }
+    }
+
+    pub fn metadata(member: u64, id: u32, what: u8) -> Request {
+        let mut bytes = [0u8; 512];
+        let len = host::metadata(&mut bytes, member, id, what);
+        Request {
+            bytes: bytes,
+            len: len,
+        }
+    }
+
+    // which: 0 the parts whose headers are given, 1 all.
+    pub fn get(member: u64, id: u32, which: u8, headers: &[u8]) -> Request {
+        let mut bytes = [0u8; 512];
+        let len = host::get(&mut bytes, member, id, which, headers);
+        Request {
+            bytes: bytes,
+            len: len,
+        }
+    }
+
+    pub fn set(member: u64, id: u32, list: &[u8]) -> Request {
+        let mut bytes = [0u8; 512];
+        let len = host::set(&mut bytes, member, id, list);
+        Request {
+            bytes: bytes,
+            len: len,
+        }
+    }
+
+    pub fn mode_set(member: u64, mode: u8) -> Request {
+        let mut bytes = [0u8; 512];
+        let len = host::set_mode(&mut bytes, member, mode);
+        Request {
+            bytes: bytes,
+            len: len,
+        }
+    }
+
+    // All parts of a member, through its get object 0.
+    pub fn get_all(member: u64) -> Request {
+        Request::get(member, 0, 1, &[])
+    }
+
+    // Without its last n bytes.
+    pub fn cut(mut self, n: usize) -> Request {
+        let len = self.len;
+        if n <= len {
+            self.len = len - n;
+        }
+        self
     }
 
     // One byte more, where there is room.
-    fn byte(mut self, b: u8) -> Request {
+    pub fn more(mut self, b: u8) -> Request {
         let at = self.len;
         if at < 512 {
             self.bytes[at] = b;
             self.len = at + 1;
         }
         self
-    }
-
-    // The n low bytes of x, the lowest first.
-    pub fn number(self, n: usize, x: u64) -> Request {
-        let mut r = self;
-        let mut v = x;
-        let mut i = 0;
-        while i < n {
-            r = r.byte((v % 256) as u8);
-            v /= 256;
-            i += 1;
-        }
-        r
-    }
-
-    // The object header: type, reserved, id.
-    pub fn object(self, id: u64) -> Request {
-        self.number(4, 0).number(4, id)
-    }
-
-    // The header of a part.
-    pub fn header(self, part_type: u64, selector: u64, length: u64) -> Request {
-        self.number(2, part_type)
-            .number(2, 0)
-            .number(8, selector)
-            .number(4, length)
-    }
-
-    pub fn list(self, s: &[u8]) -> Request {
-        let mut r = self;
-        let mut i = 0;
-        while i < s.len() {
-            r = r.byte(s[i]);
-            i += 1;
-        }
-        r
-    }
-
-    // List use of a mask.
-    pub fn list_use(mask: u64) -> Request {
-        Request::new(LIST_USE, 1, 0).number(8, mask)
-    }
-
-    pub fn create(member: u64, id: u64, kind: u64) -> Request {
-        Request::new(CREATE, 1, member)
-            .object(id)
-            .number(8, 0)
-            .number(8, kind)
-    }
-
-    // All parts of a member, through its get object 0.
-    pub fn get_all(member: u64) -> Request {
-        Request::new(PARTS_GET, 1, member).object(0).number(8, 1)
-    }
-
-    pub fn mode_set(member: u64, flags: u8) -> Request {
-        Request::new(MODE_SET, 1, member).byte(flags)
     }
 
     // Sends it to a card; answers the bytes written to the reply.

@@ -35,54 +35,117 @@ fn fresh(card: &mut [u8]) {
     kajurnat::kajurnat_setup(card, 2, 1, 1, 1, &[0u8; 16]);
 }
 
-// The examples create objects of member 1 alone.
-fn create(id: u64, kind: u64) -> Request {
+// The examples are of objects of member 1 alone.
+fn create(id: u32, kind: u8) -> Request {
     Request::create(1, id, kind)
 }
 
-fn metadata(what: u64) -> Request {
-    Request::new(transcript::METADATA, 1, 1)
-        .object(0)
-        .number(8, what)
+fn metadata(what: u8) -> Request {
+    Request::metadata(1, 0, what)
 }
 
-// Queue notify of queue 0, then the device status.
-fn get_two() -> Request {
-    Request::new(transcript::PARTS_GET, 1, 1)
-        .object(0)
-        .number(8, 0)
-        .header(0x105, 0, 0)
-        .header(0x103, 0, 0)
-}
+// The headers of queue notify of queue 0 and of the device status.
+const TWO: [u8; 32] = [
+    0x05,
+    1,
+    0,
+    0,
+    0,
+    0,
+    0,
+    0,
+    0,
+    0,
+    0,
+    0,
+    0,
+    0,
+    0,
+    0,
+    0x03,
+    1,
+    0,
+    0,
+    0,
+    0,
+    0,
+    0,
+    0,
+    0,
+    0,
+    0,
+    0,
+    0,
+    0,
+    0,
+];
 
-// Driver features, given once.
+// Driver features: the header, and the value 0x5aa5.
+const DRIVER: [u8; 32] = [
+    0x01,
+    1,
+    0,
+    0,
+    0,
+    0,
+    0,
+    0,
+    0,
+    0,
+    0,
+    0,
+    16,
+    0,
+    0,
+    0,
+    0xa5,
+    0x5a,
+    0,
+    0,
+    0,
+    0,
+    0,
+    0,
+    0,
+    0,
+    0,
+    0,
+    0,
+    0,
+    0,
+    0,
+];
+
 fn set_once() -> Request {
-    Request::new(transcript::PARTS_SET, 1, 1)
-        .object(1)
-        .header(0x101, 0, 16)
-        .number(16, 0x5aa5)
+    Request::set(1, 1, &DRIVER)
 }
 
 fn set_twice() -> Request {
-    set_once().header(0x101, 0, 16).number(16, 0x5aa5)
+    let mut list = [0u8; 64];
+    wire::copy(&mut list, 0, &DRIVER);
+    wire::copy(&mut list, 32, &DRIVER);
+    Request::set(1, 1, &list)
+}
+
+// Group type 2 and opcode 0xffff: no command, so not built.
+fn no_command(card: &mut [u8]) {
+    let mut reply = [0u8; 512];
+    let mut request = [0u8; 24];
+    request[0] = 0xff;
+    request[1] = 0xff;
+    request[2] = 2;
+    let written = kajurnat::kajurnat_command(card, &request, &mut reply);
+    show_reply(b"B3 group 2 and opcode 0xffff", &reply, written);
 }
 
 fn before_use(card: &mut [u8]) {
-    show(
-        b"B1 list query",
-        Request::new(transcript::LIST_QUERY, 1, 0),
-        card,
-    );
+    show(b"B1 list query", Request::list_query(), card);
     show(
         b"B2 object create, not in use",
-        Request::new(transcript::CREATE, 1, 0),
+        Request::create(0, 0, GET),
         card,
     );
-    show(
-        b"B3 group 2 and opcode 0xffff",
-        Request::new(0xffff, 2, 0),
-        card,
-    );
+    no_command(card);
 }
 
 fn members(card: &mut [u8]) {
@@ -100,11 +163,7 @@ fn ids(card: &mut [u8]) {
 
 fn objects(card: &mut [u8]) {
     show(b"B6 create set object 1", create(1, SET), card);
-    show(
-        b"B7 destroy object 0",
-        Request::new(transcript::DESTROY, 1, 1).object(0),
-        card,
-    );
+    show(b"B7 destroy object 0", Request::destroy(1, 0), card);
     show(b"B7 create get object 0", create(0, GET), card);
     show(b"B8 parts set, member running", set_once(), card);
 }
@@ -112,7 +171,11 @@ fn objects(card: &mut [u8]) {
 fn parts(card: &mut [u8]) {
     show(b"B9 count", metadata(1), card);
     show(b"B9 size", metadata(0), card);
-    show(b"B10 queue notify and device status", get_two(), card);
+    show(
+        b"B10 queue notify and device status",
+        Request::get(1, 0, 0, &TWO),
+        card,
+    );
 }
 
 fn stopped(card: &mut [u8]) {
@@ -139,43 +202,53 @@ fn room(card: &mut [u8]) {
     );
 }
 
-// ---- requests of any length: data of their own, for member 1 ----
+// ---- requests of any length, for member 1: built ones that are cut, or have bytes more ----
 
-const LIST_USE: u64 = 0x01;
-
-const QUERY: u64 = 0x0c;
-
-const MODE_SET: u64 = 0x11;
-
-// No data; more may follow.
-fn begin(opcode: u64) -> Request {
-    Request::new(opcode, 1, 1)
+// An object header that ends after the first byte of its id.
+fn query_of_5() -> Request {
+    Request::query(1, 1).cut(11)
 }
 
-// The object header ends after the first byte of its id.
-fn query_of_5() -> Request {
-    begin(QUERY).number(4, 0).number(1, 1)
+fn query_of_0() -> Request {
+    Request::query(1, 1).cut(16)
 }
 
 fn create_of_17() -> Request {
-    begin(transcript::CREATE)
-        .object(1)
-        .number(8, 0)
-        .number(1, SET)
+    create(1, SET).cut(7)
 }
 
 fn create_of_30() -> Request {
-    create(0, GET).number(6, 0xffffffffffff)
+    let r = create(0, GET).more(0xff).more(0xff).more(0xff);
+    r.more(0xff).more(0xff).more(0xff)
 }
 
 // The device status and the first half of another header.
-fn get_half() -> Request {
-    begin(transcript::PARTS_GET)
-        .object(0)
-        .number(8, 0)
-        .header(0x103, 0, 0)
-        .number(8, 0x105)
-}
+const HALF: [u8; 24] = [
+    0x03,
+    0x01,
+    0,
+    0,
+    0,
+    0,
+    0,
+    0,
+    0,
+    0,
+    0,
+    0,
+    0,
+    0,
+    0,
+    0,
+    0x05,
+    0x01,
+    0,
+    0,
+    0,
+    0,
+    0,
+    0,
+];
 
 // ---- each example on a card of its own ----
 
@@ -199,55 +272,47 @@ fn cut_create(card: &mut [u8]) {
 fn long_create(card: &mut [u8]) {
     all_used(card);
     show(b"L2 create of 30 bytes", create_of_30(), card);
-    show(b"L2 query of no data", begin(QUERY), card);
+    show(b"L2 query of no data", query_of_0(), card);
 }
 
 fn resumed(card: &mut [u8]) {
     objects_live(card);
     send(Request::mode_set(1, 1), card);
-    show(b"L3 mode set of no data", begin(MODE_SET), card);
+    show(
+        b"L3 mode set of no data",
+        Request::mode_set(1, 1).cut(1),
+        card,
+    );
     show(b"L3 parts set", set_once(), card);
 }
 
-fn blocked(card: &mut [u8]) {
+fn masks(card: &mut [u8]) {
     all_used(card);
-    show(b"L4 list use of no data", begin(LIST_USE), card);
-    show(b"L4 list query", begin(transcript::LIST_QUERY), card);
-}
-
-fn long_mask(card: &mut [u8]) {
+    show(b"L4 list use of no data", Request::list_use(3).cut(8), card);
+    show(b"L4 list query", Request::list_query(), card);
     fresh(card);
     show(
         b"L5 list use of 9 bytes, bit 64",
-        Request::list_use(3).number(1, 1),
+        Request::list_use(3).more(1),
         card,
     );
 }
 
-fn cut_lists(card: &mut [u8]) {
+fn lists(card: &mut [u8]) {
     let mut short = [0u8; 8];
     all_used(card);
     show(
         b"L6 get all, one byte past 16",
-        Request::get_all(1).number(1, 0),
+        Request::get_all(1).more(0),
         card,
     );
     objects_live(card);
     show_in(
         b"L7 one header and a half, room for 8",
-        get_half(),
+        Request::get(1, 0, 0, &HALF),
         card,
         &mut short,
     );
-}
-
-fn any_length(card: &mut [u8]) {
-    cut_create(card);
-    long_create(card);
-    resumed(card);
-    blocked(card);
-    long_mask(card);
-    cut_lists(card);
 }
 
 fn main() {
@@ -261,5 +326,9 @@ fn main() {
     parts(&mut card);
     stopped(&mut card);
     room(&mut card);
-    any_length(&mut card);
+    cut_create(&mut card);
+    long_create(&mut card);
+    resumed(&mut card);
+    masks(&mut card);
+    lists(&mut card);
 }

@@ -1,0 +1,4 @@
+pub mod Request
+pub mod Building
+pub mod Reply
+pub mod Examples
