@@ -1,5 +1,5 @@
-//! An independent plain Rust card, written from document 01 and request 2 of
-//! document 02 alone.
+//! An independent plain Rust card and host, written from document 01 and
+//! requests 1 and 2 of document 02 alone.
 //!
 //! It is the readable, executable version of these and the reference that the
 //! verified archive is compared with. It shares no code with the archive. Terms
@@ -16,6 +16,7 @@
 //! | [`command`](mod@command), [`effect`] | the steps in order, and what a command does |
 //! | [`event`] | resets and card store |
 //! | [`status`] | the numbers of the answers |
+//! | [`host`] | requests built from their fields, replies read |
 //! | [`bytes`], [`exported`] | the card as bytes, and the archive's functions over them |
 
 #![forbid(unsafe_code)]
@@ -28,6 +29,7 @@ pub mod effect;
 pub mod event;
 pub mod exported;
 pub mod frame;
+pub mod host;
 pub mod list;
 pub mod member;
 pub mod object;

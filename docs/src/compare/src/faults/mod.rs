@@ -13,6 +13,7 @@ mod data;
 mod events;
 mod exchange;
 mod frame;
+mod host;
 mod length;
 mod memory;
 mod objects;
@@ -50,6 +51,8 @@ pub enum Property {
     Isolation,
     /// Neighbouring calls for different members in either order.
     Exchange,
+    /// Built requests, sent, and their replies, read.
+    Halves,
 }
 
 /// How a fault is planted.
@@ -227,6 +230,7 @@ pub fn all() -> Vec<&'static Fault> {
         parts::FAULTS,
         events::FAULTS,
         exchange::FAULTS,
+        host::FAULTS,
         soundness::FAULTS,
         memory::FAULTS,
     ]
