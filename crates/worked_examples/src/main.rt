@@ -286,10 +286,13 @@ fn resumed(card: &mut [u8]) {
     show(b"L3 parts set", set_once(), card);
 }
 
-fn masks(card: &mut [u8]) {
+fn blocked(card: &mut [u8]) {
     all_used(card);
     show(b"L4 list use of no data", Request::list_use(3).cut(8), card);
     show(b"L4 list query", Request::list_query(), card);
+}
+
+fn long_mask(card: &mut [u8]) {
     fresh(card);
     show(
         b"L5 list use of 9 bytes, bit 64",
@@ -329,6 +332,7 @@ fn main() {
     cut_create(&mut card);
     long_create(&mut card);
     resumed(&mut card);
-    masks(&mut card);
+    blocked(&mut card);
+    long_mask(&mut card);
     lists(&mut card);
 }
