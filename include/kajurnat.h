@@ -68,7 +68,7 @@ extern "C" {
 #define KAJURNAT_VERSION 1
 
 /* The stack that a call takes at most, memcpy, memmove and memset aside. */
-#define KAJURNAT_STACK_BYTES 2048
+#define KAJURNAT_STACK_BYTES 2304
 
 /* ---- Setup and answers ------------------------------------------------ */
 
