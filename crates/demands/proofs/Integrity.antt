@@ -79,7 +79,6 @@ ask-at c r op e P f g =
     (unless-cases P _ _ _ (λ t. f _) λ t.
     unless-cases P _ _ _ (λ t. f _) λ t.
     unless-cases P _ _ _ (λ t. f _) λ t.
-    unless-cases P _ _ _ (λ t. f _) λ t.
     unless-cases P _ _ _ (λ t. f _) λ t. g)
 
 -- list use

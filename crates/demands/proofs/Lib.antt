@@ -1,5 +1,6 @@
 pub mod Model
 pub mod Examples
+pub mod LengthExamples
 pub mod WrongPrograms
 pub mod WrongProgramsExample
 pub mod Respond

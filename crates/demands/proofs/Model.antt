@@ -4,7 +4,7 @@ use Rattle.theory.specs.Bytes.{put, repeat, same}
 use Rattle.theory.specs.Items.{itemsFrom}
 use Rattle.theory.specs.Machine.{trace, replies, run, seen, visible}
 use Rattle.wire.specs.Le.{le, bytes, number}
-use Rattle.protocol.specs.Opcodes.{opcodeRows, opcodeRow, supported, lengthFits, namesMember, bit, supportedOnly}
+use Rattle.protocol.specs.Opcodes.{opcodeRows, opcodeRow, supported, namesMember, bit, supportedOnly}
 use Rattle.inventory.specs.Inventory.{rows as inventoryRows, rowAt, present, offsetOf, selectorOf, isRow, seek, placeOf}
 use Rattle.inventory.specs.Header.{headerOf}
 use Rattle.parts.specs.List.{headerAt, stepAt, atMost, partsFrom, whole, among}
@@ -33,7 +33,7 @@ use Rattle.demands.specs.Examples.{exampleCard, headersListed, joined, n
 
 unfoldable pub model : Unit {0}
 unfolding if_then_else_ unless_answer_then_ _and_ _or_ within indicator put repeat same itemsFrom trace replies run seen visible le bytes number
-    opcodeRows opcodeRow supported lengthFits namesMember bit supportedOnly
+    opcodeRows opcodeRow supported namesMember bit supportedOnly
     inventoryRows rowAt present offsetOf selectorOf isRow seek placeOf headerOf headerAt stepAt atMost partsFrom
     known knownOrSkipped lengthRight featuresSame asksKnown whole every among repeated causeIn askedIn storable stored applied
     headerItem headersOf partAt asks partItem partsWritten memberOf memberBytes lookupOf withObject count allUpTo withinLimits

@@ -10,14 +10,14 @@ use lib.ListN.{length, getD, take, drop, replicate, length-append}
 use Rattle.theory.specs.Logic.{if_then_else_, unless_answer_then_, _and_, _or_, within}
 use Rattle.theory.proofs.Tests.{by-cases, both, either, true-and, and-true, false-and, and-false, true-or, false-or, or-false, within-low, within-high, tests}
 use Rattle.theory.proofs.Sums.{sumFrom}
-use Rattle.wire.specs.Le.{bytes, number}
+use Rattle.wire.specs.Le.{le, bytes}
 use Rattle.protocol.specs.declared.Answer.{Answer}
 use Rattle.protocol.specs.declared.Answer.the-variants.{Done}
 use Rattle.protocol.specs.declared.Mode.{Mode}
 use Rattle.protocol.specs.declared.Mode.the-variants.{Running, Stopped}
 use Rattle.protocol.specs.declared.ObjectKind.{ObjectKind}
 use Rattle.protocol.specs.Answers.{isGet, isSet, kindNumber, statusOf, qualifierOf, isDone}
-use Rattle.protocol.specs.Opcodes.{supported, bit, namesMember, lengthFits, supportedMask, supportedOnly}
+use Rattle.protocol.specs.Opcodes.{supported, bit, namesMember, supportedMask, supportedOnly}
 use Rattle.protocol.proofs.Rows.{supported-is}
 use Rattle.inventory.specs.Inventory.{valuesSize, partCount, partsSize}
 use Rattle.inventory.proofs.Rules.{table}
@@ -62,7 +62,7 @@ says xs n = (firstOf xs .0, (firstOf xs .1, if eqb (firstOf xs .0) 0 then n else
 abbrev Agree : List ℕ → List ℕ → ℕ → ℕ → Type 0
 Agree c r room op =
     ends room (perform c r (fieldsOf (setupOf c .gets + setupOf c .sets) (targetOf r) op (dataOf r)))
-    ≡ says (drop 5 (rowsAt c r room op)) (resultSize c r op)
+    ≡ says (drop 4 (rowsAt c r room op)) (resultSize c r op)
 
 -- ---- cases: first where a step stops, then what is below it ----
 
@@ -108,7 +108,7 @@ fields = tt
 ruleset tested = (nor-is, true-and, and-true, false-and, and-false, true-or, false-or, or-false)
 
 module _ (ids : ℕ) (d : List ℕ) where
-  bad-use : badField ids 0x01 d ≡ not (supportedOnly (number 0 8 d))
+  bad-use : badField ids 0x01 d ≡ not (supportedOnly (le d))
   unfolding fields
   bad-use = simp tested
 
@@ -136,7 +136,7 @@ module _ (ids : ℕ) (d : List ℕ) where
   unfolding fields
   bad-selected e = rw e (simp tested)
 
-  bad-all : typeByte d ≡ 1 → badField ids 0x0f d ≡ not (objectValid ids d and eqb (length d) 16)
+  bad-all : typeByte d ≡ 1 → badField ids 0x0f d ≡ not (objectValid ids d and leb (length d) 16)
   unfolding fields
   bad-all e = rw e (simp tested)
 
@@ -192,7 +192,7 @@ module _ (c r : List ℕ) (room : ℕ) where
 
   list-use : Agree c r room 0x01
   unfolding ladders
-  list-use = rw bad-use (test (supportedOnly (number 0 8 d)) (λ e. rw e) λ e. rw e none)
+  list-use = rw bad-use (test (supportedOnly (le d)) (λ e. rw e) λ e. rw e none)
 
   create : Agree c r room 0x0a
   unfolding ladders
@@ -270,7 +270,7 @@ module _ (c r : List ℕ) (room : ℕ) where
       unfolding ladders
       get-all y =
           rw (bad-all ids d y, y) (test (objectValid ids d) (λ e. rw e) λ e. rw e (
-          test (eqb (length d) 16) (λ e. rw e) λ e. rw e (
+          test (leb (length d) 16) (λ e. rw e) λ e. rw e (
           through-get (λ e. rw e) (λ k e f. rw (e, f)) λ k e f. rw (e, f) (
           result (captureOf q (memberNamed c r .values)) _ (capture-length q _ few long)))))
 
@@ -295,7 +295,7 @@ module _ (c r : List ℕ) (room : ℕ) where
         (create, (modify, (query, (destroy, (metadata, (parts-get long, (parts-set, (mode-set, tt)))))))) op
         (within-low _ _ _ e) (omega (tests, within-high _ _ _ e)))
 
--- ---- steps 2 to 6 ----
+-- ---- steps 2 to 5 ----
 
 -- step 5, as the decoder and as the row test it
 reaches-is : (n w : Bool) → not n or w ≡ not (n and not w)
@@ -311,8 +311,7 @@ agree c r room s =
     test (eqb (groupOf r) 1) (λ e. rw e) λ e. rw e (
     test (supported (opcodeOf r) and bit (inUseOf c) (opcodeOf r)) (λ e. rw e) λ u. rw (u, reaches-is) (
     by-cases (namesMember (opcodeOf r) and not (isMember c (targetOf r))) (λ e. rw e) λ n. rw n (
-    test (lengthFits (opcodeOf r) (length (dataOf r))) (λ e. rw e) λ e. rw e (
-    by-opcode c r room s (opcodeOf r) (both _ _ u .0) n)))))
+    by-opcode c r room s (opcodeOf r) (both _ _ u .0) n))))
 
 -- ---- the claim ----
 

@@ -48,7 +48,6 @@ cases =
     ∷ ([], send (request 0xffff 2 0 []))  -- 3
     ∷ ([], send (request 0x0a 1 0 []))  -- 4: not in use
     ∷ (allUsed, setMode 3 1)  -- 5: of two members
-    ∷ (allUsed, send (request 0x11 1 1 []))  -- 6: no mode
     ∷ (allUsed, setMode 1 2)  -- 7: a mode bit
     ∷ (objectsLive, create 0 0)  -- 8: a live id
     ∷ (allUsed, destroy 0)  -- no live id
@@ -61,6 +60,6 @@ cases =
     ∷ []
 
 every-row-applies : map (λ (x : Case). placeFor (run step exampleCard (x .0)) (x .1)) cases
-    ≡ 0 ∷ 1 ∷ 2 ∷ 3 ∷ 4 ∷ 5 ∷ 6 ∷ 7 ∷ 8 ∷ 9 ∷ 10 ∷ 11 ∷ 12 ∷ 13 ∷ []
+    ≡ 0 ∷ 1 ∷ 2 ∷ 3 ∷ 4 ∷ 5 ∷ 6 ∷ 7 ∷ 8 ∷ 9 ∷ 10 ∷ 11 ∷ 12 ∷ []
 unfolding model place placeFor cases
 every-row-applies = refl

@@ -1,6 +1,7 @@
 -- THE STATUS TABLE of document 01, "Statuses, and which comes first", steps 2 to 12, as one list of rows in its order,
 -- and the claim that each status is given exactly when its row is the first that applies. The rows read the bytes of
--- the request and the card, and not what the decoder makes of them. Assumes nothing.
+-- the request and the card, and not what the decoder makes of them. Data may have any length (02, request 2): there is
+-- no row of step 6, and `number` and `getD` read each missing byte as zero. Assumes nothing.
 use mathlib.Core.Path.{_≡_}
 use mathlib.Core.Bool.{Bool, true, false, not}
 use mathlib.Core.List.{List, [], _∷_, _++_, map}
@@ -8,9 +9,9 @@ use Prim.Native.Nat.{ℕ, _+_, _*_, _≤_}
 use lib.Dec.{leb, ltb, eqb}
 use lib.ListN.{length, getD, take, replicate}
 use Rattle.theory.specs.Logic.{if_then_else_, _and_, _or_, within}
-use Rattle.wire.specs.Le.{bytes, number}
+use Rattle.wire.specs.Le.{le, bytes, number}
 use Rattle.protocol.specs.Answers.{isStopped, isGet, isSet}
-use Rattle.protocol.specs.Opcodes.{supported, bit, namesMember, lengthFits, supportedOnly}
+use Rattle.protocol.specs.Opcodes.{supported, bit, namesMember, supportedOnly}
 use Rattle.inventory.specs.Inventory as inventory
 use Rattle.inventory.specs.Inventory.{total, partCount, partsSize}
 use Rattle.rules.specs.Rules.{causeOf, isAccepted, askedOf}
@@ -96,7 +97,7 @@ isLiveSet x = onFound x isSet false
 -- step 7, "a field"; ids is G + S
 unfoldable pub badField : ℕ → ℕ → List ℕ → Bool
 badField ids op d =
-    (eqb op 0x01 and not (supportedOnly (number 0 8 d)))  -- "unsupported mask bit"
+    (eqb op 0x01 and not (supportedOnly (le d)))  -- "unsupported mask bit", of all bytes as one long mask
     or (namesObject op and not (eqb (objectType d) 0))  -- "type not 0"
     or (namesObject op and not (ltb (objectId d) ids))  -- "id not valid"
     or (hasFlags op and not (eqb (flagBytes d) 0))  -- "flags not 0"
@@ -104,9 +105,9 @@ badField ids op d =
     or (eqb op 0x0e and not (leb (typeByte d) 2))
     or (eqb op 0x0f and not (leb (typeByte d) 1))
     or (eqb op 0x11 and not (leb (getD d 0 0) 1))  -- "mode bits 1 to 7"
-    or (eqb op 0x0f and eqb (typeByte d) 1 and not (eqb (length d) 16))  -- "headers given with get-all"
+    or (eqb op 0x0f and eqb (typeByte d) 1 and not (leb (length d) 16))  -- "headers given with get-all": any byte past 16
 
--- step 10, "a bad list, asked or given"
+-- step 10, "a bad list, asked or given"; an asked list whose last header is incomplete is one
 unfoldable pub badList : List ℕ → List ℕ → ℕ → Bool
 badList c r op =
     (eqb op 0x0f and eqb (typeByte (dataOf r)) 0 and not (askedOf (setupOf c .queues) (askedList r)))
@@ -134,7 +135,6 @@ rowsAt c r room op =
     ∷ row (not (eqb (groupOf r) 1)) 22 4  -- 3
     ∷ row (not (supported op and bit (inUseOf c) op)) 22 2  -- 4
     ∷ row (namesMember op and not (isMember c (targetOf r))) 22 5  -- 5
-    ∷ row (not (lengthFits op (length (dataOf r)))) 22 1  -- 6
     ∷ row (badField (setupOf c .gets + setupOf c .sets) op (dataOf r)) 22 3  -- 7
     -- 8: "create on a live id"
     ∷ row (eqb op 0x0a and isLive (objectNamed c r)) 17 1

@@ -112,8 +112,8 @@ module _ (members ids : ℕ) (r : List ℕ) where
   facts : (inUse : ℕ) → Facts members ids r (askOf members ids inUse r)
   unfolding askOf framedOf
   facts inUse =
-      guarded _ _ _ (λ l. guarded _ _ _ (λ g. guarded _ _ _ (λ u. guarded _ _ _ (λ t. guarded _ _ _
-      (λ f. passed inUse (search) (search) (search) (search))))))
+      guarded _ _ _ (λ l. guarded _ _ _ (λ g. guarded _ _ _ (λ u. guarded _ _ _
+      (λ t. passed inUse (search) (search) (search) (search)))))
 
   pub asked : (inUse : ℕ) (a : Ask) → askOf members ids inUse r ≡ a → Facts members ids r a
   asked inUse a e = rw e at (facts inUse)

@@ -1,3 +1,5 @@
+pub mod Numbers
 pub mod Steps
+pub mod Lengths
 pub mod Asked
 pub mod Requests

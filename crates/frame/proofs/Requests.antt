@@ -2,16 +2,16 @@
 use mathlib.Core.Path.{_≡_, refl, _∙_}
 use mathlib.Core.Bool.{true}
 use mathlib.Core.List.{List, _∷_, _++_}
-use Prim.Native.Nat.{ℕ, _+_, _-_, _%_, _^_, _≤_, _<_}
+use Prim.Native.Nat.{ℕ, _+_, _^_, _≤_, _<_}
 use native.Mathlib.Omega.{arith}
 use lib.Dec.{ltb}
 use lib.ListN.{length, drop, replicate}
-use borrow.Author.Tests.{lt-ltb, eq-eqb}
+use borrow.Author.Tests.{lt-ltb}
 use Rattle.theory.specs.Logic.{if_then_else_, unless_answer_then_, _and_, _or_, within}
-use Rattle.theory.proofs.Tests.{by-cases, and-i, inside, within-high}
+use Rattle.theory.proofs.Tests.{by-cases, inside, within-high}
 use Rattle.wire.specs.Le.{le, bytes, number}
 use Rattle.wire.proofs.Le.{le-bytes}
-use Rattle.protocol.specs.Opcodes.{largest, opcodeRows, opcodeRow, supported, lengthFits, namesMember, bit}
+use Rattle.protocol.specs.Opcodes.{largest, opcodeRows, opcodeRow, supported, namesMember, bit}
 use Rattle.protocol.specs.declared.ReadOp.the-variants.{GetAll}
 use Rattle.protocol.specs.declared.ChangeOp.the-variants.{SetParts}
 use Rattle.protocol.specs.declared.Answer.the-variants.{BadOpcode, BadField}
@@ -67,16 +67,9 @@ module _ (id : ℕ) (rest : List ℕ) (small : id < 256 ^ 4) where
   unfolding objectValid _and_
   object-read ids = rw (type-read, id-read)
 
--- a list of parts within the largest data is as long as a parts set may be
 long-header : (id : ℕ) (list : List ℕ) → length (objectHeader id ++ list) ≡ 8 + length list
 unfolding objectHeader bytes
 long-header id list = omega arith
-
-set-fits : (id : ℕ) (list : List ℕ) → 8 + length list ≤ largest → lengthFits 0x10 (length (objectHeader id ++ list)) ≡ true
-unfolding lengthFits opcodeRow opcodeRows
-set-fits id list h =
-    let e : (8 + length list - 8) % 1 ≡ 0 = omega arith in
-    rw long-header (and-i _ _ (inside 8 largest (8 + length list) (omega arith) h) (eq-eqb _ 0 e))
 
 -- ---- the two commands of a round trip ----
 
@@ -86,7 +79,7 @@ module _ (members ids inUse m id : ℕ) (few : members ≤ 16) (here : within 1 
   in-range = omega (arith, within-high 1 members m here)
 
   pub get-all-asked : bit inUse 0x0f ≡ true → id < ids → askOf members ids inUse (getAll m id) ≡ Read m (GetAll id)
-  unfolding getAll framedOf usable supported opcodeRow opcodeRows reaches namesMember lengthFits fieldsOf getIn
+  unfolding getAll framedOf usable supported opcodeRow opcodeRows reaches namesMember fieldsOf getIn
       objectHeader bytes within _and_ _or_ if_then_else_ unless_answer_then_
   get-all-asked u valid =
       let rest : List ℕ = 1 ∷ replicate 7 0 in
@@ -101,5 +94,5 @@ module _ (members ids inUse m id : ℕ) (few : members ≤ 16) (here : within 1 
   set-parts-asked list h =
       ask-request 0x10 1 m (objectHeader id ++ list) members ids inUse (omega arith) (omega arith) in-range (rw long-header h)
       ∙ by-cases (bit inUse 0x10)
-      (λ u. rw (u, here, set-fits id list h, object-read id list small ids, id-read id list small))
+      (λ u. rw (u, here, object-read id list small ids, id-read id list small))
       (λ u. rw u)

@@ -2,27 +2,28 @@
 use mathlib.Core.Path.{_≡_, refl, sym, _∙_}
 use mathlib.Core.Bool.{Bool, true, false, not}
 use mathlib.Core.List.{List}
-use Prim.Native.Nat.{ℕ, zero, suc, _+_, _-_, _≤_}
+use Prim.Native.Nat.{ℕ, zero, suc, _+_, _*_, _-_, _^_, _≤_}
 use native.Mathlib.Nat.{le-antisymm}
 use native.Mathlib.Omega.{arith}
-use borrow.Author.Tests.{not-false}
-use lib.Dec.{ltb}
-use lib.ListN.{length, take, length-drop}
+use borrow.Author.Tests.{not-false, eq-eqb, ne-eqb}
+use lib.Dec.{ltb, eqb}
+use lib.ListN.{length, getD, take, drop, length-drop, drop-of-length-le}
 use lib.Seq.{take-all}
 use Rattle.theory.specs.Logic.{if_then_else_, unless_answer_then_}
-use Rattle.theory.proofs.Tests.{both, either, inside, within-low, within-high, tests}
-use Rattle.theory.proofs.Ladder.{pass}
-use Rattle.wire.specs.Le.{number}
+use Rattle.theory.proofs.Tests.{by-cases, both, either, inside, within-low, within-high, tests}
+use Rattle.theory.proofs.Ladder.{pass, stop, and-right, said-true, said-false}
+use Rattle.wire.specs.Le.{le, number}
 use Rattle.protocol.specs.declared.Answer.the-variants.{BadField}
 use Rattle.protocol.specs.declared.ObjectKind.the-variants.{Set}
 use Rattle.protocol.specs.declared.Metadata.the-variants.{HeaderList}
-use Rattle.protocol.specs.Opcodes.{largest, opcodeRows, supported, supportedOnly, lengthFits, namesMember}
+use Rattle.protocol.specs.Opcodes.{largest, opcodeRows, supported, supportedOnly, fixedSize, namesMember}
 use Rattle.protocol.proofs.Rows.{supported-is, data-long}
 use Rattle.frame.specs.declared.Ask.{Ask}
 use Rattle.frame.specs.declared.Ask.the-variants.{Refused, UseList}
 use Rattle.frame.specs.Frame.{dataAt, longest, opcodeOf, groupOf, targetOf, dataOf}
 use Rattle.frame.specs.Fields.{kindIn, metadataIs, modeIn, useIn, fieldsOf}
 use Rattle.frame.specs.Ask.{usable, framedOf, askOf}
+use Rattle.frame.proofs.Numbers.{le-step, le-split}
 
 -- a byte other than those before
 pub kind-set : (b : ℕ) → (b ≡ 0 → ⊥) → Set ≡ kindIn b
@@ -34,11 +35,38 @@ metadata-list zero n o = absurd (n refl)
 metadata-list (suc zero) n o = absurd (o refl)
 metadata-list (suc (suc b)) n o = refl
 
--- the mask that was read
-pub mask-read : (mask : ℕ) (d : List ℕ) (x : Ask) → mask ≡ number 0 8 d
-    → x ≡ unless supportedOnly mask answer Refused BadField then UseList mask → x ≡ useIn d
-unfolding useIn
-mask-read mask d x e h = rw e at h
+-- no bit from a place on: a byte that is 0 leaves it to those after it, any other decides, and so does the end
+module _ (d : List ℕ) (at i : ℕ) (e : eqb (le (drop at d)) 0 ≡ eqb (le (drop i d)) 0) where
+  pub zero-on : getD d i 0 ≡ 0 → eqb (le (drop at d)) 0 ≡ eqb (le (drop (i + 1) d)) 0
+  zero-on h =
+      let s : le (drop i d) ≡ 256 * le (drop (i + 1) d) = omega (arith, le-step d i) in
+      e ∙ by-cases (eqb (le (drop (i + 1) d)) 0)
+      (λ t. eq-eqb (le (drop i d)) 0 (omega tests) ∙ sym t)
+      (λ t. ne-eqb (le (drop i d)) 0 (λ z. omega tests) ∙ sym t)
+
+  pub zero-not : (getD d i 0 ≡ 0 → ⊥) → false ≡ eqb (le (drop at d)) 0
+  zero-not h = sym (e ∙ ne-eqb (le (drop i d)) 0 (λ (z : le (drop i d) ≡ 0). h (omega (arith, le-step d i))))
+
+  pub zero-end : length d ≤ i → true ≡ eqb (le (drop at d)) 0
+  unfolding le
+  zero-end h = sym (e ∙ rw (drop-of-length-le d h))
+
+-- the long mask: a bit after the first word is not supported, and without one the word is the mask
+module _ (d : List ℕ) (t : Bool) (e : t ≡ eqb (le (drop 8 d)) 0) where
+  pub mask-long : not t ≡ true → Refused BadField ≡ useIn d
+  unfolding useIn supportedOnly
+  mask-long h =
+      let n : eqb (le (drop 8 d)) 0 ≡ false = said-false _ t e h in
+      let over : ltb (le d) (2 ^ 18) ≡ false = omega (tests, le-split 8 d) in
+      stop _ _ _ _ (and-right _ _ over) refl
+
+  pub mask-read : (mask : ℕ) (x : Ask) → not t ≡ false → mask ≡ number 0 8 d
+      → x ≡ unless supportedOnly mask answer Refused BadField then UseList mask → x ≡ useIn d
+  unfolding useIn
+  mask-read mask x h r k =
+      let z : eqb (le (drop 8 d)) 0 ≡ true = said-true _ t e h in
+      let m : le d ≡ mask = omega (tests, le-split 8 d) in
+      rw m k
 
 -- step 7, at an opcode that was found
 pub at-opcode : (ids m op o : ℕ) (d : List ℕ) (x : Ask) → op ≡ o → x ≡ fieldsOf ids m o d → x ≡ fieldsOf ids m op d
@@ -61,7 +89,7 @@ module _ (op : ℕ) (s : supported op ≡ true) (n0 : op ≡ 0x00 → ⊥) (n1 :
       le-antisymm (within-high _ _ _ n)
       (past _ _ (past _ _ (past _ _ (past _ _ (past _ _ (past _ _ (past _ _ (within-low _ _ _ n) na) nb) nc) nd) ne) nf) ng)
 
-  pub last-long : (n : ℕ) → lengthFits op n ≡ true → 1 ≤ n
+  pub last-long : (n : ℕ) → fixedSize op ≤ n → 1 ≤ n
   unfolding opcodeRows
   last-long n f = data-long op 0x11 n 1 f is-last tt
 

@@ -1,5 +1,5 @@
--- What a request asks: document 01, "Statuses, and which comes first", steps 2 to 7. It depends on the setup and the
--- list in use, and on no member's record. Assumes nothing.
+-- What a request asks: document 01, "Statuses, and which comes first", steps 2 to 7. Step 6 is gone (02, request 2): no
+-- length of the data is refused. It depends on the setup and the list in use, and on no member's record. Assumes nothing.
 use mathlib.Core.Bool.{Bool, not}
 use mathlib.Core.List.{List}
 use Prim.Native.Nat.{ℕ}
@@ -7,7 +7,7 @@ use lib.Dec.{eqb}
 use lib.ListN.{length}
 use Rattle.theory.specs.Logic.{unless_answer_then_, _and_, _or_, within}
 use Rattle.protocol.specs.declared.Answer.the-variants.{BadLength, BadGroup, BadOpcode, NoMember}
-use Rattle.protocol.specs.Opcodes.{supported, bit, namesMember, lengthFits}
+use Rattle.protocol.specs.Opcodes.{supported, bit, namesMember}
 use Rattle.frame.specs.declared.Ask.{Ask}
 use Rattle.frame.specs.declared.Ask.the-variants.{Refused}
 use Rattle.frame.specs.Frame.{dataAt, longest, opcodeOf, groupOf, targetOf, dataOf}
@@ -27,7 +27,6 @@ framedOf members ids inUse group op m d =
     unless eqb group 1 answer Refused BadGroup then  -- 3
     unless usable inUse op answer Refused BadOpcode then  -- 4
     unless reaches members op m answer Refused NoMember then  -- 5
-    unless lengthFits op (length d) answer Refused BadLength then  -- 6
     fieldsOf ids m op d  -- 7
 
 -- steps 2 to 7, on the bytes of a request; ids is G + S

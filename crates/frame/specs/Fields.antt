@@ -1,12 +1,13 @@
 -- Step 7, the fields of each command's data: document 01, "What each command does" and the row of step 7.
--- ids is G + S, m the member that the request names, d the data. Assumes nothing.
+-- ids is G + S, m the member that the request names, d the data, of any length (02, request 2): `number` and `getD` read
+-- each missing byte as zero, and only list use and parts get read past their fixed fields. Assumes nothing.
 use mathlib.Core.Bool.{Bool}
 use mathlib.Core.List.{List}
 use Prim.Native.Nat.{ℕ, zero, suc}
 use lib.Dec.{leb, ltb, eqb}
 use lib.ListN.{length, getD}
 use Rattle.theory.specs.Logic.{if_then_else_, unless_answer_then_, _and_}
-use Rattle.wire.specs.Le.{number}
+use Rattle.wire.specs.Le.{le, number}
 use Rattle.protocol.specs.declared.Answer.the-variants.{BadField}
 use Rattle.protocol.specs.declared.ObjectKind.{ObjectKind}
 use Rattle.protocol.specs.declared.ObjectKind.the-variants.{Get, Set}
@@ -69,12 +70,13 @@ metadataIn ids m d =
     unless objectValid ids d and leb (getD d typeAt 0) 2 answer Refused BadField then
     Read m (GetMetadata (idOf d) (metadataIs (getD d typeAt 0)))
 
--- the type of parts get: 0 selected, 1 all; headers with selected only
+-- the type of parts get: 0 selected, 1 all; headers with selected only, and any byte after the fixed fields counts as
+-- headers given
 unfoldable pub getIn : ℕ → ℕ → List ℕ → Ask
 getIn ids m d =
     unless objectValid ids d answer Refused BadField then
     if eqb (getD d typeAt 0) 0 then Read m (GetSelected (idOf d)) else
-    unless eqb (getD d typeAt 0) 1 and eqb (length d) headersAt answer Refused BadField then
+    unless eqb (getD d typeAt 0) 1 and leb (length d) headersAt answer Refused BadField then
     Read m (GetAll (idOf d))
 
 unfoldable pub setIn : ℕ → ℕ → List ℕ → Ask
@@ -88,11 +90,11 @@ modeIn m d =
     unless leb (getD d 0 0) 1 answer Refused BadField then
     Change m (SetMode (modeOf (getD d 0 0)))
 
--- list use: the mask has supported bits only
+-- list use: all bytes are one long mask, and it has supported bits only
 unfoldable pub useIn : List ℕ → Ask
 useIn d =
-    unless supportedOnly (number 0 8 d) answer Refused BadField then
-    UseList (number 0 8 d)
+    unless supportedOnly (le d) answer Refused BadField then
+    UseList (le d)
 
 -- by opcode; the last is 0x11, since no other passes step 4
 unfoldable pub fieldsOf : ℕ → ℕ → ℕ → List ℕ → Ask

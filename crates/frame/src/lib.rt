@@ -1,9 +1,14 @@
-// From the bytes of a request to what it asks: steps 2 to 7 of document 01's table of statuses.
+// From the bytes of a request to what it asks: steps 2 to 7 of document 01's table of statuses. Data may have any length:
+// what is missing of a command's fixed fields reads as zero (02, request 2).
 ghost use mathlib.Core.Path.{_≡_};
 ghost use mathlib.Core.Bool.{true};
 ghost use Prim.Native.Nat.{_≤_, _<_};
-ghost use lib.ListN.{length};
-ghost use Rattle.protocol.specs.Opcodes.{supported, lengthFits};
+ghost use lib.Dec.{leb, eqb};
+ghost use lib.ListN.{length, drop, replicate};
+ghost use Rattle.theory.specs.Logic.{if_then_else_};
+ghost use Rattle.theory.specs.Bytes.{put};
+ghost use Rattle.wire.specs.Le.{le};
+ghost use Rattle.protocol.specs.Opcodes.{supported, fixedSize, longestFixed};
 ghost use Rattle.frame.specs.Frame.{objectSize, kindAt, headersAt};
 ghost use Rattle.frame.specs.Fields.{idOf, objectValid, flagsValid, kindValid, kindIn, metadataIs, createIn, modifyIn, queryIn, destroyIn, metadataIn, getIn, setIn, modeIn, useIn, fieldsOf};
 ghost use Rattle.frame.specs.Ask.{usable, reaches, framedOf, askOf};
@@ -35,6 +40,9 @@ const KIND_AT: usize = FLAGS_AT + 8;
 const TYPE_AT: usize = OBJECT_SIZE;
 
 const HEADERS_AT: usize = TYPE_AT + 8;
+
+// The first word of a mask has all its supported bits.
+const WORD_SIZE: usize = 8;
 
 // Where a request has its list: the headers asked for, and the parts given.
 pub const ASKED_AT: usize = DATA_AT + HEADERS_AT;
@@ -177,7 +185,7 @@ fn get_in(ids: u8, m: u64, d: &[u8]) -> Ask
     if d[TYPE_AT] != 1 {
         return Ask::Refused(Answer::BadField);
     }
-    if d.len() != HEADERS_AT {
+    if HEADERS_AT < d.len() {
         return Ask::Refused(Answer::BadField);
     }
     Ask::Read(m, ReadOp::GetAll(id_of(d)))
@@ -203,10 +211,27 @@ fn mode_in(m: u64, d: &[u8]) -> Ask
     Ask::Change(m, ChangeOp::SetMode(protocol::mode_of(d[0])))
 }
 
+// No bit is set from a place on.
+fn is_zero_from(d: &[u8], at: usize) -> bool
+    ensures { λ r. ⌜ r ≡ eqb (le (drop at (now (d .entry)))) 0 ⌝ }
+{
+    let mut i = at;
+    while i < d.len() {
+        if d[i] != 0 {
+            return false;
+        }
+        i += 1;
+    }
+    true
+}
+
 fn use_in(d: &[u8]) -> Ask
     requires { ⌜ 8 ≤ length (now d) ⌝ }
     ensures { λ r. ⌜ r ≡ useIn (now (d .entry)) ⌝ }
 {
+    if !is_zero_from(d, WORD_SIZE) {
+        return Ask::Refused(Answer::BadField);
+    }
     let mask = wire::read_u64(d, 0);
     if !protocol::supported_only(mask) {
         return Ask::Refused(Answer::BadField);
@@ -214,9 +239,9 @@ fn use_in(d: &[u8]) -> Ask
     Ask::UseList(mask)
 }
 
-// Step 7: the fields of each command's data.
-fn fields(ids: u8, m: u64, op: usize, d: &[u8]) -> Ask
-    requires { ⌜ (supported op ≡ true) × (lengthFits op (length (now d)) ≡ true) ⌝ }
+// Step 7 of data that holds all fixed fields of its command.
+fn whole_fields(ids: u8, m: u64, op: usize, d: &[u8]) -> Ask
+    requires { ⌜ (supported op ≡ true) × (fixedSize op ≤ length (now d)) ⌝ }
     ensures { λ r. ⌜ r ≡ fieldsOf ids m op (now (d .entry)) ⌝ }
 {
     match op {
@@ -231,6 +256,41 @@ fn fields(ids: u8, m: u64, op: usize, d: &[u8]) -> Ask
         0x10 => set_in(ids, m, d),
         _ => mode_in(m, d),
     }
+}
+
+// Data that ends within the fixed fields, over zeros. Other data is not copied.
+fn padded(fixed: usize, d: &[u8]) -> [u8; protocol::LONGEST_FIXED]
+    requires { ⌜ fixed ≤ longestFixed ⌝ }
+    ensures { λ r. ⌜ r ≡ (if leb fixed (length (now (d .entry))) then replicate longestFixed 0 else put 0 (now (d .entry)) (replicate longestFixed 0)) ⌝ }
+{
+    let mut zeros = [0u8; protocol::LONGEST_FIXED];
+    if fixed <= d.len() {
+        return zeros;
+    }
+    wire::copy(&mut zeros, 0, d);
+    zeros
+}
+
+// The data where it holds all fixed fields, else the bytes that stand in for it.
+fn complete<'a>(fixed: usize, d: &'a [u8], instead: &'a [u8]) -> &'a [u8]
+    ensures { λ r. ⌜ now r ≡ (if leb fixed (length (now (d .entry))) then now (d .entry) else now (instead .entry)) ⌝ }
+{
+    if fixed <= d.len() {
+        return d;
+    }
+    instead
+}
+
+// Step 7: the fields of each command's data. They are read in one place, whether the data is short or not, so that the
+// compiler keeps the reading inline.
+fn fields(ids: u8, m: u64, op: usize, d: &[u8]) -> Ask
+    requires { ⌜ supported op ≡ true ⌝ }
+    ensures { λ r. ⌜ r ≡ fieldsOf ids m op (now (d .entry)) ⌝ }
+{
+    let fixed = protocol::fixed_size(op);
+    let short = padded(fixed, d);
+    let whole = complete(fixed, d, &short[0..fixed]);
+    whole_fields(ids, m, op, whole)
 }
 
 // Step 4: supported and in use.
@@ -268,9 +328,6 @@ fn framed(members: u8, ids: u8, in_use: u64, group: u16, op: usize, m: u64, d: &
     }
     if !reaches(members, op, m) {
         return Ask::Refused(Answer::NoMember);
-    }
-    if !protocol::length_fits(op, d.len()) {
-        return Ask::Refused(Answer::BadLength);
     }
     fields(ids, m, op, d)
 }

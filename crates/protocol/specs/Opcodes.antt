@@ -1,57 +1,60 @@
--- The opcodes and the lengths of their data: document 01, "The frame". Assumes nothing.
-use mathlib.Core.Bool.{Bool}
+-- The opcodes and the fixed fields of their data: document 01, "The frame", and 02, request 2. Assumes nothing.
+use mathlib.Core.Bool.{Bool, true, false}
 use mathlib.Core.List.{List, [], _∷_}
-use Prim.Native.Nat.{ℕ, _-_, _/_, _%_, _^_}
+use Prim.Native.Nat.{ℕ, _/_, _%_, _^_}
 use lib.Dec.{ltb, eqb}
 use lib.ListN.{getD}
 use Rattle.theory.specs.Logic.{_and_, within}
 
--- an opcode's data is from the least to the most bytes long, in steps of the unit; no unit: not supported
+-- Data may have any length. An opcode that is served has fixed fields of so many bytes: those that are missing read as
+-- zero. Where it is listed, what follows the fixed fields is an open list with a rule of its own; else it is ignored.
 pub record OpcodeRow : Type 0 where
-  pub least : ℕ
-  pub most : ℕ
-  pub unit : ℕ
+  pub served : Bool
+  pub fixed : ℕ
+  pub listed : Bool
 
-abbrev pub range : ℕ → ℕ → ℕ → OpcodeRow
-range a b u = record { least = a; most = b; unit = u }
+abbrev pub fields : ℕ → OpcodeRow
+fields n = record { served = true; fixed = n; listed = false }
 
-abbrev pub exactly : ℕ → OpcodeRow
-exactly n = range n n 1
+abbrev pub fieldsAndList : ℕ → OpcodeRow
+fieldsAndList n = record { served = true; fixed = n; listed = true }
 
 abbrev pub unsupported : OpcodeRow
-unsupported = range 0 0 0
-
--- the largest data: a request of 4,096 bytes has 24 before them
-abbrev pub largest : ℕ
-largest = 4072
+unsupported = record { served = false; fixed = 0; listed = false }
 
 unfoldable pub opcodeRows : List OpcodeRow
 opcodeRows =
-    exactly 0  -- 0x00 list query
-    ∷ exactly 8  -- 0x01 list use
+    fields 0  -- 0x00 list query
+    ∷ fieldsAndList 8  -- 0x01 list use; the list is further words of the mask
     ∷ unsupported ∷ unsupported ∷ unsupported ∷ unsupported
     ∷ unsupported ∷ unsupported ∷ unsupported ∷ unsupported
-    ∷ exactly 24  -- 0x0a object create
-    ∷ exactly 24  -- 0x0b object modify
-    ∷ exactly 16  -- 0x0c object query
-    ∷ exactly 8  -- 0x0d object destroy
-    ∷ exactly 16  -- 0x0e parts metadata
-    ∷ range 16 largest 16  -- 0x0f parts get
-    ∷ range 8 largest 1  -- 0x10 parts set
-    ∷ exactly 1  -- 0x11 mode set
+    ∷ fields 24  -- 0x0a object create
+    ∷ fields 24  -- 0x0b object modify
+    ∷ fields 16  -- 0x0c object query
+    ∷ fields 8  -- 0x0d object destroy
+    ∷ fields 16  -- 0x0e parts metadata
+    ∷ fieldsAndList 16  -- 0x0f parts get; headers
+    ∷ fieldsAndList 8  -- 0x10 parts set; parts
+    ∷ fields 1  -- 0x11 mode set
     ∷ []
 
 unfoldable pub opcodeRow : ℕ → OpcodeRow
 opcodeRow op = getD opcodeRows op unsupported
 
 unfoldable pub supported : ℕ → Bool
-supported op = ltb 0 (opcodeRow op .unit)
+supported op = opcodeRow op .served
 
--- the data is as long as the opcode's row says
-unfoldable pub lengthFits : ℕ → ℕ → Bool
-lengthFits op n =
-    within (opcodeRow op .least) (opcodeRow op .most) n
-    and eqb ((n - opcodeRow op .least) % opcodeRow op .unit) 0
+-- the length of an opcode's fixed fields
+unfoldable pub fixedSize : ℕ → ℕ
+fixedSize op = opcodeRow op .fixed
+
+-- no opcode has longer ones
+abbrev pub longestFixed : ℕ
+longestFixed = 24
+
+-- the largest data: a request of 4,096 bytes has 24 before them
+abbrev pub largest : ℕ
+largest = 4072
 
 -- the commands that name a member: 0x0a to 0x11
 unfoldable pub namesMember : ℕ → Bool

@@ -3,7 +3,7 @@
 ghost use mathlib.Core.Path.{_≡_};
 ghost use mathlib.Core.Bool.{true};
 ghost use Rattle.protocol.specs.Answers.{statusOf, qualifierOf, isDone, eventNumber, isEventDone, modeOf, kindNumber};
-ghost use Rattle.protocol.specs.Opcodes.{supported, lengthFits, namesMember, bit, supportedOnly};
+ghost use Rattle.protocol.specs.Opcodes.{supported, fixedSize, namesMember, bit, supportedOnly};
 
 // The answer to a command: document 01, "Statuses, and which comes first".
 pub enum Answer {
@@ -170,32 +170,11 @@ pub const SUPPORTED_MASK: u64 = 0x3fc03;
 
 pub const FRESH_MASK: u64 = 3;
 
-// The rows of the opcodes 0x00 to 0x11: data is from LEAST to MOST bytes long, in steps of UNIT, which is 1 or 16 bytes;
-// no unit: not supported.
-const LEAST: [u16; 18] = [0, 8, 0, 0, 0, 0, 0, 0, 0, 0, 24, 24, 16, 8, 16, 16, 8, 1];
+// The lengths of the fixed fields of the opcodes 0x00 to 0x11.
+const FIXED: [u8; 18] = [0, 8, 0, 0, 0, 0, 0, 0, 0, 0, 24, 24, 16, 8, 16, 16, 8, 1];
 
-const MOST: [u16; 18] = [
-    0,
-    8,
-    0,
-    0,
-    0,
-    0,
-    0,
-    0,
-    0,
-    0,
-    24,
-    24,
-    16,
-    8,
-    16,
-    4072,
-    4072,
-    1,
-];
-
-const UNIT: [u16; 18] = [1, 1, 0, 0, 0, 0, 0, 0, 0, 0, 1, 1, 1, 1, 1, 16, 1, 1];
+// No opcode has longer ones.
+pub const LONGEST_FIXED: usize = 24;
 
 pub fn supported(op: usize) -> bool
     ensures { λ r. ⌜ r ≡ supported op ⌝ }
@@ -206,21 +185,11 @@ pub fn supported(op: usize) -> bool
     names_member(op)
 }
 
-pub fn length_fits(op: usize, n: usize) -> bool
+pub fn fixed_size(op: usize) -> usize
     requires { ⌜ supported op ≡ true ⌝ }
-    ensures { λ r. ⌜ r ≡ lengthFits op n ⌝ }
+    ensures { λ r. ⌜ r ≡ fixedSize op ⌝ }
 {
-    let least = LEAST[op] as usize;
-    if n < least {
-        return false;
-    }
-    if (MOST[op] as usize) < n {
-        return false;
-    }
-    if (n - least) % 16 == 0 {
-        return true;
-    }
-    UNIT[op] == 1
+    FIXED[op] as usize
 }
 
 // The commands that name a member: 0x0a to 0x11.

@@ -1,6 +1,6 @@
 -- `frame::framed` meets its contract. Assumes nothing.
 use borrow.Author.Needs.{needs}
-use Rattle.theory.proofs.Ladder.{ladder, said-true}
+use Rattle.theory.proofs.Ladder.{ladder}
 use Rattle.frame.specs.Ask.{framedOf}
 use Rattle.frame.proofs.Steps.{usable-supported}
 use Rattle.frame.proofs.framed.Statement.{statement}
@@ -11,6 +11,4 @@ unfolding framedOf
 framed-spec =
     tie.close
     (tie.spec (λ c. search ladder) (λ c κs. search needs) (λ c. search ladder) (λ c κs. search needs)
-    (λ c. search ladder) (λ c κs. search usable-supported) (λ c. search ladder)
-    (λ c κs. (search usable-supported, said-true _ _ (c .before .length-fits .ensures) (c .if4 .left)))
-    (λ c. search ladder))
+    (λ c. search ladder) (λ c κs. search usable-supported) (λ c. search ladder))

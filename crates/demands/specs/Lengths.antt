@@ -1,0 +1,67 @@
+-- WORKED EXAMPLES of requests of any length (02, request 2): a second table, on the card of Examples.antt and in its form.
+-- Assumes nothing.
+use mathlib.Core.Path.{_≡_}
+use mathlib.Core.List.{List, [], _∷_, _++_, map}
+use Prim.Native.Nat.{ℕ}
+use lib.ListN.{replicate}
+use Rattle.wire.specs.Le.{bytes}
+use Rattle.frame.specs.Requests.{request, objectHeader, setParts}
+use Rattle.demands.specs.Calls.{Call, command, cardReset, answered, step}
+use Rattle.demands.specs.Examples.{exampleCard, send, setMode, allUsed, objectsLive, refuses, gives, succeeds, aNumber, header, headerBytes, nineParts, driverPart, Example, example, repliesTo}
+
+-- a command with this data, for member 1
+abbrev pub sendData : ℕ → List ℕ → Call
+sendData op d = send (request op 1 1 d)
+
+-- an object header of which five bytes came: the id's other three are zero, so it is 1
+abbrev pub cutHeader : List ℕ
+cutHeader = replicate 4 0 ++ (1 ∷ [])
+
+-- selected, of the device status and the first eight bytes of another header
+abbrev pub getHalf : List ℕ
+getHalf = request 0x0f 1 1 (objectHeader 0 ++ (replicate 8 0 ++ (headerBytes (header 0x103 0 0 0) ++ (5 ∷ 1 ∷ replicate 6 0))))
+
+unfoldable pub lengthExamples : List Example
+lengthExamples =
+    -- L1 create of set object 1 cut to 17 bytes, without the reserved ones; a query cut to 5 bytes finds it
+    example allUsed (sendData 0x0a (objectHeader 1 ++ (replicate 8 0 ++ (1 ∷ []))) ∷ sendData 0x0c cutHeader ∷ [])
+    (succeeds ∷ gives (1 ∷ replicate 7 0) ∷ [])
+    -- L2 create of get object 0 with 30 bytes: the last six are ignored. A query of no data is of object 0
+    ∷ example allUsed
+    (sendData 0x0a (objectHeader 0 ++ (replicate 16 0 ++ replicate 6 0xff)) ∷ sendData 0x0c [] ∷ [])
+    (succeeds ∷ gives (replicate 8 0) ∷ [])
+    -- L3 a field of which some bytes came is not zero for that: id 256 of two bytes, flags 1 of one byte
+    ∷ example allUsed
+    (sendData 0x0a (replicate 4 0 ++ (0 ∷ 1 ∷ [])) ∷ sendData 0x0a (objectHeader 0 ++ (1 ∷ [])) ∷ [])
+    (refuses 22 3 ∷ refuses 22 3 ∷ [])
+    -- L4 empty mode set resumes the member, so a parts set is 11/7
+    ∷ example objectsLive (setMode 1 1 ∷ sendData 0x11 [] ∷ send (setParts 1 1 (driverPart 7)) ∷ [])
+    (succeeds ∷ succeeds ∷ refuses 11 7 ∷ [])
+    -- L5 empty list use blocks every command, list use too, until a reset of the card
+    ∷ example allUsed
+    (sendData 0x01 [] ∷ sendData 0x00 [] ∷ sendData 0x01 (bytes 8 3) ∷ cardReset ∷ sendData 0x00 [] ∷ [])
+    (succeeds ∷ refuses 22 2 ∷ refuses 22 2 ∷ answered 0 ∷ gives (bytes 8 0x3fc03) ∷ [])
+    -- L6 list use of 9 bytes, with a bit in the last and without; of 3 bytes, the whole mask
+    ∷ example []
+    (sendData 0x01 (bytes 8 3 ++ (1 ∷ [])) ∷ sendData 0x01 (bytes 8 3 ++ (0 ∷ [])) ∷ sendData 0x01 (0x03 ∷ 0xfc ∷ 0x03 ∷ [])
+    ∷ setMode 1 1 ∷ [])
+    (refuses 22 3 ∷ succeeds ∷ succeeds ∷ succeeds ∷ [])
+    -- L7 get-all with one byte past 16, a zero: 22/3, ahead of the object that is not live
+    ∷ example allUsed (sendData 0x0f (objectHeader 0 ++ (1 ∷ replicate 8 0)) ∷ []) (refuses 22 3 ∷ [])
+    -- L8 get-all cut after its type byte
+    ∷ example objectsLive (sendData 0x0f (objectHeader 0 ++ (1 ∷ [])) ∷ []) (gives nineParts ∷ [])
+    -- L9 selected, of one header and a half: 22/3, ahead of a buffer that is too short
+    ∷ example objectsLive (command getHalf 8 ∷ []) (refuses 22 3 ∷ [])
+    -- L10 the same through an object that is not live: 6/1
+    ∷ example allUsed (send getHalf ∷ []) (refuses 6 1 ∷ [])
+    -- L11 parts get and metadata of no data: object 0, selected, an empty list; and the size
+    ∷ example objectsLive (sendData 0x0f [] ∷ sendData 0x0e [] ∷ []) (succeeds ∷ gives (aNumber 229) ∷ [])
+    -- L12 parts set of 5 bytes: object 1 and an empty list; of 9, a list that is cut
+    ∷ example objectsLive (setMode 1 1 ∷ sendData 0x10 cutHeader ∷ sendData 0x10 (objectHeader 1 ++ (0 ∷ [])) ∷ [])
+    (succeeds ∷ succeeds ∷ refuses 22 3 ∷ [])
+    -- L13 step 2 stays: a request of 23 bytes is 22/1
+    ∷ example allUsed (send (replicate 23 0) ∷ []) (refuses 22 1 ∷ [])
+    ∷ []
+
+abbrev pub LengthExamplesHold : Type 0
+LengthExamplesHold = map (repliesTo step exampleCard) lengthExamples ≡ map (λ (e : Example). e .expected) lengthExamples

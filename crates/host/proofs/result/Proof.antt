@@ -1,0 +1,10 @@
+-- `host::result` meets its contract. Assumes nothing.
+use borrow.Author.Needs.{needs}
+use Rattle.host.proofs.Reply.{to-the-end}
+use Rattle.host.proofs.result.Statement.{statement}
+use Rattle.host.proofs.result.Tie as tie
+
+pub result-spec : {M : Type 1} → statement M
+result-spec =
+    tie.close
+    (tie.spec (λ c. search needs) (λ c. search needs) (λ c. search needs) (λ c. search (needs, to-the-end)))
