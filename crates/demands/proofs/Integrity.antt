@@ -37,7 +37,7 @@ use Rattle.frame.proofs.Asked.{Named, Facts}
 use Rattle.admin.specs.Command.{askIn, perform, respond}
 use Rattle.demands.specs.Calls.{step}
 use Rattle.demands.specs.Claims.{SameOutside, DifferAtMost, Integrity}
-use Rattle.demands.proofs.Respond.{card-cases}
+use Rattle.admin.proofs.Respond.{card-cases}
 use Rattle.demands.proofs.Named.{Leaves, unchanged, changed, asked-of, named-leaves}
 
 same : (at size : ℕ) (c : List ℕ) → SameOutside at size c c

@@ -3,12 +3,10 @@ pub mod Examples
 pub mod LengthExamples
 pub mod WrongPrograms
 pub mod WrongProgramsExample
-pub mod Respond
 pub mod Named
 pub mod Sound
 pub mod Refusals
 pub mod Demand1
-pub mod PartsSet
 pub mod RoundTrip
 pub mod RoundTripExample
 pub mod Mask

@@ -24,7 +24,7 @@ use Rattle.frame.specs.declared.Ask.the-variants.{Refused, QueryList, UseList, 
 use Rattle.frame.proofs.Asked.{Named, Facts}
 use Rattle.admin.specs.Command.{askIn, Effect, perform, respond}
 use Rattle.demands.specs.Calls.{command, names}
-use Rattle.demands.proofs.Respond.{lastAnswer, ended, respond-none, respond-is}
+use Rattle.admin.proofs.Respond.{lastAnswer, ended, respond-none, respond-is}
 use Rattle.demands.proofs.Named.{Leaves, unchanged, changed, names-is, asked-of}
 
 -- the card with a fresh record at member m

@@ -21,7 +21,7 @@ use Rattle.frame.specs.Frame.{opcodeOf}
 use Rattle.frame.proofs.Asked.{Named, Facts, asked}
 use Rattle.admin.specs.Command.{askIn, perform, respond}
 use Rattle.demands.specs.Calls.{Call, command, memberReset, cardReset, cardStore, step, names}
-use Rattle.demands.proofs.Respond.{card-cases}
+use Rattle.admin.proofs.Respond.{card-cases}
 
 pub never : {P : Type 0} → false ≡ true → P
 never e = let z : _≡_ {A = ℕ} 0 1 = cc in absurd (omega arith)

@@ -18,7 +18,7 @@ use Rattle.reply.specs.Reply.{headOf, replyOf}
 use Rattle.admin.specs.Command.{askIn, perform, respond}
 use Rattle.demands.specs.Calls.{Call, command, memberReset, cardReset, cardStore, written, answered, refused, step}
 use Rattle.demands.specs.Claims.{RefusalsChangeNothing}
-use Rattle.demands.proofs.Respond.{lastAnswer, respond-none, respond-cases}
+use Rattle.admin.proofs.Respond.{lastAnswer, respond-none, respond-cases}
 
 -- a number that is refused picks the card as it was
 kept : (n : ℕ) (next c : List ℕ) → not (eqb n 0) ≡ true → (if eqb n 0 then next else c) ≡ c

@@ -44,8 +44,8 @@ use Rattle.admin.specs.Command.{askIn, effect, perform, respond}
 use Rattle.frame.specs.Requests.{getAll}
 use Rattle.demands.specs.RoundTrip.{Restorable, RestoredSame, RoundTrip, capture, restore}
 use Rattle.frame.proofs.Requests.{get-all-asked}
-use Rattle.demands.proofs.Respond.{respond-is}
-use Rattle.demands.proofs.PartsSet.{partsSetOf, respond-parts-set}
+use Rattle.admin.proofs.Respond.{respond-is}
+use Rattle.admin.proofs.PartsSet.{partsSetOf, respond-parts-set}
 
 -- a command with a result that succeeds and has room
 respond-done : (c r : List ℕ) (room : ℕ) (result : List ℕ) → isSound c ≡ true

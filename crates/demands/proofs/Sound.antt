@@ -19,7 +19,7 @@ use Rattle.frame.proofs.Asked.{Facts}
 use Rattle.admin.specs.Command.{perform, respond}
 use Rattle.demands.specs.Calls.{Call, command, memberReset, cardReset, cardStore, step}
 use Rattle.demands.specs.Claims.{StaysSound}
-use Rattle.demands.proofs.Respond.{card-cases}
+use Rattle.admin.proofs.Respond.{card-cases}
 use Rattle.demands.proofs.Named.{asked-of}
 
 module _ (c : List ℕ) (s : Sound c) where

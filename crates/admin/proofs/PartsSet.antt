@@ -21,11 +21,11 @@ use Rattle.card.specs.Sound.{isSound}
 use Rattle.card.proofs.SoundLaws.{sound-of}
 use Rattle.reply.specs.Reply.{headSize, headOf}
 use Rattle.reply.proofs.Reply.{reply-empty, final-empty}
 use Rattle.admin.specs.Command.{effect, askIn, perform, respond}
 use Rattle.frame.specs.Frame.{givenList}
 use Rattle.frame.specs.Requests.{request, objectHeader, setParts}
 use Rattle.frame.proofs.Requests.{set-parts-asked}
-use Rattle.demands.proofs.Respond.{ended, respond-is}
+use Rattle.admin.proofs.Respond.{ended, respond-is}
 
 -- what a change of member m comes to: its answer, and the card after it
 abbrev settled : List ℕ → ℕ → Changed → Answer × List ℕ
