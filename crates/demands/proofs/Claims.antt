@@ -10,6 +10,8 @@ use Rattle.demands.proofs.RoundTrip.{round-trip}
 use Rattle.demands.proofs.Isolation.{isolation}
 use Rattle.demands.proofs.Integrity.{integrity}
 use Rattle.demands.proofs.Commutation.{commutation, commands-commute}
+use Rattle.staging.proofs.SetsParts.{finish-is-parts-set}
+use Rattle.staging.proofs.Cut.{cut-anywhere}
 
 pub claims : Claims
 claims = record {
@@ -26,4 +28,6 @@ claims = record {
   integrity = integrity;
   commutation = commutation;
   commandsCommute = commands-commute;
+  finishIsPartsSet = finish-is-parts-set;
+  cutAnywhere = cut-anywhere;
 }

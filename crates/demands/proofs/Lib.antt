@@ -10,11 +10,13 @@ pub mod Demand1
 pub mod RoundTrip
 pub mod RoundTripExample
 pub mod Mask
+pub mod RestoreMask
 pub mod Isolation
 pub mod IsolationExample
 pub mod Integrity
 pub mod Commutation
 pub mod CommutationExample
+pub mod RestoreExample
 pub mod Statuses
 pub mod StatusesExample
 pub mod Claims

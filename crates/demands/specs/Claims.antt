@@ -1,6 +1,6 @@
 -- WHAT IS CLAIMED OF THE CARD, by demand. Each claim is over the definitions that the contracts of the exported
--- functions cite: setUp, commandOf (a command with its buffer; respond is the same without it), resetMember, resetCard
--- and store. The record Claims at the end lists all of them, and ../proofs/Claims.antt proves it. A claim with
+-- functions cite: setUp, commandOf (a command with its buffer; respond is the same without it), resetMember, resetCard,
+-- store, beginOf, feedOf, finishOf and dropOf. The record Claims at the end lists all of them, and ../proofs/Claims.antt proves it. A claim with
 -- hypotheses says which example meets them; where no file is named it is in ../proofs/ClaimsExample.antt.
 -- Assumes nothing.
 use mathlib.Core.Path.{_≡_}
@@ -16,7 +16,9 @@ use Rattle.card.specs.Sound.{isSound}
 use Rattle.frame.specs.Frame.{opcodeOf, targetOf}
 use Rattle.events.specs.Events.{setupWith, setUp}
 use Rattle.admin.specs.Command.{respond, commandOf}
-use Rattle.demands.specs.Calls.{Call, command, memberReset, refused, step, names, Resets}
+use Rattle.staging.specs.Staging.{dropOf}
+use Rattle.staging.specs.Claims.{FinishIsPartsSet, CutAnywhere}
+use Rattle.demands.specs.Calls.{Call, command, memberReset, cardReset, cardStore, restoreBegin, restoreFeed, restoreFinish, restoreDrop, refused, step, names, Resets}
 use Rattle.demands.specs.Statuses.{Statuses}
 use Rattle.demands.specs.Examples.{ExamplesHold}
 use Rattle.demands.specs.WrongPrograms.{WrongProgramsRejected}
@@ -45,9 +47,21 @@ pub record Delivers (c r b : List ℕ) : Type 0 where
 abbrev pub Delivered : Type 0
 Delivered = (c r b : List ℕ) → Delivers c r b
 
--- "A refusal .. leaves the card as it stood", whatever bytes the card is. Example: refused-command
+-- "A refusal .. leaves the card as it stood", whatever bytes the card is. Request 6 has the only exceptions: a feed that is
+-- too long and a finish that is refused leave it as a drop does, which is as it stood where nothing is begun, and else with
+-- the holding place gone. Examples: refused-command; refused-feed and refused-finish in ../proofs/RestoreExample.antt
+unfoldable pub afterRefusal : List ℕ → Call → List ℕ
+afterRefusal c (command r room) = c
+afterRefusal c (memberReset m) = c
+afterRefusal c cardReset = c
+afterRefusal c (cardStore m t s value) = c
+afterRefusal c (restoreBegin m) = c
+afterRefusal c (restoreFeed m x) = dropOf c m .1
+afterRefusal c (restoreFinish m id) = dropOf c m .1
+afterRefusal c (restoreDrop m) = c
+
 abbrev pub RefusalsChangeNothing : Type 0
-RefusalsChangeNothing = (c : List ℕ) (x : Call) → refused (step c x .1) ≡ true → step c x .0 ≡ c
+RefusalsChangeNothing = (c : List ℕ) (x : Call) → refused (step c x .1) ≡ true → step c x .0 ≡ afterRefusal c x
 
 -- Setup, done, gives a sound card of this setup; "refused, it gives a card of zeros, which is not sound", as long as
 -- the buffer. Examples: setup-done, setup-refused
@@ -119,6 +133,11 @@ CommandsCommute =
     → names m (command q i) ≡ true → names k (command r j) ≡ true
     → (p t : List Call) → Swappable step c p (command q i) (command r j) t
 
+-- ---- REQUEST 6 of document 02: a restore in fragments ----
+
+-- What finish does, and that it does not matter how the bytes are cut: staging/specs/Claims.antt. Example:
+-- ../proofs/RestoreExample.antt
+
 -- ---- all of them ----
 
 pub record Claims : Type 1 where
@@ -139,3 +158,6 @@ pub record Claims : Type 1 where
   -- request 12
   pub commutation : Commutation
   pub commandsCommute : CommandsCommute
+  -- request 6
+  pub finishIsPartsSet : FinishIsPartsSet
+  pub cutAnywhere : CutAnywhere

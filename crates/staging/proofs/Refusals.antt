@@ -141,6 +141,26 @@ module _ (c : List ℕ) (m : ℕ) (next : ℕ × List ℕ) where
   on-open-cases P f g = unless-cases P _ _ _ (λ t. f _) λ t.
       g (all-passed (isSound c) (isMember c m) (isOpen c m) (eqb-true _ 0 t))
 
+  -- two calls that a refusal leaves alike
+  pub on-open-both : (P : ℕ × List ℕ → ℕ × List ℕ → Type 0) (other : ℕ × List ℕ) → ((a : ℕ) → P (a, c) (a, c))
+      → (Passed (isSound c) (isMember c m) (isOpen c m) → P next other) → P (onOpen c m next) (onOpen c m other)
+  unfolding onOpen ifNone openRefusal three unless_answer_then_
+  on-open-both P other f g =
+      by-cases (eqb (three (isSound c) (isMember c m) (isOpen c m)) 0)
+      (λ t. rw t (g (all-passed (isSound c) (isMember c m) (isOpen c m) (eqb-true _ 0 t))))
+      (λ t. rw t (f _))
+
+  -- on a sound card
+  pub on-member-sound : isSound c ≡ true → onMember c m next ≡ (unless isMember c m answer (answerNumber NoMember, c) then next)
+  unfolding onMember ifNone memberRefusal unless_answer_then_
+  on-member-sound s = rw s (by-cases (isMember c m) (λ t. rw t) (λ t. rw t))
+
+  pub on-open-sound : isSound c ≡ true
+      → onOpen c m next ≡ (unless isMember c m answer (answerNumber NoMember, c) then unless isOpen c m answer (answerNumber NotLive, c) then next)
+  unfolding onOpen ifNone openRefusal unless_answer_then_
+  on-open-sound s =
+      rw s (by-cases (isMember c m) (λ t. rw t (by-cases (isOpen c m) (λ o. rw o) (λ o. rw o))) (λ t. rw t))
+
   pub on-member-unsound : isSound c ≡ false → onMember c m next ≡ (notSound, c)
   unfolding onMember ifNone memberRefusal unless_answer_then_
   on-member-unsound s = rw s
