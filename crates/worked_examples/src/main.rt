@@ -139,7 +139,7 @@ fn room(card: &mut [u8]) {
 }
 
 fn main() {
-    let mut card = [0u8; 472];
+    let mut card = [0u8; 2524];
     fresh(&mut card);
     before_use(&mut card);
     send(Request::list_use(transcript::ALL), &mut card);
