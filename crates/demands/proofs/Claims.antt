@@ -10,6 +10,7 @@ use Rattle.demands.proofs.RoundTrip.{round-trip}
 use Rattle.demands.proofs.Isolation.{isolation}
 use Rattle.demands.proofs.Integrity.{integrity}
 use Rattle.demands.proofs.Commutation.{commutation, commands-commute}
+use Rattle.demands.proofs.HoldingKept.{holding-kept}
 use Rattle.staging.proofs.SetsParts.{finish-is-parts-set}
 use Rattle.staging.proofs.Cut.{cut-anywhere}
 
@@ -30,4 +31,5 @@ claims = record {
   commandsCommute = commands-commute;
   finishIsPartsSet = finish-is-parts-set;
   cutAnywhere = cut-anywhere;
+  holdingKept = holding-kept;
 }

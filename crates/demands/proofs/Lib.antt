@@ -17,6 +17,7 @@ pub mod Integrity
 pub mod Commutation
 pub mod CommutationExample
 pub mod RestoreExample
+pub mod HoldingKept
 pub mod Statuses
 pub mod StatusesExample
 pub mod Claims

@@ -11,7 +11,7 @@ use Prim.Native.Nat.{ℕ, _+_, _≤_, _<_}
 use lib.ListN.{length, take, drop, replicate}
 use Rattle.theory.specs.Machine.{trace, seen, visible, Swappable}
 use Rattle.protocol.specs.declared.EventAnswer.the-variants.{Done}
-use Rattle.card.specs.Layout.{inUseAt, recordSize, setupOf, isMember, recordAt, memberIn}
+use Rattle.card.specs.Layout.{inUseAt, recordSize, setupOf, isMember, recordAt, memberIn, holdingIn}
 use Rattle.card.specs.Sound.{isSound}
 use Rattle.frame.specs.Frame.{opcodeOf, targetOf}
 use Rattle.events.specs.Events.{setupWith, setUp}
@@ -138,6 +138,17 @@ CommandsCommute =
 -- What finish does, and that it does not matter how the bytes are cut: staging/specs/Claims.antt. Example:
 -- ../proofs/RestoreExample.antt
 
+-- member m's holding place holds the same bytes in two cards, or is in neither
+pub record SameHolding (c d : List ℕ) (m : ℕ) : Type 0 where
+  pub held : memberIn d m .held ≡ memberIn c m .held
+  pub bytes : holdingIn d m ≡ holdingIn c m
+
+-- No command and no card store touches a holding place, whomever it is for: the four calls and both resets alone do. Example:
+-- member-begun in ../proofs/RestoreExample.antt
+pub record HoldingKept : Type 0 where
+  pub command : (c : List ℕ) (m : ℕ) → isMember c m ≡ true → (r : List ℕ) (room : ℕ) → SameHolding c (step c (command r room) .0) m
+  pub cardStore : (c : List ℕ) (m : ℕ) → isMember c m ≡ true → (k t s : ℕ) (value : List ℕ) → SameHolding c (step c (cardStore k t s value) .0) m
+
 -- ---- all of them ----
 
 pub record Claims : Type 1 where
@@ -161,3 +172,4 @@ pub record Claims : Type 1 where
   -- request 6
   pub finishIsPartsSet : FinishIsPartsSet
   pub cutAnywhere : CutAnywhere
+  pub holdingKept : HoldingKept
