@@ -12,7 +12,7 @@ use Rattle.demands.proofs.Integrity.{integrity}
 use Rattle.demands.proofs.Commutation.{commutation, commands-commute}
 use Rattle.demands.proofs.HoldingKept.{holding-kept}
 use Rattle.staging.proofs.SetsParts.{finish-is-parts-set}
-use Rattle.staging.proofs.Cut.{cut-anywhere}
+use Rattle.staging.proofs.Cut.{holds-joined, cut-anywhere}
 
 pub claims : Claims
 claims = record {
@@ -30,6 +30,7 @@ claims = record {
   commutation = commutation;
   commandsCommute = commands-commute;
   finishIsPartsSet = finish-is-parts-set;
+  holdsJoined = holds-joined;
   cutAnywhere = cut-anywhere;
   holdingKept = holding-kept;
 }

@@ -17,7 +17,7 @@ use Rattle.frame.specs.Frame.{opcodeOf, targetOf}
 use Rattle.events.specs.Events.{setupWith, setUp}
 use Rattle.admin.specs.Command.{respond, commandOf}
 use Rattle.staging.specs.Staging.{dropOf}
-use Rattle.staging.specs.Claims.{FinishIsPartsSet, CutAnywhere}
+use Rattle.staging.specs.Claims.{FinishIsPartsSet, HoldsJoined, CutAnywhere}
 use Rattle.demands.specs.Calls.{Call, command, memberReset, cardReset, cardStore, restoreBegin, restoreFeed, restoreFinish, restoreDrop, refused, step, names, Resets}
 use Rattle.demands.specs.Statuses.{Statuses}
 use Rattle.demands.specs.Examples.{ExamplesHold}
@@ -135,7 +135,7 @@ CommandsCommute =
 
 -- ---- REQUEST 6 of document 02: a restore in fragments ----
 
--- What finish does, and that it does not matter how the bytes are cut: staging/specs/Claims.antt. Example:
+-- What finish does, what is held, and that it does not matter how the bytes are cut: staging/specs/Claims.antt. Example:
 -- ../proofs/RestoreExample.antt
 
 -- member m's holding place holds the same bytes in two cards, or is in neither
@@ -171,5 +171,6 @@ pub record Claims : Type 1 where
   pub commandsCommute : CommandsCommute
   -- request 6
   pub finishIsPartsSet : FinishIsPartsSet
+  pub holdsJoined : HoldsJoined
   pub cutAnywhere : CutAnywhere
   pub holdingKept : HoldingKept

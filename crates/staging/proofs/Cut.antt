@@ -6,19 +6,20 @@ use Prim.Native.Nat.{ℕ, _+_, _-_, _≤_, _<_}
 use native.Mathlib.Nat.{zero-add}
 use native.Mathlib.Omega.{arith}
 use lib.Dec.{eqb, leb}
-use lib.ListN.{length, length-append}
+use lib.ListN.{length, take, drop, length-append}
+use lib.Seq.{take-at}
 use borrow.Author.Tests.{le-leb, lt-ltb, eq-eqb}
 use Rattle.theory.specs.Logic.{unless_answer_then_}
 use Rattle.theory.specs.Bytes.{put}
-use Rattle.theory.proofs.Bytes.{length-put, put-nil, put-append}
+use Rattle.theory.proofs.Bytes.{length-put, put-nil, put-append, put-front}
 use Rattle.member.specs.declared.Member.{Member}
 use Rattle.member.specs.Record.{holdingSize}
 use Rattle.member.specs.Member.{withHeld}
 use Rattle.card.specs.Layout.{isMember, memberIn, holdingIn, withMember}
 use Rattle.card.specs.Sound.{isSound}
 use Rattle.card.proofs.LayoutLaws.{holding-with-member}
-use Rattle.staging.specs.Staging.{heldIn, withHeldBytes, opened, joinedTo, beginOf, feedOf, finishOf}
-use Rattle.staging.specs.Claims.{joined, fed, restored, CutAnywhere}
+use Rattle.staging.specs.Staging.{heldIn, heldBytes, withHeldBytes, opened, joinedTo, beginOf, feedOf, finishOf}
+use Rattle.staging.specs.Claims.{joined, fed, restored, HoldsJoined, CutAnywhere}
 use Rattle.staging.proofs.Refusals.{on-member, on-open}
 use Rattle.staging.proofs.Places.{holding-back, holding-long, has, held-sound, held-member, held-number, held-bytes, held-over}
 
@@ -70,6 +71,26 @@ module _ (c : List ℕ) (m : ℕ) (e : isSound c ≡ true) (h : isMember c m ≡
       let a = append-assoc y x (joined xs) in
       let g : length (y ++ x) ≤ holdingSize = omega (arith, i, length-append y (x ++ joined xs), length-append x (joined xs), length-append y x) in
       rw (feeds y x g, ← a) (fed-all (y ++ x) xs (rw a i))
+
+  -- and those bytes are held
+  front-taken : (y l : List ℕ) → length y ≤ length l → take (1 + length y - 1) (put 0 y l) ≡ y
+  front-taken y l i =
+      let k : 1 + length y - 1 ≡ length y = omega arith in
+      rw (k, put-front y l i) (take-at y (drop (length y) l) (length y) refl)
+
+  held-joined : (y : List ℕ) → length y ≤ holdingSize → heldBytes (holds c m y) m ≡ y
+  unfolding holds
+  held-joined y i =
+      let l = holding-long c m (has c m e h) in
+      let few : 1 + length y ≤ 1 + holdingSize = omega arith in
+      let p = put 0 y (holdingIn c m) in
+      ap (λ (z : Member). take (z .held - 1) (holdingIn (holds c m y) m)) (held-number c m e h (1 + length y) few p)
+      ∙ ap (take (1 + length y - 1)) (held-bytes c m e h (1 + length y) few p (length-put 0 y (holdingIn c m) ∙ l))
+      ∙ front-taken y (holdingIn c m) (omega arith)
+
+pub holds-joined : HoldsJoined
+holds-joined c m e h z xs i =
+    ap (λ d. heldBytes d m) (rw (began c m e h z) (fed-all c m e h [] xs i)) ∙ held-joined c m e h (joined xs) i
 
 pub cut-anywhere : CutAnywhere
 cut-anywhere c m id e h z xs ys p i =

@@ -35,6 +35,13 @@ unfoldable pub fed : ℕ → List ℕ → List (List ℕ) → List ℕ
 fed m c [] = c
 fed m c (x ∷ xs) = fed m (feedOf c m x .1) xs
 
+-- After begin and the feeds the fragments are held joined, in their order
+abbrev pub HoldsJoined : Type 0
+HoldsJoined =
+    (c : List ℕ) (m : ℕ) → isSound c ≡ true → isMember c m ≡ true → heldIn c m ≡ 0
+    → (xs : List (List ℕ)) → length (joined xs) ≤ holdingSize
+    → heldBytes (fed m (beginOf c m .1) xs) m ≡ joined xs
+
 -- begin, the feeds and finish: the answer of finish and the card after it
 abbrev pub restored : List ℕ → ℕ → ℕ → List (List ℕ) → ℕ × List ℕ
 restored c m id xs = finishOf (fed m (beginOf c m .1) xs) m id
