@@ -93,7 +93,7 @@ module _ (c : List ℕ) (m : ℕ) (h : isMember c m ≡ true) where
 pub holding-kept : HoldingKept
 unfolding step store
 holding-kept = record {
-  command = λ c m h r room. card-cases c r room (λ d. SameHolding c d m) (kept c m h) (λ s. perform-kept c m h (sound-of c s) r _ (asked-of c r));
-  cardStore = λ c m h k t n value.
+  commands = λ c m h r room. card-cases c r room (λ d. SameHolding c d m) (kept c m h) (λ s. perform-kept c m h (sound-of c s) r _ (asked-of c r));
+  cardStores = λ c m h k t n value.
       on-member-cases c k _ (λ (y : EventAnswer × List ℕ). SameHolding c (y .1) m) (λ a d. kept c m h) (λ s i. store-kept c m h (sound-of c s) k t _ value i);
 }

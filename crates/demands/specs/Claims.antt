@@ -146,8 +146,8 @@ pub record SameHolding (c d : List ℕ) (m : ℕ) : Type 0 where
 -- No command and no card store touches a holding place, whomever it is for: the four calls and both resets alone do. Example:
 -- member-begun in ../proofs/RestoreExample.antt
 pub record HoldingKept : Type 0 where
-  pub command : (c : List ℕ) (m : ℕ) → isMember c m ≡ true → (r : List ℕ) (room : ℕ) → SameHolding c (step c (command r room) .0) m
-  pub cardStore : (c : List ℕ) (m : ℕ) → isMember c m ≡ true → (k t s : ℕ) (value : List ℕ) → SameHolding c (step c (cardStore k t s value) .0) m
+  pub commands : (c : List ℕ) (m : ℕ) → isMember c m ≡ true → (r : List ℕ) (room : ℕ) → SameHolding c (step c (command r room) .0) m
+  pub cardStores : (c : List ℕ) (m : ℕ) → isMember c m ≡ true → (k t s : ℕ) (value : List ℕ) → SameHolding c (step c (cardStore k t s value) .0) m
 
 -- ---- all of them ----
 
