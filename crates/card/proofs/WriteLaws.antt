@@ -4,7 +4,7 @@ use mathlib.Core.List.{List}
 use Prim.Native.Nat.{ℕ, _+_, _-_, _≤_}
 use native.Mathlib.Nat.{add-sub-cancel-left, add-zero}
 use native.Mathlib.Omega.{arith}
-use lib.ListN.{length, take, drop, replicate, length-replicate}
+use lib.ListN.{length, replicate, length-replicate}
 use borrow.Rule.Slice.PartMut.{midOf, putMid}
 use Rattle.theory.specs.Bytes.{bytesAt, put}
 use Rattle.theory.proofs.Bytes.{length-put, length-bytesAt, put-within}
@@ -12,7 +12,7 @@ use lib.Seq.{take-all}
 use Rattle.member.specs.declared.Member.{Member}
 use Rattle.member.specs.Record.{memberSize, holdingSize, memberBytes}
 use Rattle.member.specs.Member.{featuresSize, freshOf}
-use Rattle.card.specs.Layout.{memberBytesAt, holdingAt, recordSize, recordAt, HasRecord, recordBytes, withRecordBytes, withMember, holdingIn, withHolding, noBytes, withFresh}
+use Rattle.card.specs.Layout.{memberBytesAt, holdingAt, recordAt, HasRecord, recordBytes, withRecordBytes, withMember, holdingIn, withHolding, noBytes, withFresh}
 use Rattle.card.proofs.LayoutLaws.{bytes-lent, fresh-in-two}
 
 -- the place of a member's bytes was lent and came back as `last`, as long as it was

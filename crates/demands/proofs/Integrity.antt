@@ -22,7 +22,7 @@ use Rattle.member.specs.Objects.{lookupOf}
 use Rattle.changes.specs.declared.Changed.{Changed}
 use Rattle.changes.specs.Changes.{refuse, setPartsOf, changeOf}
 use Rattle.changes.proofs.Kept.{change-sound}
-use Rattle.card.specs.Layout.{inUseAt, recordSize, setupOf, recordAt, withInUse, withRecordBytes, memberIn, withMember, withFresh}
+use Rattle.card.specs.Layout.{inUseAt, recordSize, setupOf, recordAt, withInUse, withRecordBytes, memberIn, withFresh}
 use Rattle.card.proofs.LayoutLaws.{member-same}
 use Rattle.events.proofs.Cases.{on-member-cases}
 use Rattle.card.proofs.SoundLaws.{Sound, sound-of, sound-has, sound-member-in}

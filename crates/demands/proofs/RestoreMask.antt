@@ -1,12 +1,12 @@
 -- What the calls of a restore in fragments do to the masked card of Mask.antt, for another member. Assumes nothing.
 use mathlib.Core.Path.{_≡_, refl, ap, sym, _∙_}
 use mathlib.Core.Logic.{_≢_}
-use mathlib.Core.Bool.{true, false}
+use mathlib.Core.Bool.{true}
 use mathlib.Core.List.{List}
 use Prim.Native.Nat.{ℕ, _+_, _-_, _≤_}
 use native.Mathlib.Omega.{arith}
 use lib.Dec.{eqb, leb}
-use lib.ListN.{length, take}
+use lib.ListN.{length}
 use borrow.Author.Tests.{ne-eqb}
 use Rattle.theory.specs.Logic.{unless_answer_then_}
 use Rattle.theory.proofs.Tests.{by-cases, within-low}
@@ -20,7 +20,7 @@ use Rattle.card.proofs.LayoutLaws.{length-with-member, setup-with-bytes, setup-
 use Rattle.frame.specs.Requests.{setParts}
 use Rattle.reply.specs.Reply.{headSize}
 use Rattle.admin.specs.Command.{respond}
-use Rattle.staging.specs.Staging.{heldIn, isOpen, heldBytes, withHeldBytes, withoutHeld, onMember, onOpen, concluded, beginOf, feedOf, finishOf, dropOf}
+use Rattle.staging.specs.Staging.{heldIn, isOpen, heldBytes, withHeldBytes, withoutHeld, onMember, onOpen, beginOf, feedOf, finishOf, dropOf}
 use Rattle.staging.proofs.Refusals.{on-member-sound, on-open-sound}
 use Rattle.staging.proofs.Places.{has, held-short}
 use Rattle.demands.specs.Calls.{command, step}

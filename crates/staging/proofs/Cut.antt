@@ -5,7 +5,6 @@ use mathlib.Core.List.{List, [], _∷_, _++_, append-nil, append-assoc}
 use Prim.Native.Nat.{ℕ, _+_, _-_, _≤_, _<_}
 use native.Mathlib.Nat.{zero-add}
 use native.Mathlib.Omega.{arith}
-use lib.Dec.{eqb, leb}
 use lib.ListN.{length, take, drop, length-append}
 use lib.Seq.{take-at}
 use borrow.Author.Tests.{le-leb, lt-ltb, eq-eqb}
@@ -15,11 +14,11 @@ use Rattle.theory.proofs.Bytes.{length-put, put-nil, put-append, put-front}
 use Rattle.member.specs.declared.Member.{Member}
 use Rattle.member.specs.Record.{holdingSize}
 use Rattle.member.specs.Member.{withHeld}
-use Rattle.card.specs.Layout.{isMember, memberIn, holdingIn, withMember}
+use Rattle.card.specs.Layout.{isMember, memberIn, holdingIn}
 use Rattle.card.specs.Sound.{isSound}
 use Rattle.card.proofs.LayoutLaws.{holding-with-member}
 use Rattle.staging.specs.Staging.{heldIn, heldBytes, withHeldBytes, opened, joinedTo, beginOf, feedOf, finishOf}
-use Rattle.staging.specs.Claims.{joined, fed, restored, HoldsJoined, CutAnywhere}
+use Rattle.staging.specs.Claims.{joined, fed, HoldsJoined, CutAnywhere}
 use Rattle.staging.proofs.Refusals.{on-member, on-open}
 use Rattle.staging.proofs.Places.{holding-back, holding-long, has, held-sound, held-member, held-number, held-bytes, held-over}
 

@@ -5,10 +5,10 @@ use mathlib.Core.List.{List}
 use Prim.Native.Nat.{ℕ, _+_, _-_, _≤_}
 use native.Mathlib.Omega.{arith}
 use lib.ListN.{length}
-use borrow.Author.Tests.{leb-true, ltb-true}
+use borrow.Author.Tests.{leb-true}
 use Rattle.theory.proofs.Tests.{unless-cases}
 use Rattle.member.specs.Record.{holdingSize}
-use Rattle.card.specs.Layout.{setupOf, isMember}
+use Rattle.card.specs.Layout.{setupOf}
 use Rattle.card.specs.Sound.{isSound}
 use Rattle.card.proofs.LayoutLaws.{setup-with-member, setup-with-use}
 use Rattle.card.proofs.SoundLaws.{is-sound}

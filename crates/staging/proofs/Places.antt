@@ -1,16 +1,16 @@
 -- A holding place that is put in a card: what is there then, and that the card stays sound. Assumes nothing.
-use mathlib.Core.Path.{_≡_, refl, ap, sym, _∙_}
+use mathlib.Core.Path.{_≡_, ap, _∙_}
 use mathlib.Core.Bool.{true}
 use mathlib.Core.List.{List}
 use Prim.Native.Nat.{ℕ, _+_, _-_, _≤_}
 use native.Mathlib.Omega.{arith}
-use lib.ListN.{length, take, length-take}
+use lib.ListN.{length, length-take}
 use Rattle.theory.proofs.Tests.{within-low}
 use Rattle.member.specs.declared.Member.{Member}
 use Rattle.member.specs.Record.{holdingSize}
 use Rattle.member.specs.Member.{withHeld}
 use Rattle.member.proofs.Sound.{sound-held}
-use Rattle.card.specs.Layout.{holdingAt, HasRecord, setupOf, isMember, memberIn, withMember, holdingIn, withHolding, noBytes}
+use Rattle.card.specs.Layout.{holdingAt, HasRecord, isMember, memberIn, withMember, holdingIn, withHolding, noBytes}
 use Rattle.card.specs.Sound.{isSound}
 use Rattle.card.proofs.LayoutLaws.{bytes-long, bytes-back, setup-with-member, setup-with-holding, length-with-member, member-same, member-over, member-with-holding, holding-same, holding-over, holding-swap}
 use Rattle.card.proofs.SoundLaws.{Sound, SoundIn, sound-of, is-sound, sound-has, sound-member-in, sound-with-member, sound-with-holding}

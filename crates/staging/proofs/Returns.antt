@@ -1,10 +1,9 @@
 -- Each return of begin, feed, finish and drop that is no refusal of ./Refusals.antt, as the code meets it. Assumes nothing.
-use mathlib.Core.Path.{_≡_, refl, ap, sym, _∙_}
+use mathlib.Core.Path.{_≡_, ap, sym, _∙_}
 use mathlib.Core.Bool.{true}
 use mathlib.Core.List.{List}
 use Prim.Native.Nat.{ℕ, _+_, _-_, _^_, _≤_, _<_}
 use native.Mathlib.Omega.{arith}
-use lib.Dec.{ltb, leb}
 use lib.ListN.{length, take, length-take}
 use borrow.Author.Tests.{le-leb, lt-leb, eq-eqb, ne-eqb, ltb-true}
 use Rattle.theory.specs.Logic.{unless_answer_then_}
@@ -22,7 +21,7 @@ use Rattle.card.proofs.SoundLaws.{sound-of, sound-long, sound-has, sound-member
 use Rattle.frame.specs.Requests.{setParts}
 use Rattle.reply.specs.Reply.{headSize}
 use Rattle.admin.specs.Command.{respond}
-use Rattle.staging.specs.Staging.{heldIn, heldBytes, withHeldBytes, withoutHeld, answerNumber, openRefusal, onOpen, opened, joinedTo, concluded, feedOf, finishOf, dropOf}
+use Rattle.staging.specs.Staging.{heldIn, heldBytes, withHeldBytes, withoutHeld, answerNumber, openRefusal, opened, joinedTo, concluded, feedOf, finishOf, dropOf}
 use Rattle.staging.specs.SetSteps.{setInto}
 use Rattle.staging.proofs.Refusals.{passed, open-passed, open-record}
 use Rattle.staging.proofs.SetLaws.{set-concludes}

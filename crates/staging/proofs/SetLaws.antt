@@ -6,7 +6,7 @@ use Prim.Native.Nat.{ℕ, _+_, _-_, _^_, _≤_, _<_}
 use native.Mathlib.Nat.{sub-zero}
 use native.Mathlib.Omega.{arith}
 use lib.Dec.{ltb}
-use lib.ListN.{length, take, drop}
+use lib.ListN.{length, take}
 use borrow.Author.Tests.{ltb-true, lt-ltb, le-ltb, not-true, not-false}
 use Rattle.theory.specs.Logic.{if_then_else_, unless_answer_then_}
 use Rattle.theory.specs.Bytes.{bytesAt}
@@ -16,7 +16,7 @@ use Rattle.protocol.specs.declared.Answer.{Answer}
 use Rattle.protocol.specs.declared.Answer.the-variants.{Done, BadLength, BadGroup, BadOpcode, NoMember, BadField, Exists, NotLive, NoRoom, WrongKind, Running, BadList, ShortReply}
 use Rattle.protocol.specs.declared.ChangeOp.the-variants.{SetParts}
 use Rattle.protocol.specs.Answers.{isDone}
-use Rattle.protocol.specs.Opcodes.{bit, largest}
+use Rattle.protocol.specs.Opcodes.{bit}
 use Rattle.member.specs.declared.Member.{Member}
 use Rattle.member.specs.Record.{holdingSize}
 use Rattle.member.specs.Member.{withHeld}
