@@ -2,3 +2,4 @@ pub mod Concluded
 pub mod OfSound
 pub mod OfRequest
 pub mod Arms
+pub mod Respond

@@ -6,23 +6,24 @@ use mathlib.Core.List.{List, _∷_, _++_, append-assoc}
 use Prim.Native.Nat.{ℕ, _+_, _*_, _-_, _^_, _≤_, _<_}
 use native.Mathlib.Nat.{add-zero}
 use native.Mathlib.Omega.{arith}
-use lib.Dec.{leb}
-use lib.ListN.{length, getD, take, drop, length-append}
+use lib.Dec.{leb, eqb}
+use borrow.Author.Tests.{eqb-true, eqb-false}
+use lib.ListN.{length, getD, take, drop, length-append, length-replicate}
 use lib.Seq.{take-take, take-all, take-at, take-add, drop-at, drop-append-add, drop-drop, length-take-le, getD-take}
 use borrow.Rule.Slice.PartMut.{putMid}
 use Rattle.theory.specs.Bytes.{bytesAt, put, repeat}
 use Rattle.theory.proofs.Tests.{by-cases, tests}
-use Rattle.theory.proofs.Bytes.{length-put, put-bytesAt, put-over, put-comm, put-out, put-eq, bytesAt-before, bytesAt-after, bytesAt-put-as, length-bytesAt, length-bytesAt-le, bytesAt-bytesAt, length-repeat, bytesAt-repeat}
+use Rattle.theory.proofs.Bytes.{length-put, put-bytesAt, put-over, put-comm, put-out, put-eq, put-append, bytesAt-before, bytesAt-after, bytesAt-put-as, length-bytesAt, length-bytesAt-le, bytesAt-bytesAt, length-repeat, bytesAt-repeat}
 use Rattle.wire.specs.Le.{le, bytes, number}
 use Rattle.wire.proofs.Le.{length-bytes, le-bytes, number-before, number-put}
 use Rattle.protocol.specs.Opcodes.{freshMask}
 use Rattle.member.specs.declared.Member.{Member}
-use Rattle.member.specs.Record.{memberSize, memberOf, memberBytes}
+use Rattle.member.specs.Record.{memberSize, holdingSize, memberOf, memberBytes}
 use Rattle.member.specs.Member.{featuresSize, freshOf}
 use Rattle.member.proofs.Record.{Shaped, length-member, member-back}
 use Rattle.member.proofs.Sound.{sound-fresh}
 use Rattle.card.specs.declared.Setup.{Setup}
-use Rattle.card.specs.Layout.{featuresAt, inUseAt, cardHeaderSize, memberBytesAt, recordSize, cardSize, setupIn, setupOf, inUseOf, withInUse, recordAt, HasRecord, recordBytes, withRecordBytes, memberBytesIn, memberIn, withMember, freshRecord, withFresh, freshHeader, freshCard}
+use Rattle.card.specs.Layout.{featuresAt, inUseAt, cardHeaderSize, memberBytesAt, holdingAt, recordSize, cardSize, setupIn, setupOf, inUseOf, withInUse, recordAt, HasRecord, recordBytes, withRecordBytes, memberBytesIn, memberIn, withMember, holdingIn, withHolding, noBytes, freshRecord, withFresh, freshHeader, freshCard}
 
 -- ---- bytes of a record ----
 
@@ -72,6 +73,21 @@ module _ (c : List ℕ) (m at n : ℕ) (x : List ℕ) where
       → withRecordBytes (withRecordBytes c m at n x) m p k y ≡ withRecordBytes c m p k y
   unfolding withRecordBytes
   bytes-over p k y h i e = let w = cut n x in rw (uncut k y e) (put-over (recordAt m + p) (recordAt m + at) (take n x) y c (omega arith) (omega arith))
+
+  -- bytes of the same record that lie before, or after
+  pub bytes-before : (p k : ℕ) → p + k ≤ at → recordBytes (withRecordBytes c m at n x) m p k ≡ recordBytes c m p k
+  unfolding withRecordBytes recordBytes
+  bytes-before p k h = bytesAt-before (recordAt m + p) k (recordAt m + at) (take n x) c (omega arith)
+
+  pub bytes-after : (p k : ℕ) → at + n ≤ p → recordBytes (withRecordBytes c m at n x) m p k ≡ recordBytes c m p k
+  unfolding withRecordBytes recordBytes
+  bytes-after p k h = let w = cut n x in bytesAt-after (recordAt m + p) k (recordAt m + at) (take n x) c (omega arith)
+
+  -- bytes of the same record, one after the other, are put in either order
+  pub bytes-apart : (p k : ℕ) (y : List ℕ) → at + n ≤ p
+      → withRecordBytes (withRecordBytes c m p k y) m at n x ≡ withRecordBytes (withRecordBytes c m at n x) m p k y
+  unfolding withRecordBytes
+  bytes-apart p k y h = let w = cut n x in put-comm (recordAt m + at) (take n x) (recordAt m + p) (take k y) c (omega arith)
 
   -- there is no member m
   pub bytes-none : length c ≡ cardSize (setupOf c .members) → setupOf c .members < m → withRecordBytes c m at n x ≡ c
@@ -206,6 +222,10 @@ fresh-laid : (s : Setup) → freshCard s ≡ numbersOf s ++ (bytes 8 freshMask +
 unfolding freshCard freshHeader numbersOf recordsOf
 fresh-laid s = append-assoc (numbersOf s) (bytes 8 freshMask) (recordsOf s)
 
+pub no-bytes-long : length noBytes ≡ holdingSize
+unfolding noBytes
+no-bytes-long = length-replicate {A = ℕ} holdingSize 0
+
 -- f is the device features
 module _ (f : List ℕ) (e : length f ≡ featuresSize) where
   pub fresh-shaped : Shaped (freshOf f)
@@ -213,12 +233,12 @@ module _ (f : List ℕ) (e : length f ≡ featuresSize) where
 
   pub fresh-record-long : length (freshRecord f) ≡ recordSize
   unfolding freshRecord
-  fresh-record-long = length-member _ fresh-shaped
+  fresh-record-long = rw (length-append, length-member _ fresh-shaped, no-bytes-long) (omega arith)
 
   -- its front is the member's
   fresh-front : bytesAt memberBytesAt memberSize (freshRecord f) ≡ memberBytes (freshOf f)
   unfolding freshRecord
-  fresh-front = take-all memberSize _ (omega (arith, length-member _ fresh-shaped))
+  fresh-front = take-at (memberBytes (freshOf f)) noBytes memberSize (length-member _ fresh-shaped)
 
 module _ (s : Setup) (e : length (s .features) ≡ featuresSize) where
   numbers-long : length (numbersOf s) ≡ inUseAt
@@ -272,6 +292,55 @@ module _ (c : List ℕ) (m : ℕ) (x : Member) where
   pub member-same : HasRecord c m → Shaped x → memberIn (withMember c m x) m ≡ x
   unfolding withMember memberIn
   member-same h s = ap memberOf (bytes-same c m memberBytesAt memberSize (memberBytes x) h (omega arith) (length-member x s)) ∙ member-back x s
+
+-- ---- the bytes of a holding place ----
+
+module _ (c : List ℕ) (m : ℕ) (x : Member) where
+  pub holding-with-member : holdingIn (withMember c m x) m ≡ holdingIn c m
+  unfolding withMember holdingIn
+  holding-with-member = bytes-after c m memberBytesAt memberSize (memberBytes x) holdingAt holdingSize (omega arith)
+
+  -- the member that is put last stands
+  pub member-over : (y : Member) → Shaped y → withMember (withMember c m x) m y ≡ withMember c m y
+  unfolding withMember
+  member-over y s = bytes-over c m memberBytesAt memberSize (memberBytes x) memberBytesAt memberSize (memberBytes y) (omega arith) (omega arith) (length-member y s)
+
+module _ (c : List ℕ) (m : ℕ) (x : List ℕ) where
+  pub length-with-holding : length (withHolding c m x) ≡ length c
+  unfolding withHolding
+  length-with-holding = length-with-bytes c m holdingAt holdingSize x
+
+  pub setup-with-holding : setupOf (withHolding c m x) ≡ setupOf c
+  unfolding withHolding
+  setup-with-holding = setup-with-bytes c m holdingAt holdingSize x
+
+  pub use-with-holding : inUseOf (withHolding c m x) ≡ inUseOf c
+  unfolding withHolding
+  use-with-holding = use-with-bytes c m holdingAt holdingSize x
+
+  -- no member is touched
+  pub bytes-with-holding : (k : ℕ) → 1 ≤ m → 1 ≤ k → memberBytesIn (withHolding c m x) k ≡ memberBytesIn c k
+  unfolding withHolding
+  bytes-with-holding k l h = by-cases (eqb k m)
+      (λ t. rw (eqb-true k m t) (bytes-before c m holdingAt holdingSize x memberBytesAt memberSize (omega arith)))
+      (λ t. bytes-other c m holdingAt holdingSize x (omega arith) l k memberBytesAt memberSize (omega arith) h (eqb-false k m t))
+
+  pub member-with-holding : (k : ℕ) → 1 ≤ m → 1 ≤ k → memberIn (withHolding c m x) k ≡ memberIn c k
+  unfolding memberIn
+  member-with-holding k l h = ap memberOf (bytes-with-holding k l h)
+
+  pub holding-same : HasRecord c m → length x ≡ holdingSize → holdingIn (withHolding c m x) m ≡ x
+  unfolding withHolding holdingIn
+  holding-same h e = bytes-same c m holdingAt holdingSize x h (omega arith) e
+
+  pub holding-over : (y : List ℕ) → length y ≡ holdingSize → withHolding (withHolding c m x) m y ≡ withHolding c m y
+  unfolding withHolding
+  holding-over y e = bytes-over c m holdingAt holdingSize x holdingAt holdingSize y (omega arith) (omega arith) e
+
+  -- a member is put before or after
+  pub holding-swap : (y : Member) → withMember (withHolding c m x) m y ≡ withHolding (withMember c m y) m x
+  unfolding withHolding withMember
+  holding-swap y = bytes-apart c m memberBytesAt memberSize (memberBytes y) holdingAt holdingSize x (omega arith)
 
 -- ---- a fresh record ----
 
@@ -335,7 +404,20 @@ module _ (c : List ℕ) (m : ℕ) (f : List ℕ) where
     unfolding withFresh withRecordBytes
     fresh-put = rw (uncut recordSize (freshRecord f) (fresh-record-long f e), add-zero)
 
--- as code leaves it that saves a fresh member
-pub fresh-is-member : (c : List ℕ) (m : ℕ) (f : List ℕ) → withFresh c m f ≡ withMember c m (freshOf f)
-unfolding withFresh withMember freshRecord
-fresh-is-member c m f = refl
+-- as code leaves it that saves a fresh member and zeroes its holding place
+pub fresh-in-two : (c : List ℕ) (m : ℕ) (f : List ℕ) → length f ≡ featuresSize
+    → withFresh c m f ≡ withHolding (withMember c m (freshOf f)) m noBytes
+unfolding withFresh withMember withHolding withRecordBytes freshRecord
+fresh-in-two c m f e =
+    let n = length-member _ (fresh-shaped f e) in
+    let r : length (memberBytes (freshOf f) ++ noBytes) ≡ recordSize = rw (length-append, n, no-bytes-long) (omega arith) in
+    let k : recordAt m + 0 + length (memberBytes (freshOf f)) ≡ recordAt m + holdingAt = rw n (omega arith) in
+    rw (uncut recordSize _ r, uncut memberSize _ n, uncut holdingSize noBytes no-bytes-long, put-append (recordAt m + 0) (memberBytes (freshOf f)) noBytes c, k)
+
+-- its member is fresh
+pub member-bytes-with-fresh : (c : List ℕ) (m : ℕ) (f : List ℕ) → length f ≡ featuresSize → HasRecord c m
+    → memberBytesIn (withFresh c m f) m ≡ memberBytes (freshOf f)
+unfolding withMember
+member-bytes-with-fresh c m f e h =
+    rw (fresh-in-two c m f e, bytes-with-holding (withMember c m (freshOf f)) m noBytes m (h .low) (h .low))
+    (bytes-same c m memberBytesAt memberSize _ h (omega arith) (length-member _ (fresh-shaped f e)))

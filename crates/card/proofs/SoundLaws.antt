@@ -16,9 +16,9 @@ use Rattle.member.specs.Member.{featuresSize}
 use Rattle.member.proofs.Record.{length-member}
 use Rattle.member.proofs.Sound.{SoundMember, sound-record, sound-member, sound-fresh}
 use Rattle.card.specs.declared.Setup.{Setup}
-use Rattle.card.specs.Layout.{cardHeaderSize, memberBytesAt, recordSize, cardSize, setupOf, inUseOf, isMember, HasRecord, withRecordBytes, memberBytesIn, withInUse, memberIn, withMember, withFresh, freshCard}
+use Rattle.card.specs.Layout.{cardHeaderSize, memberBytesAt, recordSize, cardSize, setupOf, inUseOf, isMember, HasRecord, withRecordBytes, memberBytesIn, withInUse, memberIn, withMember, withHolding, freshRecord, withFresh, freshCard}
 use Rattle.card.specs.Sound.{inNumbers, soundSetup, soundFor, soundUpTo, isSound}
-use Rattle.card.proofs.LayoutLaws.{has-record, bytes-long, length-with-bytes, setup-with-bytes, use-with-bytes, bytes-same, bytes-other, length-with-use, setup-with-use, bytes-with-use, use-same, features-long, length-fresh, setup-fresh, use-fresh, member-bytes-fresh, fresh-is-member}
+use Rattle.card.proofs.LayoutLaws.{has-record, bytes-long, length-with-bytes, setup-with-bytes, use-with-bytes, bytes-same, bytes-other, length-with-use, setup-with-use, bytes-with-use, use-same, features-long, length-fresh, setup-fresh, use-fresh, member-bytes-fresh, fresh-bytes, member-bytes-with-fresh, length-with-holding, setup-with-holding, use-with-holding, bytes-with-holding}
 
 -- ---- the test, as facts, and back ----
 
@@ -127,9 +127,16 @@ sound-with-member c m x s low y = with-bytes c m memberBytesAt memberSize (membe
 -- a fresh member
 pub sound-with-fresh : (c : List ℕ) (m : ℕ) → Sound c → 1 ≤ m → Sound (withFresh c m (setupOf c .features))
 sound-with-fresh c m s low =
+    let f = setupOf c .features in
     let e = features-long c (omega (arith, sound-long c s)) in
-    rw (fresh-is-member c m (setupOf c .features))
-    (sound-with-member c m _ s low (sound-fresh _ _ (setupOf c .features) e))
+    rw (fresh-bytes c m f) (with-bytes c m 0 recordSize (freshRecord f) s low (omega arith) λ h.
+    rw (← fresh-bytes c m f, member-bytes-with-fresh c m f e h) (sound-record _ _ _ _ (sound-fresh _ _ f e)))
+
+-- the bytes of a holding place, whatever they are
+pub sound-with-holding : (c : List ℕ) (m : ℕ) (x : List ℕ) → Sound c → 1 ≤ m → Sound (withHolding c m x)
+sound-with-holding c m x s low =
+    kept c _ s (length-with-holding c m x) (setup-with-holding c m x) (rw use-with-holding (s .supported))
+    (λ k l h. rw (bytes-with-holding c m x k low l) (s .each k l h))
 
 -- another list with supported bits only is in use
 pub sound-with-use : (c : List ℕ) (mask : ℕ) → Sound c → supportedOnly mask ≡ true → Sound (withInUse c mask)

@@ -1,17 +1,19 @@
 -- What a store of a member comes to. Assumes nothing.
 use mathlib.Core.Path.{_≡_, ap, sym, _∙_}
 use mathlib.Core.List.{List}
-use Prim.Native.Nat.{ℕ, _+_, _-_}
+use Prim.Native.Nat.{ℕ, _+_, _-_, _≤_}
 use native.Mathlib.Nat.{add-sub-cancel-left, add-zero}
 use native.Mathlib.Omega.{arith}
-use lib.ListN.{length}
+use lib.ListN.{length, replicate, length-replicate}
 use borrow.Rule.Slice.PartMut.{midOf, putMid}
-use Rattle.theory.proofs.Bytes.{length-bytesAt}
+use Rattle.theory.specs.Bytes.{bytesAt, put}
+use Rattle.theory.proofs.Bytes.{length-put, length-bytesAt, put-within}
+use lib.Seq.{take-all}
 use Rattle.member.specs.declared.Member.{Member}
-use Rattle.member.specs.Record.{memberSize, memberBytes}
-use Rattle.member.specs.Member.{freshOf}
-use Rattle.card.specs.Layout.{memberBytesAt, recordAt, HasRecord, withMember, withFresh}
-use Rattle.card.proofs.LayoutLaws.{bytes-lent, fresh-is-member}
+use Rattle.member.specs.Record.{memberSize, holdingSize, memberBytes}
+use Rattle.member.specs.Member.{featuresSize, freshOf}
+use Rattle.card.specs.Layout.{memberBytesAt, holdingAt, recordAt, HasRecord, recordBytes, withRecordBytes, withMember, holdingIn, withHolding, noBytes, withFresh}
+use Rattle.card.proofs.LayoutLaws.{bytes-lent, fresh-in-two}
 
 -- the place of a member's bytes was lent and came back as `last`, as long as it was
 pub member-saved : (c : List ℕ) (m at : ℕ) (x : Member) (last : List ℕ) → at ≡ recordAt m → HasRecord c m → last ≡ memberBytes x
@@ -23,6 +25,37 @@ member-saved c m at x last e h q n =
     let z : at ≡ recordAt m + memberBytesAt = e ∙ sym (add-zero (recordAt m)) in
     bytes-lent c m memberBytesAt memberSize (memberBytes x) at (at + memberSize - at) last z (add-sub-cancel-left at memberSize) q l (omega arith) h
 
--- a fresh member was saved
-pub member-reset : (c d : List ℕ) (m : ℕ) (x : Member) (f : List ℕ) → x ≡ freshOf f → d ≡ withMember c m x → d ≡ withFresh c m f
-member-reset c d m x f e q = q ∙ rw e (sym (fresh-is-member c m f))
+-- a fresh member was saved and its holding place zeroed
+pub member-reset : (c d e : List ℕ) (m : ℕ) (x : Member) (f : List ℕ) → length f ≡ featuresSize → x ≡ freshOf f → d ≡ withMember c m x
+    → e ≡ withHolding d m noBytes → e ≡ withFresh c m f
+member-reset c d e m x f n p q r = r ∙ rw (q, p) (sym (fresh-in-two c m f n))
+
+-- ---- the bytes of a holding place, from the place of the record ----
+
+module _ (c : List ℕ) (m p at : ℕ) (d : p ≡ recordAt m) (e : at ≡ p + memberSize) where
+  place : at ≡ recordAt m + holdingAt
+  place = rw (e, d)
+
+  pub holding-lent : bytesAt at (at + holdingSize - at) c ≡ holdingIn c m
+  unfolding holdingIn recordBytes
+  holding-lent = rw (add-sub-cancel-left at holdingSize, place)
+
+  pub holding-zeroed : (last : List ℕ) → HasRecord c m → last ≡ replicate (length (midOf at (at + holdingSize - at) c)) 0
+      → putMid at (at + holdingSize - at) c last ≡ withHolding c m noBytes
+  unfolding withHolding noBytes
+  holding-zeroed last h q =
+      let k = add-sub-cancel-left at holdingSize in
+      let n : length (bytesAt at holdingSize c) ≡ holdingSize = length-bytesAt at holdingSize c (rw place (omega (arith, h .high))) in
+      bytes-lent c m holdingAt holdingSize (replicate holdingSize 0) at (at + holdingSize - at) last place k (q ∙ rw (k, n))
+      (length-replicate {A = ℕ} holdingSize 0) (omega arith) h
+
+  -- bytes were written from a place in it on
+  pub holding-written : (from : ℕ) (x r : List ℕ) → from + length x ≤ holdingSize → HasRecord c m → r ≡ put (at + from) x c
+      → r ≡ withHolding c m (put from x (holdingIn c m))
+  unfolding withHolding holdingIn withRecordBytes recordBytes
+  holding-written from x r i h q =
+      let l = recordAt m + holdingAt in
+      let n = length-bytesAt l holdingSize c (omega (arith, h .high)) in
+      let w : length (put from x (bytesAt l holdingSize c)) ≤ holdingSize = rw length-put (omega arith) in
+      q ∙ rw (place, take-all holdingSize (put from x (bytesAt l holdingSize c)) w)
+      (sym (put-within l holdingSize from x c i (omega (arith, h .high))))

@@ -3,19 +3,19 @@
 use mathlib.Core.Bool.{Bool}
 use mathlib.Core.List.{List, _∷_, _++_}
 use Prim.Native.Nat.{ℕ, _+_, _*_, _-_, _≤_}
-use lib.ListN.{length, getD, take, drop}
+use lib.ListN.{length, getD, take, drop, replicate}
 use Rattle.theory.specs.Logic.{if_then_else_, within}
 use Rattle.theory.specs.Bytes.{bytesAt, put, repeat}
 use Rattle.wire.specs.Le.{bytes, number}
 use Rattle.protocol.specs.Opcodes.{freshMask}
 use Rattle.member.specs.declared.Member.{Member}
-use Rattle.member.specs.Record.{memberSize, memberOf, memberBytes}
+use Rattle.member.specs.Record.{memberSize, holdingSize, memberOf, memberBytes}
 use Rattle.member.specs.Member.{freshOf}
 use Rattle.card.specs.declared.Setup.{Setup}
 
 -- raised whenever a card's bytes change their meaning
 abbrev pub version : ℕ
-version = 1
+version = 2
 
 -- header: N, Q, G, S 1 byte each, device features 16, list in use 8
 abbrev pub featuresAt : ℕ
@@ -27,12 +27,15 @@ inUseAt = 20
 abbrev pub cardHeaderSize : ℕ
 cardHeaderSize = 28
 
--- a record: the bytes of its member
+-- a record: the bytes of its member, then those of its holding place
 abbrev pub memberBytesAt : ℕ
 memberBytesAt = 0
 
+abbrev pub holdingAt : ℕ
+holdingAt = memberBytesAt + memberSize
+
 abbrev pub recordSize : ℕ
-recordSize = memberBytesAt + memberSize
+recordSize = holdingAt + holdingSize
 
 abbrev pub cardSize : ℕ → ℕ
 cardSize members = cardHeaderSize + recordSize * members
@@ -84,9 +87,19 @@ memberIn c m = memberOf (memberBytesIn c m)
 unfoldable pub withMember : List ℕ → ℕ → Member → List ℕ
 withMember c m x = withRecordBytes c m memberBytesAt memberSize (memberBytes x)
 
+-- the bytes of member m's holding place; those of none are all zero
+unfoldable pub holdingIn : List ℕ → ℕ → List ℕ
+holdingIn c m = recordBytes c m holdingAt holdingSize
+
+unfoldable pub withHolding : List ℕ → ℕ → List ℕ → List ℕ
+withHolding c m x = withRecordBytes c m holdingAt holdingSize x
+
+unfoldable pub noBytes : List ℕ
+noBytes = replicate holdingSize 0
+
 -- the record of a fresh member
 unfoldable pub freshRecord : List ℕ → List ℕ
-freshRecord features = memberBytes (freshOf features)
+freshRecord features = memberBytes (freshOf features) ++ noBytes
 
 unfoldable pub withFresh : List ℕ → ℕ → List ℕ → List ℕ
 withFresh c m features = withRecordBytes c m 0 recordSize (freshRecord features)

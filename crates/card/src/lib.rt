@@ -3,12 +3,13 @@ ghost use mathlib.Core.Path.{_≡_};
 ghost use Prim.Native.Nat.{_+_, _^_, _≤_, _<_};
 ghost use lib.Dec.{eqb};
 ghost use lib.ListN.{length};
-ghost use Rattle.theory.specs.Bytes.{bytesAt};
+ghost use Rattle.theory.specs.Bytes.{bytesAt, put};
 ghost use Rattle.protocol.specs.Opcodes.{supportedOnly};
-ghost use Rattle.member.specs.Record.{memberSize};
-ghost use Rattle.card.specs.Layout.{cardHeaderSize, cardSize, cardBytes, setupOf, inUseOf, withInUse, isMember, recordAt, HasRecord, memberBytesIn, memberIn, withMember, withFresh};
+ghost use Rattle.member.specs.Record.{memberSize, holdingSize};
+ghost use Rattle.card.specs.Layout.{cardHeaderSize, cardSize, cardBytes, setupOf, inUseOf, withInUse, isMember, recordAt, HasRecord, memberBytesIn, memberIn, withMember, holdingIn, withHolding, noBytes, withFresh};
 ghost use Rattle.card.specs.Sound.{inNumbers, soundSetup, soundFor, soundUpTo, isSound};
 use member::FEATURES_SIZE;
+use member::HOLDING_SIZE;
 use member::MEMBER_SIZE;
 use member::Member;
 
@@ -22,7 +23,7 @@ pub struct Setup {
 }
 
 // Raised whenever a card's bytes change their meaning.
-pub const VERSION: u32 = 1;
+pub const VERSION: u32 = 2;
 
 // Header: N, Q, G, S 1 byte each, device features 16, list in use 8; then a record for each member.
 const MEMBERS_AT: usize = 0;
@@ -39,8 +40,8 @@ pub const IN_USE_AT: usize = 20;
 
 const CARD_HEADER_SIZE: usize = 28;
 
-// A record: the bytes of its member.
-const RECORD_SIZE: usize = MEMBER_SIZE;
+// A record: the bytes of its member, then those of its holding place.
+const RECORD_SIZE: usize = MEMBER_SIZE + HOLDING_SIZE;
 
 const MOST_MEMBERS: u64 = 16;
 
@@ -148,6 +149,34 @@ pub fn reset_record(card: &mut [u8], m: u64, features: [u8; FEATURES_SIZE])
 {
     let x = load_member(card, m).reset(features);
     save_member(card, m, x);
+    zero_holding(card, m);
+}
+
+// The bytes of member m's holding place, where they stand.
+pub fn holding(card: &[u8], m: u64) -> &[u8]
+    requires { ⌜ HasRecord (now card) m ⌝ }
+    ensures { λ r. ⌜ now r ≡ holdingIn (now (card .entry)) m ⌝ }
+{
+    let at = record_at(m) + MEMBER_SIZE;
+    &card[at..at + HOLDING_SIZE]
+}
+
+// Bytes are written into it from a place on.
+pub fn write_holding(card: &mut [u8], m: u64, from: usize, bytes: &[u8])
+    requires { ⌜ HasRecord (now card) m × (from + length (now bytes) ≤ holdingSize) ⌝ }
+    ensures { λ _. ⌜ now (card .exit) ≡ withHolding (now (card .entry)) m (put from (now (bytes .entry)) (holdingIn (now (card .entry)) m)) ⌝ }
+{
+    let at = record_at(m) + MEMBER_SIZE;
+    wire::copy(card, at + from, bytes);
+}
+
+// All of them become zero.
+pub fn zero_holding(card: &mut [u8], m: u64)
+    requires { ⌜ HasRecord (now card) m ⌝ }
+    ensures { λ _. ⌜ now (card .exit) ≡ withHolding (now (card .entry)) m noBytes ⌝ }
+{
+    let at = record_at(m) + MEMBER_SIZE;
+    wire::zero(&mut card[at..at + HOLDING_SIZE]);
 }
 
 // ---- soundness ----

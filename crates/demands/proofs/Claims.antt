@@ -14,6 +14,9 @@ use Rattle.demands.proofs.RoundTrip.{round-trip}
 use Rattle.demands.proofs.Isolation.{isolation}
 use Rattle.demands.proofs.Integrity.{integrity}
 use Rattle.demands.proofs.Commutation.{commutation, commands-commute}
+use Rattle.demands.proofs.HoldingKept.{holding-kept}
+use Rattle.staging.proofs.SetsParts.{finish-is-parts-set}
+use Rattle.staging.proofs.Cut.{holds-joined, cut-anywhere}
 
 pub claims : Claims
 claims = record {
@@ -35,4 +38,8 @@ claims = record {
   lengthExamples = length-examples-hold;
   commutation = commutation;
   commandsCommute = commands-commute;
+  finishIsPartsSet = finish-is-parts-set;
+  holdsJoined = holds-joined;
+  cutAnywhere = cut-anywhere;
+  holdingKept = holding-kept;
 }

@@ -25,7 +25,7 @@ sound-card : isSound exampleCard ≡ true
 unfolding model
 sound-card = refl
 
-unsound-card : isSound (replicate 472 0) ≡ false
+unsound-card : isSound (replicate (cardSize 2) 0) ≡ false
 unfolding model
 unsound-card = refl
 

@@ -15,7 +15,7 @@ use Rattle.card.specs.Sound.{isSound}
 use Rattle.card.proofs.LayoutLaws.{bytes-back, bytes-long, bytes-over, fresh-bytes, fresh-apart, setup-with-fresh}
 use Rattle.card.proofs.SoundLaws.{sound-of, sound-has}
 use Rattle.frame.specs.Frame.{targetOf}
-use Rattle.demands.specs.Calls.{Call, command, memberReset, cardReset, cardStore, step, names}
+use Rattle.demands.specs.Calls.{Call, command, memberReset, cardReset, cardStore, restoreBegin, restoreFeed, restoreFinish, restoreDrop, step, names}
 use Rattle.demands.specs.Claims.{Commutation, CommandsCommute}
 use Rattle.demands.proofs.Refusals.{unsound-stays}
 use Rattle.demands.proofs.Named.{leaves-none, named-leaves}
@@ -29,6 +29,10 @@ names-one m k n (command r room) e = rw (eqb-true (targetOf r) m (both _ _ e .1)
 names-one m k n (memberReset j) e = refl
 names-one m k n cardReset e = refl
 names-one m k n (cardStore j t s value) e = rw (eqb-true j m e) (ne-eqb m k n)
+names-one m k n (restoreBegin j) e = rw (eqb-true j m e) (ne-eqb m k n)
+names-one m k n (restoreFeed j x) e = rw (eqb-true j m e) (ne-eqb m k n)
+names-one m k n (restoreFinish j id) e = rw (eqb-true j m e) (ne-eqb m k n)
+names-one m k n (restoreDrop j) e = rw (eqb-true j m e) (ne-eqb m k n)
 
 -- ---- two members ----
 

@@ -7,6 +7,7 @@ use Prim.Native.Nat.{ℕ}
 use native.Mathlib.Omega.{arith}
 use lib.ListN.{getD}
 use Rattle.theory.specs.Machine.{replies, Swappable}
+use Rattle.card.specs.Layout.{recordAt}
 use Rattle.demands.specs.Calls.{Call, step, names}
 use Rattle.host.specs.Request.{getAll}
 use Rattle.demands.specs.Examples.{exampleCard, send, useList, create, setMode, succeeds, gives, nineParts}
@@ -48,7 +49,7 @@ first-changes : getD (step used first .0) 29 0 ≢ getD used 29 0
 unfolding model
 first-changes = omega arith
 
-second-changes : getD (step used second .0) 250 0 ≢ getD used 250 0
+second-changes : getD (step used second .0) (recordAt 2) 0 ≢ getD used (recordAt 2) 0
 unfolding model
 second-changes = omega arith
 

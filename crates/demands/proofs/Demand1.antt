@@ -24,7 +24,7 @@ use Rattle.reply.specs.Reply.{finalOf, replyOf, written}
 use Rattle.reply.proofs.Reply.{head-long, final-room, reply-refused, reply-done}
 use Rattle.admin.specs.Command.{askIn, perform, respond, delivered, commandOf}
 use Rattle.demands.specs.Claims.{NotWritten, Delivered, SetsUp}
-use Rattle.demands.proofs.Respond.{respond-none, respond-cases}
+use Rattle.admin.proofs.Respond.{respond-none, respond-cases}
 
 -- ---- nothing written ----
 

@@ -1,6 +1,6 @@
 -- What a call leaves alone: the bytes outside a member's record, outside the list in use, and a member's mode and objects.
 -- Assumes nothing.
-use mathlib.Core.Path.{_≡_, refl}
+use mathlib.Core.Path.{_≡_, refl, _∙_}
 use mathlib.Core.List.{List}
 use Prim.Native.Nat.{ℕ, _+_, _≤_, _<_}
 use native.Mathlib.Omega.{arith}
@@ -18,12 +18,11 @@ use Rattle.objects.specs.declared.Found.{Found}
 use Rattle.objects.specs.declared.Found.the-variants.{Live, Nothing}
 use Rattle.objects.specs.Objects.{onFound}
 use Rattle.member.specs.declared.Member.{Member}
-use Rattle.member.specs.Record.{memberSize, memberBytes}
 use Rattle.member.specs.Objects.{lookupOf}
 use Rattle.changes.specs.declared.Changed.{Changed}
 use Rattle.changes.specs.Changes.{refuse, setPartsOf, changeOf}
 use Rattle.changes.proofs.Kept.{change-sound}
-use Rattle.card.specs.Layout.{inUseAt, memberBytesAt, recordSize, setupOf, recordAt, withInUse, withRecordBytes, memberIn, withMember, withFresh}
+use Rattle.card.specs.Layout.{inUseAt, recordSize, setupOf, recordAt, withInUse, withRecordBytes, memberIn, withFresh}
 use Rattle.card.proofs.LayoutLaws.{member-same}
 use Rattle.events.proofs.Cases.{on-member-cases}
 use Rattle.card.proofs.SoundLaws.{Sound, sound-of, sound-has, sound-member-in}
@@ -37,7 +36,7 @@ use Rattle.frame.proofs.Asked.{Named, Facts}
 use Rattle.admin.specs.Command.{askIn, perform, respond}
 use Rattle.demands.specs.Calls.{step}
 use Rattle.demands.specs.Claims.{SameOutside, DifferAtMost, Integrity}
-use Rattle.demands.proofs.Respond.{card-cases}
+use Rattle.admin.proofs.Respond.{card-cases}
 use Rattle.demands.proofs.Named.{Leaves, unchanged, changed, asked-of, named-leaves}
 
 same : (at size : ℕ) (c : List ℕ) → SameOutside at size c c
@@ -58,9 +57,11 @@ bytes-outside m c at n x i =
     }
 
 leaves-outside : (m : ℕ) (c d : List ℕ) → Leaves m c d → DifferAtMost m d c
-unfolding withMember
 leaves-outside m c _ unchanged = same _ _ c
-leaves-outside m c _ (changed h x) = bytes-outside m c memberBytesAt memberSize (memberBytes x) (omega arith)
+leaves-outside m c _ (changed {d} l h at n x i) =
+    let f = bytes-outside m d at n x i in
+    let g = leaves-outside m c d l in
+    record { before = f .before ∙ g .before; after = f .after ∙ g .after }
 
 reset-outside : (c : List ℕ) (m : ℕ) → DifferAtMost m (resetMember c m .1) c
 unfolding resetMember withFresh

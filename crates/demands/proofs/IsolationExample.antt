@@ -3,11 +3,13 @@ use mathlib.Core.Path.{_≡_, refl}
 use mathlib.Core.Logic.{_≢_}
 use mathlib.Core.Bool.{true}
 use mathlib.Core.List.{List, [], _∷_, _++_}
-use Prim.Native.Nat.{ℕ}
+use Prim.Native.Nat.{ℕ, _+_}
 use native.Mathlib.Omega.{arith}
-use lib.ListN.{length, getD, replicate}
+use lib.ListN.{length, getD, take, drop, replicate}
+use Rattle.theory.specs.Bytes.{same}
+use Rattle.theory.proofs.Tests.{same-true}
 use Rattle.theory.specs.Machine.{trace, seen, visible}
-use Rattle.card.specs.Layout.{isMember}
+use Rattle.card.specs.Layout.{recordSize, recordAt, isMember}
 use Rattle.card.specs.Sound.{isSound}
 use Rattle.demands.specs.Calls.{Call, memberReset, cardStore, step, names, ofMember}
 use Rattle.host.specs.Request.{getAll}
@@ -51,9 +53,16 @@ member-here : isMember card₁ 1 ≡ true
 unfolding example
 member-here = refl
 
-same-but-member : DifferAtMost 1 card₁ card₂
+same-after : same (drop (recordAt 1 + recordSize) card₁) (drop (recordAt 1 + recordSize) card₂) ≡ true
 unfolding example
-same-but-member = record { before = refl; after = refl }
+same-after = refl
+
+same-before : take (recordAt 1) card₁ ≡ take (recordAt 1) card₂
+unfolding example
+same-before = refl
+
+same-but-member : DifferAtMost 1 card₁ card₂
+same-but-member = record { before = same-before; after = same-true _ _ same-after }
 
 same-struck-out : visible (names 1) calls₁ ≡ visible (names 1) calls₂
 unfolding example

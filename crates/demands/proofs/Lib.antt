@@ -3,8 +3,6 @@ pub mod Examples
 pub mod LengthExamples
 pub mod WrongPrograms
 pub mod WrongProgramsExample
-pub mod Respond
-pub mod Requests
 pub mod Taken
 pub mod ReadBack
 pub mod HostExample
@@ -13,15 +11,17 @@ pub mod AnyLength
 pub mod Sound
 pub mod Refusals
 pub mod Demand1
-pub mod PartsSet
 pub mod RoundTrip
 pub mod RoundTripExample
 pub mod Mask
+pub mod RestoreMask
 pub mod Isolation
 pub mod IsolationExample
 pub mod Integrity
 pub mod Commutation
 pub mod CommutationExample
+pub mod RestoreExample
+pub mod HoldingKept
 pub mod Statuses
 pub mod StatusesExample
 pub mod Claims

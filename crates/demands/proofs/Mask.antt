@@ -24,8 +24,8 @@ use Rattle.frame.specs.declared.Ask.the-variants.{Refused, QueryList, UseList, 
 use Rattle.frame.proofs.Asked.{Named, Facts}
 use Rattle.admin.specs.Command.{askIn, Effect, perform, respond}
 use Rattle.demands.specs.Calls.{command, names}
-use Rattle.demands.proofs.Respond.{lastAnswer, ended, respond-none, respond-is}
-use Rattle.demands.proofs.Named.{Leaves, unchanged, changed, names-is, asked-of}
+use Rattle.admin.proofs.Respond.{lastAnswer, ended, respond-none, respond-is}
+use Rattle.demands.proofs.Named.{Leaves, unchanged, changed, leaves-long, names-is, asked-of}
 
 -- the card with a fresh record at member m
 abbrev pub mask : ℕ → List ℕ → List ℕ
@@ -38,20 +38,19 @@ module _ (m : ℕ) (c : List ℕ) (long : inUseAt ≤ length c) where
   mask-over : (at n : ℕ) (x : List ℕ) → at + n ≤ recordSize → mask m (withRecordBytes c m at n x) ≡ mask m c
   mask-over at n x i = rw setup-with-bytes (fresh-over c m (setupOf c .features) (features-long c long) at n x i)
 
-  pub mask-leaves : (d : List ℕ) → Leaves m c d → mask m d ≡ mask m c
-  unfolding withMember
-  mask-leaves _ unchanged = refl
-  mask-leaves _ (changed h x) = mask-over memberBytesAt memberSize (memberBytes x) (omega arith)
-
   pub mask-again : withFresh (mask m c) m (setupOf c .features) ≡ mask m c
   mask-again = fresh-again c m (setupOf c .features) (features-long c long) (setupOf c .features)
 
   pub mask-mask : mask m (mask m c) ≡ mask m c
   mask-mask = rw setup-with-fresh mask-again
 
+pub mask-leaves : (m : ℕ) (c : List ℕ) → inUseAt ≤ length c → (d : List ℕ) → Leaves m c d → mask m d ≡ mask m c
+mask-leaves m c long _ unchanged = refl
+mask-leaves m c long _ (changed {d} l h at n x i) = mask-over m d (rw (leaves-long m c d l) long) at n x i ∙ mask-leaves m c long d l
+
 -- what is changed elsewhere is changed in the masked card alike
 module _ (m : ℕ) (low : 1 ≤ m) (c : List ℕ) (long : inUseAt ≤ length c) where
-  mask-bytes : (k at n : ℕ) (x : List ℕ) → at + n ≤ recordSize → 1 ≤ k → k ≢ m
+  pub mask-bytes : (k at n : ℕ) (x : List ℕ) → at + n ≤ recordSize → 1 ≤ k → k ≢ m
       → mask m (withRecordBytes (mask m c) k at n x) ≡ mask m (withRecordBytes c k at n x)
   mask-bytes k at n x i l e =
       rw (fresh-swap c m (setupOf c .features) k at n x low i l e, setup-with-fresh, setup-with-bytes)

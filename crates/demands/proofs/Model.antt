@@ -18,7 +18,7 @@ use Rattle.member.specs.Member.{freshOf}
 use Rattle.member.specs.Sound.{soundRecord}
 use Rattle.changes.specs.Changes.{limited, createOf, modifyOf, destroyOf, setPartsOf}
 use Rattle.reads.specs.Reads.{queryOf, throughGet, selectedOf}
-use Rattle.card.specs.Layout.{setupIn, setupOf, inUseOf, withInUse, recordBytes, withRecordBytes, memberIn, withMember, freshRecord, withFresh, freshHeader, freshCard}
+use Rattle.card.specs.Layout.{setupIn, setupOf, inUseOf, withInUse, recordBytes, withRecordBytes, memberIn, withMember, holdingIn, withHolding, noBytes, freshRecord, withFresh, freshHeader, freshCard}
 use Rattle.card.specs.Sound.{inNumbers, soundSetup, soundUpTo, isSound}
 use Rattle.events.specs.Events.{setUp, memberAnswer, ifDone, onMember, resetMember, resetCard, storeIn, store}
 use Rattle.frame.specs.Fields.{objectValid, flagsValid, kindValid, createIn, modifyIn, queryIn, destroyIn, metadataIn, getIn, setIn, modeIn, useIn, fieldsOf}
@@ -26,6 +26,8 @@ use Rattle.frame.specs.Ask.{usable, reaches, framedOf, askOf}
 use Rattle.reply.specs.Result.{numberBytes, resultOf}
 use Rattle.reply.specs.Reply.{headOf, finalOf, replyOf, replied}
 use Rattle.admin.specs.Command.{askIn, perform, conclude, respond}
+use Rattle.staging.specs.Staging.{withHeldBytes, withoutHeld, memberRefusal, openRefusal, ifNone, onMember as onRestoring, onOpen, beginOf, feedOf, finishOf, dropOf}
+use Rattle.staging.specs.Claims.{joined as fragmentsJoined, fed}
 use Rattle.demands.specs.Calls.{refused, step, names}
 use Rattle.demands.specs.Statuses.{firstOf, namesObject, hasFlags, hasKind, needsGet, badField, badList, askedSize, resultSize, rowsAt}
 use Rattle.host.specs.Request.{sentOf, objectHeader, before, fixedOf, listFor, request, startWith, requestOf}
@@ -38,10 +40,11 @@ unfolding if_then_else_ unless_answer_then_ _and_ _or_ within indicator put repe
     known knownOrSkipped lengthRight featuresSame asksKnown whole every among repeated causeIn askedIn storable stored applied
     headerItem headersOf partAt asks partItem partsWritten memberOf memberBytes lookupOf withObject count allUpTo withinLimits
     freshOf soundRecord limited createOf modifyOf destroyOf setPartsOf queryOf throughGet selectedOf
-    setupIn setupOf inUseOf withInUse recordBytes withRecordBytes memberIn withMember freshRecord withFresh freshHeader freshCard inNumbers soundSetup soundUpTo isSound
+    setupIn setupOf inUseOf withInUse recordBytes withRecordBytes memberIn withMember holdingIn withHolding noBytes freshRecord withFresh freshHeader freshCard inNumbers soundSetup soundUpTo isSound
     setUp memberAnswer ifDone onMember resetMember resetCard storeIn store
     objectValid flagsValid kindValid createIn modifyIn queryIn destroyIn metadataIn getIn setIn modeIn useIn fieldsOf
-    usable reaches framedOf askOf numberBytes resultOf headOf finalOf replyOf replied askIn perform conclude respond refused step names
+    usable reaches framedOf askOf numberBytes resultOf headOf finalOf replyOf replied askIn perform conclude respond
+    withHeldBytes withoutHeld memberRefusal openRefusal ifNone onRestoring onOpen beginOf feedOf finishOf dropOf fragmentsJoined fed refused step names
     firstOf namesObject hasFlags hasKind needsGet badField badList askedSize resultSize rowsAt
     sentOf objectHeader before fixedOf listFor request startWith requestOf exampleCard headersListed joined nineHeaders nineParts workedExamples repliesTo lastSize
 model = tt

@@ -56,8 +56,8 @@ use Rattle.host.specs.Request.{sentOf, requestOf}
 use Rattle.host.specs.Reply.{formOf, countFits, resultFits, lengthRight, knownStatus, handledStatus, handledQualifier, readReply}
 use Rattle.host.proofs.Request.{command-supported, opcode-small, opcode-request, data-request}
 use Rattle.demands.specs.Host.{effectIn, answerIn, told, ReadBack}
-use Rattle.demands.proofs.Respond.{ended, respond-is}
-use Rattle.demands.proofs.Requests.{dataFor, laid, request-is}
+use Rattle.admin.proofs.Respond.{ended, respond-is}
+use Rattle.host.proofs.Asked.{dataFor, laid, request-is}
 
 -- ---- what is asked fixes the form of the result ----
 

@@ -49,10 +49,10 @@ use Rattle.host.specs.Request.{getAll}
 use Rattle.host.proofs.Request.{request-long}
 use Rattle.demands.specs.Host.{inside}
 use Rattle.demands.specs.RoundTrip.{Restorable, RestoredSame, RoundTrip, capture, restore}
-use Rattle.demands.proofs.Respond.{respond-is}
-use Rattle.demands.proofs.Requests.{laid}
+use Rattle.admin.proofs.Respond.{respond-is}
+use Rattle.host.proofs.Asked.{laid}
+use Rattle.staging.proofs.PartsSet.{partsSetOf, respond-parts-set}
 use Rattle.demands.proofs.Taken.{taken}
-use Rattle.demands.proofs.PartsSet.{partsSetOf, respond-parts-set}
 
 -- a command with a result that succeeds and has room
 respond-done : (c r : List ℕ) (room : ℕ) (result : List ℕ) → isSound c ≡ true

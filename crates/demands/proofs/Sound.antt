@@ -17,9 +17,10 @@ use Rattle.frame.specs.declared.Ask.{Ask}
 use Rattle.frame.specs.declared.Ask.the-variants.{Refused, QueryList, UseList, Read, Change}
 use Rattle.frame.proofs.Asked.{Facts}
 use Rattle.admin.specs.Command.{perform, respond}
-use Rattle.demands.specs.Calls.{Call, command, memberReset, cardReset, cardStore, step}
+use Rattle.demands.specs.Calls.{Call, command, memberReset, cardReset, cardStore, restoreBegin, restoreFeed, restoreFinish, restoreDrop, step}
 use Rattle.demands.specs.Claims.{StaysSound}
-use Rattle.demands.proofs.Respond.{card-cases}
+use Rattle.admin.proofs.Respond.{card-cases}
+use Rattle.staging.proofs.Kept.{begin-sound, feed-sound, finish-sound, drop-sound}
 use Rattle.demands.proofs.Named.{asked-of}
 
 module _ (c : List ℕ) (s : Sound c) where
@@ -55,6 +56,10 @@ step-sound c cardReset s =
     unless-cases Leaves _ _ _ (λ t. s) λ t.
     sound-fresh-card (setupOf c) (numbers-sound _ (s .numbers)) (features-long c (omega (arith, sound-long c s)))
 step-sound c (cardStore m t k value) s = on-member-cases c m _ Leaves (λ a d. s) (λ e h. store-sound c s m t _ value h)
+step-sound c (restoreBegin m) s = sound-of _ (begin-sound c m (is-sound c s))
+step-sound c (restoreFeed m x) s = sound-of _ (feed-sound c m (is-sound c s) x)
+step-sound c (restoreFinish m id) s = sound-of _ (finish-sound c m (is-sound c s) id (is-sound _ (respond-sound c s _ _)))
+step-sound c (restoreDrop m) s = sound-of _ (drop-sound c m (is-sound c s))
 
 pub stays-sound : StaysSound
 stays-sound c x e = is-sound _ (step-sound c x (sound-of c e))

@@ -41,7 +41,7 @@ use Rattle.reply.proofs.Result.{number-long}
 use Rattle.reply.proofs.Reply.{head-long}
 use Rattle.admin.specs.Command.{askIn, Effect, perform}
 use Rattle.demands.specs.Statuses.{Row, row, firstOf, namesObject, hasFlags, hasKind, typeByte, needsGet, memberNamed, objectNamed, memberMade, badField, badList, askedSize, resultSize, rowsAt, rows, Statuses}
-use Rattle.demands.proofs.Respond.{lastAnswer, respond-is}
+use Rattle.admin.proofs.Respond.{lastAnswer, respond-is}
 
 -- ---- what is compared ----
 

@@ -24,7 +24,7 @@ use Rattle.host.specs.declared.Command.the-variants as host
 use Rattle.host.specs.Request.{sentOf, requestOf}
 use Rattle.host.proofs.Request.{command-supported}
 use Rattle.demands.specs.Host.{askFor, inside, Taken}
-use Rattle.demands.proofs.Requests.{dataFor, laid, asked-frame, headers-given, parts-given, create-read, modify-read, query-read, destroy-read, metadata-read, get-read, set-read, use-read, mode-read}
+use Rattle.host.proofs.Asked.{dataFor, laid, asked-frame, headers-given, parts-given, create-read, modify-read, query-read, destroy-read, metadata-read, get-read, set-read, use-read, mode-read}
 
 -- ---- the member ----
 

@@ -11,7 +11,7 @@ use Rattle.theory.specs.Logic.{if_then_else_}
 use Rattle.theory.proofs.Tests.{by-cases}
 use Rattle.wire.specs.Le.{number}
 use Rattle.frame.specs.Frame.{opcodeOf}
-use Rattle.demands.specs.Calls.{Call, command, memberReset, cardReset, cardStore, Reply, written, answered, refused, step}
+use Rattle.demands.specs.Calls.{Call, command, memberReset, cardReset, cardStore, restoreBegin, restoreFeed, restoreFinish, restoreDrop, Reply, written, answered, refused, step}
 use Rattle.demands.specs.Examples.{exampleCard, refuses, succeeds, gives, aNumber, metadata, getSelected, sizeOf}
 use Rattle.demands.specs.WrongPrograms.{Passes}
 use Rattle.demands.proofs.WrongPrograms.{obeyed, reply}
@@ -27,6 +27,10 @@ answering f c (command r room) = f c r (step c (command r room))
 answering f c (memberReset m) = step c (memberReset m)
 answering f c cardReset = step c cardReset
 answering f c (cardStore m t s value) = step c (cardStore m t s value)
+answering f c (restoreBegin m) = step c (restoreBegin m)
+answering f c (restoreFeed m x) = step c (restoreFeed m x)
+answering f c (restoreFinish m id) = step c (restoreFinish m id)
+answering f c (restoreDrop m) = step c (restoreDrop m)
 
 refusing : List ℕ → Call → List ℕ × Reply
 unfolding Answering
@@ -57,6 +61,10 @@ once s (command r room) =
 once s (memberReset m) = let x = step (s .1) (memberReset m) in ((s .0, x .0), x .1)
 once s cardReset = let x = step (s .1) cardReset in ((s .0, x .0), x .1)
 once s (cardStore m t k value) = let x = step (s .1) (cardStore m t k value) in ((s .0, x .0), x .1)
+once s (restoreBegin m) = let x = step (s .1) (restoreBegin m) in ((s .0, x .0), x .1)
+once s (restoreFeed m y) = let x = step (s .1) (restoreFeed m y) in ((s .0, x .0), x .1)
+once s (restoreFinish m id) = let x = step (s .1) (restoreFinish m id) in ((s .0, x .0), x .1)
+once s (restoreDrop m) = let x = step (s .1) (restoreDrop m) in ((s .0, x .0), x .1)
 
 programs : Unit {0}
 unfolding model Answering answering refusing fixed unchanging tenParts oneByteMore once

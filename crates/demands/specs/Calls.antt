@@ -12,6 +12,7 @@ use Rattle.protocol.specs.Opcodes.{namesMember}
 use Rattle.events.specs.Events.{resetMember, resetCard, store}
 use Rattle.frame.specs.Frame.{opcodeOf, groupOf, targetOf}
 use Rattle.admin.specs.Command.{respond}
+use Rattle.staging.specs.Staging.{beginOf, feedOf, finishOf, dropOf}
 
 -- SPEC 8.1: commands, resets of one member, resets of the whole card and card stores, with any arguments. A command is the
 -- bytes of its request and the length of its reply buffer, whose bytes do not count
@@ -20,6 +21,11 @@ pub data Call : Type 0 where
   memberReset : ℕ → Call
   cardReset : Call
   cardStore : ℕ → ℕ → ℕ → List ℕ → Call
+  -- document 02, request 6: "These calls join the sequences of demand 3, with their answer as reply"
+  restoreBegin : ℕ → Call
+  restoreFeed : ℕ → List ℕ → Call
+  restoreFinish : ℕ → ℕ → Call
+  restoreDrop : ℕ → Call
 
 -- what a command wrote, and so how much; what a card event answered
 pub data Reply : Type 0 where
@@ -32,12 +38,15 @@ refused (written []) = true
 refused (written (b ∷ bs)) = not (eqb (number 0 2 (b ∷ bs)) 0)
 refused (answered n) = not (eqb n 0)
 
--- the card after a call and the reply to it, of what a command gives and of what an event gives
+-- the card after a call and the reply to it, of what a command gives, an event and a restore in fragments
 abbrev pub ofCommand : List ℕ × List ℕ → List ℕ × Reply
 ofCommand x = (x .0, written (x .1))
 
 abbrev pub ofEvent : EventAnswer × List ℕ → List ℕ × Reply
 ofEvent x = (x .1, answered (eventNumber (x .0)))
+
+abbrev pub ofRestore : ℕ × List ℕ → List ℕ × Reply
+ofRestore x = (x .1, answered (x .0))
 
 -- one call on a card
 unfoldable pub step : List ℕ → Call → List ℕ × Reply
@@ -45,15 +54,23 @@ step c (command r room) = ofCommand (respond c r room)
 step c (memberReset m) = ofEvent (resetMember c m)
 step c cardReset = ofEvent (resetCard c)
 step c (cardStore m t s value) = ofEvent (store c m t s value)
+step c (restoreBegin m) = ofRestore (beginOf c m)
+step c (restoreFeed m x) = ofRestore (feedOf c m x)
+step c (restoreFinish m id) = ofRestore (finishOf c m id)
+step c (restoreDrop m) = ofRestore (dropOf c m)
 
--- a call names m (01's term), SPEC 8.2: a command whose request is whole, of the group type 1 and for member m, or a card
--- store for m; whether it is refused does not matter
+-- a call names m (01's term), SPEC 8.2: a command whose request is whole, of the group type 1 and for member m; a card
+-- store for m; a call of SPEC 13.6 that is for m. Whether it is refused does not matter
 unfoldable pub names : ℕ → Call → Bool
 names m (command r room) =
     within 24 4096 (length r) and eqb (groupOf r) 1 and namesMember (opcodeOf r) and eqb (targetOf r) m
 names m (memberReset k) = false
 names m cardReset = false
 names m (cardStore k t s value) = eqb k m
+names m (restoreBegin k) = eqb k m
+names m (restoreFeed k x) = eqb k m
+names m (restoreFinish k id) = eqb k m
+names m (restoreDrop k) = eqb k m
 
 -- a reset of m, SPEC 8.3: its own, or that of the whole card
 pub data Resets (m : ℕ) : Call → Type 0 where

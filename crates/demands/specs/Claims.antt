@@ -1,7 +1,8 @@
 -- WHAT IS CLAIMED OF THE CARD, by demand, SPEC 9, and by request, SPEC 13. Each claim is over the definitions that the
 -- contracts of the exported functions cite: setUp, commandOf (a command with its buffer; respond is the same without it),
--- resetMember, resetCard and store. The record Claims at the end lists all of them, and ../proofs/Claims.antt proves it. A
--- claim with hypotheses says which example meets them; where no file is named it is in ../proofs/ClaimsExample.antt.
+-- resetMember, resetCard, store, beginOf, feedOf, finishOf and dropOf. The record Claims at the end lists all of them, and
+-- ../proofs/Claims.antt proves it. A claim with hypotheses says which example meets them; where no file is named it is in
+-- ../proofs/ClaimsExample.antt.
 -- Assumes nothing.
 use mathlib.Core.Path.{_≡_}
 use mathlib.Core.Logic.{_≢_}
@@ -12,12 +13,14 @@ use lib.ListN.{length, take, drop, replicate}
 use Rattle.theory.specs.Machine.{trace, seen, visible, Swappable}
 use Rattle.protocol.specs.declared.EventAnswer.the-variants.{Done}
 use Rattle.protocol.specs.Opcodes.{opcodeRow, fixedSize}
-use Rattle.card.specs.Layout.{inUseAt, recordSize, setupOf, isMember, recordAt, memberIn}
+use Rattle.card.specs.Layout.{inUseAt, recordSize, setupOf, isMember, recordAt, memberIn, holdingIn}
 use Rattle.card.specs.Sound.{isSound}
 use Rattle.frame.specs.Frame.{opcodeOf, targetOf}
 use Rattle.events.specs.Events.{setupWith, setUp}
 use Rattle.admin.specs.Command.{respond, commandOf}
-use Rattle.demands.specs.Calls.{Call, command, memberReset, refused, step, names, Resets}
+use Rattle.staging.specs.Staging.{dropOf}
+use Rattle.staging.specs.Claims.{FinishIsPartsSet, HoldsJoined, CutAnywhere}
+use Rattle.demands.specs.Calls.{Call, command, memberReset, cardReset, cardStore, restoreBegin, restoreFeed, restoreFinish, restoreDrop, refused, step, names, Resets}
 use Rattle.demands.specs.Statuses.{Statuses}
 use Rattle.demands.specs.Examples.{ExamplesHold}
 use Rattle.demands.specs.Lengths.{LengthExamplesHold}
@@ -50,9 +53,21 @@ pub record Delivers (c r b : List ℕ) : Type 0 where
 abbrev pub Delivered : Type 0
 Delivered = (c r b : List ℕ) → Delivers c r b
 
--- After a refusal the card is what it was, whatever bytes it is: SPEC 6.1 and 7.1. Example: refused-command
+-- After a refusal the card is what it was, whatever bytes it is: SPEC 6.1 and 7.1. The exceptions, SPEC 13.6: a feed that
+-- is too long and a finish that is refused leave it as a drop does, which is as it stood where nothing is begun, and else
+-- with the holding place gone. Examples: refused-command; refused-feed and refused-finish in ../proofs/RestoreExample.antt
+unfoldable pub afterRefusal : List ℕ → Call → List ℕ
+afterRefusal c (command r room) = c
+afterRefusal c (memberReset m) = c
+afterRefusal c cardReset = c
+afterRefusal c (cardStore m t s value) = c
+afterRefusal c (restoreBegin m) = c
+afterRefusal c (restoreFeed m x) = dropOf c m .1
+afterRefusal c (restoreFinish m id) = dropOf c m .1
+afterRefusal c (restoreDrop m) = c
+
 abbrev pub RefusalsChangeNothing : Type 0
-RefusalsChangeNothing = (c : List ℕ) (x : Call) → refused (step c x .1) ≡ true → step c x .0 ≡ c
+RefusalsChangeNothing = (c : List ℕ) (x : Call) → refused (step c x .1) ≡ true → step c x .0 ≡ afterRefusal c x
 
 -- Setup, done, gives a sound card of this setup; refused, it makes every byte of the buffer zero, and zeros are not sound:
 -- SPEC 7.2. Examples: setup-done, setup-refused
@@ -146,6 +161,22 @@ CommandsCommute =
     → names m (command q i) ≡ true → names k (command r j) ≡ true
     → (p t : List Call) → Swappable step c p (command q i) (command r j) t
 
+-- ---- REQUEST 6 of document 02: a restore in fragments ----
+
+-- What finish does, what is held, and that it does not matter how the bytes are cut: staging/specs/Claims.antt. Example:
+-- ../proofs/RestoreExample.antt
+
+-- member m's holding place holds the same bytes in two cards, or is in neither
+pub record SameHolding (c d : List ℕ) (m : ℕ) : Type 0 where
+  pub held : memberIn d m .held ≡ memberIn c m .held
+  pub bytes : holdingIn d m ≡ holdingIn c m
+
+-- No command and no card store touches a holding place, whomever it is for: the four calls and both resets alone do. Example:
+-- member-begun in ../proofs/RestoreExample.antt
+pub record HoldingKept : Type 0 where
+  pub commands : (c : List ℕ) (m : ℕ) → isMember c m ≡ true → (r : List ℕ) (room : ℕ) → SameHolding c (step c (command r room) .0) m
+  pub cardStores : (c : List ℕ) (m : ℕ) → isMember c m ≡ true → (k t s : ℕ) (value : List ℕ) → SameHolding c (step c (cardStore k t s value) .0) m
+
 -- ---- all of them ----
 
 pub record Claims : Type 1 where
@@ -173,3 +204,8 @@ pub record Claims : Type 1 where
   -- request 12
   pub commutation : Commutation
   pub commandsCommute : CommandsCommute
+  -- request 6
+  pub finishIsPartsSet : FinishIsPartsSet
+  pub holdsJoined : HoldsJoined
+  pub cutAnywhere : CutAnywhere
+  pub holdingKept : HoldingKept

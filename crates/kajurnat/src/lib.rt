@@ -12,6 +12,7 @@ ghost use Rattle.host.specs.Reply.{readReply};
 ghost use Rattle.kajurnat.specs.Told.{told};
 use host::Command;
 use host::Outcome;
+ghost use Rattle.staging.specs.Staging.{beginOf, feedOf, finishOf, dropOf};
 
 // Raised whenever a card's bytes change their meaning: a card that was kept is for the same version.
 #[no_mangle]
@@ -211,4 +212,37 @@ pub extern "C" fn kajurnat_reply_read(
             0
         }
     }
+}
+
+// A restore in fragments: a holding place is opened for the member. This and the next three answer status + 65,536 x
+// qualifier, and 9 for an unsound card.
+#[no_mangle]
+pub extern "C" fn kajurnat_restore_begin(card: &mut [u8], member: u64) -> u32
+    ensures { λ r. ⌜ (r, now (card .exit)) ≡ beginOf (now (card .entry)) member ⌝ }
+{
+    staging::begin(card, member)
+}
+
+// A fragment, of any length, goes behind those that were fed; over 1,024 bytes in all end the holding place.
+#[no_mangle]
+pub extern "C" fn kajurnat_restore_feed(card: &mut [u8], member: u64, fragment: &[u8]) -> u32
+    ensures { λ r. ⌜ (r, now (card .exit)) ≡ feedOf (now (card .entry)) member (now (fragment .entry)) ⌝ }
+{
+    staging::feed(card, member, fragment)
+}
+
+// One parts set of the bytes that were fed, through the set object of this id; then the holding place is gone.
+#[no_mangle]
+pub extern "C" fn kajurnat_restore_finish(card: &mut [u8], member: u64, id: u32) -> u32
+    ensures { λ r. ⌜ (r, now (card .exit)) ≡ finishOf (now (card .entry)) member id ⌝ }
+{
+    staging::finish(card, member, id)
+}
+
+// The holding place is gone, and nothing is set.
+#[no_mangle]
+pub extern "C" fn kajurnat_restore_drop(card: &mut [u8], member: u64) -> u32
+    ensures { λ r. ⌜ (r, now (card .exit)) ≡ dropOf (now (card .entry)) member ⌝ }
+{
+    staging::discard(card, member)
 }

@@ -8,12 +8,13 @@ use native.Mathlib.Omega.{arith}
 use lib.Dec.{leb}
 use lib.ListN.{length, getD, drop, replicate, length-append}
 use lib.Seq.{take-at, drop-set-lt}
-use borrow.Author.Tests.{not-true, not-false}
+use borrow.Author.Tests.{not-true, not-false, leb-true, le-leb}
 use Rattle.theory.specs.Logic.{_and_}
 use Rattle.theory.specs.Bytes.{bytesAt, same}
-use Rattle.theory.proofs.Tests.{both, and-i, and-assoc, same-true, eq-same}
+use Rattle.theory.proofs.Tests.{both, and-i, and-assoc, and-false, false-and, same-true, eq-same}
 use Rattle.theory.proofs.Bytes.{bytesAt-bytesAt}
 use Rattle.theory.proofs.Ladder.{ladder}
+use Rattle.wire.specs.Le.{number}
 use Rattle.inventory.specs.Inventory.{valuesSize}
 use Rattle.parts.specs.List.{PartList}
 use Rattle.values.specs.Apply.{applied}
@@ -25,15 +26,16 @@ use Rattle.objects.specs.Objects.{objectsSize, objectOf, objectByte, allUpTo, w
 use Rattle.objects.proofs.Objects.{objects-low, bytes-of-objects}
 use Rattle.objects.proofs.Counts.{map-set, all-drop-set, all-drop, limits-set, none-live, none-counted}
 use Rattle.member.specs.declared.Member.{Member}
-use Rattle.member.specs.Record.{modeAt, valuesAt, memberSize, objectBytes, memberOf, memberBytes}
+use Rattle.member.specs.Record.{modeAt, heldAt, valuesAt, memberSize, holdingSize, objectBytes, memberOf, memberBytes}
 use Rattle.member.specs.Objects.{roomIn, withObject}
-use Rattle.member.specs.Member.{featuresSize, freshOf, featuresIn, withMode, withValues, withPart}
+use Rattle.member.specs.Member.{featuresSize, freshOf, featuresIn, withMode, withValues, withHeld, withPart}
 use Rattle.member.specs.Sound.{soundRecord}
-use Rattle.member.proofs.Record.{Shaped, mode-low, record-mode, record-objects, record-values, member-shaped, shaped-mode, shaped-values, shaped-object}
+use Rattle.member.proofs.Record.{Shaped, mode-low, record-mode, record-held, record-objects, record-values, member-shaped, shaped-mode, shaped-values, shaped-held, shaped-object}
 
 module _ (gets sets : ℕ) (features : List ℕ) where
   pub record SoundMember (m : Member) : Type 0 where
     pub shaped : Shaped m
+    pub few : m .held ≤ 1 + holdingSize
     pub below : allUpTo 0 (drop (gets + sets) (map objectByte (m .objects))) ≡ true
     pub room : roomIn gets sets m ≡ true
     pub kept : featuresIn m ≡ features
@@ -44,8 +46,8 @@ module _ (gets sets : ℕ) (features : List ℕ) where
   unfolding soundRecord
   sound-record m s =
       let h = s .shaped in
-      rw (record-mode m h, record-objects m h, record-values m h featuresSize)
-      (and-i _ _ (and-i _ _ (and-i _ _ (and-i _ _ (mode-low (m .mode)) (objects-low (m .objects))) (s .below)) (s .room))
+      rw (record-mode m h, record-held m h, record-objects m h, record-values m h featuresSize)
+      (and-i _ _ (and-i _ _ (and-i _ _ (and-i _ _ (and-i _ _ (mode-low (m .mode)) (le-leb _ _ (s .few))) (objects-low (m .objects))) (s .below)) (s .room))
       (eq-same _ _ (s .kept)))
 
   -- of bytes that are sound
@@ -55,9 +57,12 @@ module _ (gets sets : ℕ) (features : List ℕ) where
       let p = both _ _ e in
       let q = both _ _ (p .0) in
       let w = both _ _ (q .0) in
-      let os : map objectByte (map objectOf (objectBytes r)) ≡ objectBytes r = bytes-of-objects (objectBytes r) (both _ _ (w .0) .1) in
+      let v = both _ _ (w .0) in
+      let few : number heldAt 2 r ≤ 1 + holdingSize = leb-true _ _ (both _ _ (v .0) .1) in
+      let os : map objectByte (map objectOf (objectBytes r)) ≡ objectBytes r = bytes-of-objects (objectBytes r) (v .1) in
       record {
-        shaped = member-shaped r n;
+        shaped = member-shaped r n (omega arith);
+        few = few;
         below = rw os (w .1);
         room = rw os (q .1);
         kept = bytesAt-bytesAt 0 featuresSize valuesAt valuesSize r (omega arith) ∙ same-true _ _ (p .1);
@@ -68,7 +73,8 @@ module _ (gets sets : ℕ) (features : List ℕ) where
   pub sound-fresh : length features ≡ featuresSize → SoundMember (freshOf features)
   unfolding freshOf
   sound-fresh n = record {
-    shaped = record { ids = refl; long = rw length-append (omega arith) };
+    shaped = record { ids = refl; low = omega arith; long = rw length-append (omega arith) };
+    few = omega arith;
     below = all-drop 0 (gets + sets) (replicate objectsSize 0) none-live;
     room = none-counted gets sets;
     kept = take-at features (replicate (valuesSize - featuresSize) 0) featuresSize n;
@@ -76,17 +82,23 @@ module _ (gets sets : ℕ) (features : List ℕ) where
 
   module _ (m : Member) (s : SoundMember m) where
     pub sound-mode : (mode : Mode) → SoundMember (withMode m mode)
-    sound-mode mode = record { shaped = shaped-mode m (s .shaped) mode; below = s .below; room = s .room; kept = s .kept }
+    sound-mode mode = record { shaped = shaped-mode m (s .shaped) mode; few = s .few; below = s .below; room = s .room; kept = s .kept }
 
     -- other values, with the same device features
     pub sound-values : (values : List ℕ) → length values ≡ valuesSize → bytesAt 0 featuresSize values ≡ featuresIn m → SoundMember (withValues m values)
-    sound-values values n e = record { shaped = shaped-values m (s .shaped) values n; below = s .below; room = s .room; kept = e ∙ s .kept }
+    sound-values values n e = record { shaped = shaped-values m (s .shaped) values n; few = s .few; below = s .below; room = s .room; kept = e ∙ s .kept }
+
+    -- another number of bytes held
+    pub sound-held : (held : ℕ) → held ≤ 1 + holdingSize → SoundMember (withHeld m held)
+    sound-held held h =
+        record { shaped = shaped-held m (s .shaped) held (omega arith); few = h; below = s .below; room = s .room; kept = s .kept }
 
     -- an object that the limits allow, at an id that is valid
     pub sound-object : (id : ℕ) (slot : Slot) → id < gets + sets → roomIn gets sets (withObject m id slot) ≡ true → SoundMember (withObject m id slot)
     unfolding withObject
     sound-object id slot h e = record {
       shaped = shaped-object m (s .shaped) id slot;
+      few = s .few;
       below = rw (map-set, drop-set-lt) (s .below);
       room = e;
       kept = s .kept;
@@ -98,6 +110,7 @@ module _ (gets sets : ℕ) (features : List ℕ) where
     sound-free id =
         record {
           shaped = shaped-object m (s .shaped) id Free;
+          few = s .few;
           below = rw map-set (all-drop-set (gets + sets) _ id (s .below));
           room = rw map-set (limits-set gets sets _ id (s .room));
           kept = s .kept;
@@ -118,13 +131,19 @@ module _ (gets sets : ℕ) (features r : List ℕ) where
   unfolding soundRecord
   bad-mode h = search ladder
 
-  module _ (bs : List ℕ) (b : Bool) (p : bs ≡ objectBytes r) (q : b ≡ allUpTo 2 bs and allUpTo 0 (drop (gets + sets) bs) and withinLimits gets sets bs) where
-    steps : leb (getD r modeAt 0) 1 and (b and same (bytesAt valuesAt featuresSize r) features) ≡ soundRecord gets sets features r
+  module _ (held : ℕ) (g : held ≡ number heldAt 2 r) where
+    pub bad-held : getD r modeAt 0 ≤ 1 → 1 + holdingSize < held → false ≡ soundRecord gets sets features r
     unfolding soundRecord
-    steps = rw (q, p) (simp and-assoc)
+    bad-held l h = rw (← g) (search ladder)
 
-    pub bad-objects : not b ≡ true → false ≡ soundRecord gets sets features r
-    bad-objects h = rw (← steps, not-true b h) (search ladder)
+    module _ (bs : List ℕ) (b : Bool) (p : bs ≡ objectBytes r) (q : b ≡ allUpTo 2 bs and allUpTo 0 (drop (gets + sets) bs) and withinLimits gets sets bs) where
+      steps : leb (getD r modeAt 0) 1 and (leb held (1 + holdingSize) and (b and same (bytesAt valuesAt featuresSize r) features)) ≡ soundRecord gets sets features r
+      unfolding soundRecord
+      steps = rw (q, p, g) (simp and-assoc)
 
-    pub sound-rest : getD r modeAt 0 ≤ 1 → not b ≡ false → (x : Bool) → x ≡ same (bytesAt valuesAt featuresSize r) features → x ≡ soundRecord gets sets features r
-    sound-rest l h x e = rw (← steps, not-false b h) (search ladder)
+      pub bad-objects : not b ≡ true → false ≡ soundRecord gets sets features r
+      bad-objects h = rw (← steps, not-true b h) (simp (false-and, and-false))
+
+      pub sound-rest : getD r modeAt 0 ≤ 1 → held ≤ 1 + holdingSize → not b ≡ false → (x : Bool) → x ≡ same (bytesAt valuesAt featuresSize r) features
+          → x ≡ soundRecord gets sets features r
+      sound-rest l k h x e = rw (← steps, not-false b h) (search ladder)

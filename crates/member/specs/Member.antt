@@ -20,6 +20,7 @@ freshOf features =
     record {
       mode = Running;
       objects = replicate objectsSize free;
+      held = 0;
       values = features ++ replicate (valuesSize - featuresSize) 0;
     }
 
@@ -27,10 +28,13 @@ abbrev pub featuresIn : Member → List ℕ
 featuresIn m = bytesAt 0 featuresSize (m .values)
 
 abbrev pub withMode : Member → Mode → Member
-withMode m mode = record { mode = mode; objects = m .objects; values = m .values }
+withMode m mode = record { mode = mode; objects = m .objects; held = m .held; values = m .values }
 
 abbrev pub withValues : Member → List ℕ → Member
-withValues m values = record { mode = m .mode; objects = m .objects; values = values }
+withValues m values = record { mode = m .mode; objects = m .objects; held = m .held; values = values }
+
+abbrev pub withHeld : Member → ℕ → Member
+withHeld m held = record { mode = m .mode; objects = m .objects; held = held; values = m .values }
 
 -- a card store, in either mode: SPEC 7.5
 abbrev pub withPart : ℕ → Member → ℕ → ℕ → List ℕ → Member

@@ -1,9 +1,10 @@
--- A member's bytes, which stand at the front of its record, SPEC 2.7: mode 1, object records 16, values 205. Assumes
--- nothing.
+-- A member's bytes, which stand at the front of its record, SPEC 2.7: mode 1, object records 16, what its holding place
+-- holds 2, values 205. Assumes nothing.
 use mathlib.Core.List.{List, [], _∷_, _++_, map}
 use Prim.Native.Nat.{ℕ, _+_}
 use lib.ListN.{getD}
 use Rattle.theory.specs.Bytes.{bytesAt}
+use Rattle.wire.specs.Le.{bytes, number}
 use Rattle.inventory.specs.Inventory.{valuesSize}
 use Rattle.protocol.specs.declared.Mode.{Mode}
 use Rattle.protocol.specs.declared.Mode.the-variants.{Running, Stopped}
@@ -17,11 +18,19 @@ modeAt = 0
 abbrev pub objectsAt : ℕ
 objectsAt = modeAt + 1
 
+abbrev pub heldAt : ℕ
+heldAt = objectsAt + objectsSize
+
 abbrev pub valuesAt : ℕ
-valuesAt = objectsAt + objectsSize
+valuesAt = heldAt + 2
 
 abbrev pub memberSize : ℕ
 memberSize = valuesAt + valuesSize
+
+-- the bytes of a holding place (02's term), which stand behind the member's; what it holds is 0 for none, k + 1 for an
+-- open one of k bytes
+abbrev pub holdingSize : ℕ
+holdingSize = 1024
 
 -- 0 running, 1 stopped
 abbrev pub modeByte : Mode → ℕ
@@ -34,7 +43,12 @@ objectBytes r = bytesAt objectsAt objectsSize r
 -- the member that bytes hold, and the bytes that hold a member
 unfoldable pub memberOf : List ℕ → Member
 memberOf r =
-    record { mode = modeOf (getD r modeAt 0); objects = map objectOf (objectBytes r); values = bytesAt valuesAt valuesSize r }
+    record {
+      mode = modeOf (getD r modeAt 0);
+      objects = map objectOf (objectBytes r);
+      held = number heldAt 2 r;
+      values = bytesAt valuesAt valuesSize r;
+    }
 
 unfoldable pub memberBytes : Member → List ℕ
-memberBytes m = (modeByte (m .mode) ∷ []) ++ (map objectByte (m .objects) ++ m .values)
+memberBytes m = (modeByte (m .mode) ∷ []) ++ (map objectByte (m .objects) ++ (bytes 2 (m .held) ++ m .values))

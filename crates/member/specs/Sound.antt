@@ -6,15 +6,17 @@ use lib.Dec.{leb}
 use lib.ListN.{getD, drop}
 use Rattle.theory.specs.Logic.{_and_}
 use Rattle.theory.specs.Bytes.{bytesAt, same}
+use Rattle.wire.specs.Le.{number}
 use Rattle.objects.specs.Objects.{allUpTo, withinLimits}
-use Rattle.member.specs.Record.{modeAt, objectBytes, valuesAt}
+use Rattle.member.specs.Record.{modeAt, objectBytes, heldAt, valuesAt, holdingSize}
 use Rattle.member.specs.Member.{featuresSize}
 
--- its mode and its objects are bytes that have a meaning; live ids are below G + S; it has at most G get and S set objects,
--- and the setup's device features
+-- its mode and its objects are bytes that have a meaning; its holding place holds at most 1,024 bytes; live ids are below
+-- G + S; it has at most G get and S set objects, and the setup's device features
 unfoldable pub soundRecord : ℕ → ℕ → List ℕ → List ℕ → Bool
 soundRecord gets sets features r =
     leb (getD r modeAt 0) 1
+    and leb (number heldAt 2 r) (1 + holdingSize)
     and allUpTo 2 (objectBytes r)
     and allUpTo 0 (drop (gets + sets) (objectBytes r))
     and withinLimits gets sets (objectBytes r)

@@ -11,7 +11,7 @@ ghost use Rattle.values.specs.Apply.{applied};
 ghost use Rattle.objects.specs.Objects.{objectByte, objectsSize};
 ghost use Rattle.member.specs.Record.{modeAt, objectsAt, valuesAt, memberSize, modeByte, objectBytes, memberOf, memberBytes};
 ghost use Rattle.member.specs.Objects.{lookupOf, withObject, roomIn};
-ghost use Rattle.member.specs.Member.{freshOf, withMode, withValues, withPart};
+ghost use Rattle.member.specs.Member.{freshOf, withMode, withValues, withHeld, withPart};
 ghost use Rattle.member.specs.Sound.{soundRecord};
 use objects::Found;
 use objects::IDS;
@@ -24,21 +24,30 @@ pub const FEATURES_SIZE: usize = 16;
 
 const VALUES_SIZE: usize = 205;
 
-// The bytes of a member: its mode, an object record for each id, its values.
+// The bytes of a member: its mode, an object record for each id, what its holding place holds, its values.
 const MODE_AT: usize = 0;
 
 const OBJECTS_AT: usize = MODE_AT + 1;
 
-const VALUES_AT: usize = OBJECTS_AT + IDS;
+const HELD_AT: usize = OBJECTS_AT + IDS;
+
+const VALUES_AT: usize = HELD_AT + 2;
 
 const FEATURES_END: usize = VALUES_AT + FEATURES_SIZE;
 
 pub const MEMBER_SIZE: usize = VALUES_AT + VALUES_SIZE;
 
-// A member's mode, its resource objects by id, and the values of its parts.
+// The bytes of a holding place (02's term), which stand behind the member's.
+pub const HOLDING_SIZE: usize = 1024;
+
+// What an open holding place holds at most: 0 stands for none, k + 1 for one of k bytes.
+const HELD_MOST: u16 = 1025;
+
+// A member's mode, its resource objects by id, what its holding place holds, and the values of its parts.
 pub struct Member {
     pub mode: Mode,
     pub objects: [ObjectRecord; IDS],
+    pub held: u16,
     pub values: [u8; VALUES_SIZE],
 }
 
@@ -54,6 +63,7 @@ impl Member {
         Member {
             mode: Mode::Running,
             objects,
+            held: 0,
             values,
         }
     }
@@ -73,8 +83,17 @@ impl Member {
         Member {
             mode,
             objects,
+            held: self.held,
             values,
         }
+    }
+
+    // Another number of bytes held: begin, feed and the end of a holding place.
+    pub fn with_held(mut self, held: u16) -> Member
+        ensures { λ r. ⌜ r ≡ withHeld self held ⌝ }
+    {
+        self.held = held;
+        self
     }
 
     pub fn stop(self) -> Member
@@ -186,7 +205,10 @@ pub fn is_sound_record(bytes: &[u8], gets: u8, sets: u8, features: &[u8]) -> boo
     if 1 < bytes[MODE_AT] {
         return false;
     }
-    if !objects::are_objects_sound(&bytes[OBJECTS_AT..VALUES_AT], gets, sets) {
+    if HELD_MOST < wire::read_u16(bytes, HELD_AT) {
+        return false;
+    }
+    if !objects::are_objects_sound(&bytes[OBJECTS_AT..HELD_AT], gets, sets) {
         return false;
     }
     wire::equal(&bytes[VALUES_AT..FEATURES_END], features)
@@ -199,7 +221,7 @@ fn object_bytes_in(bytes: &[u8]) -> [u8; IDS]
     ensures { λ r. ⌜ r ≡ objectBytes (now (bytes .entry)) ⌝ }
 {
     let mut own = [0u8; IDS];
-    wire::copy(&mut own, 0, &bytes[OBJECTS_AT..VALUES_AT]);
+    wire::copy(&mut own, 0, &bytes[OBJECTS_AT..HELD_AT]);
     own
 }
 
@@ -218,10 +240,12 @@ pub fn load(bytes: &[u8]) -> Member
 {
     let mode = protocol::mode_of(bytes[MODE_AT]);
     let objects = objects::objects_in(object_bytes_in(bytes));
+    let held = wire::read_u16(bytes, HELD_AT);
     let values = values_in(bytes);
     Member {
         mode,
         objects,
+        held,
         values,
     }
 }
@@ -260,6 +284,7 @@ pub fn save(m: Member, bytes: &mut [u8])
     save_mode(mode, bytes);
     let objects = m.objects;
     save_objects(objects, bytes);
+    wire::write(bytes, HELD_AT, 2, m.held as u64);
     let values = m.values;
     wire::copy(bytes, VALUES_AT, &values);
 }

@@ -1,5 +1,5 @@
-// A guest moves: it is stopped and captured on one card, restored on another and resumed there; its first place is
-// reset, and the next guest is shown to find nothing of it. A transcript goes to standard output.
+// A guest moves: it is stopped and captured on one card, restored on another from fragments and resumed there; its first
+// place is reset, and the next guest is shown to find nothing of it. A transcript goes to standard output.
 use host::Outcome;
 use transcript::Request;
 
@@ -8,7 +8,7 @@ const MEMBERS: u64 = 4;
 
 const QUEUES: u64 = 2;
 
-const CARD: usize = 916;
+const CARD: usize = 5020;
 // A full capture: the reply's head and all parts.
 const CAPTURE: usize = 309;
 
@@ -67,12 +67,33 @@ fn tell(name: &[u8], request: Request, card: &mut [u8], reply: &mut [u8]) -> usi
     written
 }
 
-// The capture without the reply's head, as a list to set.
-fn restore(member: u64, reply: &[u8]) -> Request {
+// How a call of a restore went: its answer is status + 65,536 x qualifier.
+fn tell_answer(answer: u32) {
+    transcript::print(b" -> ");
+    name_status((answer % 256) as u8);
+    transcript::print(b"\n");
+}
+
+fn feed(card: &mut [u8], member: u64, fragment: &[u8]) {
+    transcript::print(b"  restore feed              ");
+    transcript::print_number(fragment.len() as u64);
+    transcript::print(b" bytes");
+    tell_answer(kajurnat::kajurnat_restore_feed(card, member, fragment));
+}
+
+// The capture without the reply's head, as it comes in: the fragments end inside a header, inside a value and nowhere.
+fn restore(card: &mut [u8], member: u64, reply: &[u8]) {
     if reply.len() < CAPTURE {
-        return Request::set(member, 1, &[]);
+        return;
     }
-    Request::set(member, 1, host::result(reply))
+    transcript::print(b"  restore begin           ");
+    tell_answer(kajurnat::kajurnat_restore_begin(card, member));
+    feed(card, member, &reply[HEAD..9]);
+    feed(card, member, &reply[9..108]);
+    feed(card, member, &reply[108..108]);
+    feed(card, member, &reply[108..CAPTURE]);
+    transcript::print(b"  restore finish, set 1   ");
+    tell_answer(kajurnat::kajurnat_restore_finish(card, member, 1));
 }
 
 fn objects(card: &mut [u8], member: u64, reply: &mut [u8]) {
@@ -259,12 +280,7 @@ fn first_place(card: &mut [u8], reply: &mut [u8], unused: &mut [u8], leaving: &m
 fn second_place(card: &mut [u8], reply: &mut [u8], leaving: &[u8], arrived: &mut [u8]) {
     transcript::print(b"\nSecond card, member 3: the guest arrives\n");
     prepare(card, 3, reply);
-    tell(
-        b"parts set, the capture    ",
-        restore(3, leaving),
-        card,
-        reply,
-    );
+    restore(card, 3, leaving);
     get_all(card, 3, arrived);
     tell(
         b"mode set, resume          ",

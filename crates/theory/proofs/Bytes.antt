@@ -1,6 +1,6 @@
 -- The laws of `bytesAt`, `put` and `repeat` of specs/Bytes.antt. `put` never writes past the end, so most ask no length.
 -- Assumes nothing.
-use mathlib.Core.Path.{_≡_, refl, ap, _∙_}
+use mathlib.Core.Path.{_≡_, refl, ap, sym, _∙_}
 use mathlib.Core.List.{List, [], _∷_, _++_, append-nil}
 use Prim.Native.Nat.{ℕ, zero, suc, _+_, _*_, _-_, _≤_, _<_}
 use native.Mathlib.Nat.{zero-add, add-zero, suc-add}
@@ -198,3 +198,11 @@ bytesAt-repeat (suc n) k zero x e h =
 bytesAt-repeat (suc n) k (suc j) x e h =
     let a : k * suc j ≡ length x + k * j = omega arith in
     rw (a, drop-append-add) (bytesAt-repeat n k j x e (omega arith))
+
+-- a put within a part of a list, as a put in the list
+pub put-within : (at n i : ℕ) (x l : List ℕ) → i + length x ≤ n → at + n ≤ length l → put at (put i x (bytesAt at n l)) l ≡ put (at + i) x l
+put-within at n i x l h k =
+    let l′ = put (at + i) x l in
+    let e : put i x (bytesAt at n l) ≡ bytesAt at n l′ = sym (take-put n i x (drop at l)) ∙ ap (take n) (sym (drop-put at i x l)) in
+    let m : length (bytesAt at n l′) ≡ n = length-bytesAt at n l′ (rw length-put k) in
+    rw e (sym (put-over at (at + i) x (bytesAt at n l′) l (omega arith) (omega arith)) ∙ put-bytesAt at n l′)

@@ -22,8 +22,8 @@ use Rattle.reply.specs.Reply.{headSize, headOf}
 use Rattle.reply.proofs.Reply.{reply-empty, final-empty}
 use Rattle.admin.specs.Command.{effect, askIn, perform, respond}
 use Rattle.host.specs.Request.{setParts}
-use Rattle.demands.proofs.Respond.{ended, respond-is}
-use Rattle.demands.proofs.Requests.{parts-given, set-parts-asked}
+use Rattle.admin.proofs.Respond.{ended, respond-is}
+use Rattle.host.proofs.Asked.{parts-given, set-parts-asked}
 
 -- what a change of member m comes to: its answer, and the card after it
 abbrev settled : List ℕ → ℕ → Changed → Answer × List ℕ
