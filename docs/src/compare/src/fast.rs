@@ -7,6 +7,7 @@
 use plain_card::bytes::{HEADER, RECORD};
 use plain_card::exported;
 use plain_card::frame::{array_at, u16_at, u32_at, u64_at};
+use plain_card::holding::ROOM;
 use plain_card::opcode::{Opcode, SUPPORTED};
 
 /// The request of a get-all has this length.
@@ -74,7 +75,8 @@ fn sound(header: &[u8; HEADER], records: &[u8]) -> bool {
             && objects[ids..].iter().all(|byte| *byte == 0)
             && sum(&objects, |byte| byte % 2) <= gets
             && sum(&objects, |byte| byte / 2) <= sets
-            && record[17..33] == features
+            && record[19..35] == features
+            && u16_at(record, 17) <= 1 + ROOM as u16
     })
 }
 
@@ -89,7 +91,7 @@ fn write<const Q: usize>(record: &[u8; RECORD], reply: &mut [u8]) -> Option<usiz
     let reply = reply.get_mut(..length)?;
     let template = const { template(Q) };
     reply.copy_from_slice(&template[..length]);
-    let values = &record[17..];
+    let values = &record[19..];
     let mut copy = |to: usize, from: usize, length: usize| {
         reply[to..to + length].copy_from_slice(&values[from..from + length]);
     };

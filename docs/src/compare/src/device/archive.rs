@@ -21,7 +21,7 @@ pub type Misuse = fn(&Call, &mut Lending);
 pub struct Lending<'a> {
     /// The card.
     pub card: &'a mut Lent,
-    /// Request, features or value.
+    /// Request, features, value or fragment.
     pub input: &'a mut Lent,
     /// The reply buffer.
     pub reply: &'a mut Lent,
@@ -51,6 +51,10 @@ impl Archive {
             Call::Store { member, part_type, selector, .. } => {
                 raw::store(card, *member, *part_type, *selector, input).into()
             }
+            Call::Begin(member) => raw::restore_begin(card, *member) as usize,
+            Call::Feed { member, .. } => raw::restore_feed(card, *member, input) as usize,
+            Call::Finish { member, id } => raw::restore_finish(card, *member, *id) as usize,
+            Call::Drop(member) => raw::restore_drop(card, *member) as usize,
         }
     }
 }

@@ -11,7 +11,7 @@ use crate::memory::Lent;
 
 /// A card that hears calls.
 pub trait Device {
-    /// Hears a call and tells the bytes written, or the answer of an event.
+    /// Hears a call and tells the bytes written, or the answer.
     fn call(&mut self, call: &Call, reply: &mut Lent) -> usize;
 
     /// The card's bytes.
@@ -32,7 +32,7 @@ pub type Make<'a> = &'a dyn Fn() -> Box<dyn Device>;
 /// Everything that a call shows.
 #[derive(Clone, Debug, PartialEq, Eq)]
 pub struct Seen {
-    /// The bytes written, or the answer of an event.
+    /// The bytes written, or the answer.
     pub answer: usize,
     /// The whole reply buffer.
     pub reply: Vec<u8>,
