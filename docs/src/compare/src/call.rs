@@ -4,6 +4,7 @@ use std::fmt;
 
 use plain_card::frame::{Frame, GROUP};
 
+use crate::fields::Fields;
 use crate::memory::{Buffer, Place, Room};
 use crate::show::{CardBytes, Hex};
 
@@ -32,13 +33,23 @@ pub enum Call {
     Finish { member: u64, id: u32 },
     /// Drop of it.
     Drop(u64),
+    /// A request built in a buffer.
+    Build { fields: Fields, list: Buffer, room: Room },
+    /// A reply read as the answer to a command; `what` is a type byte.
+    Read { opcode: u16, what: u8, reply: Buffer },
 }
 
+/// The length of the four numbers that a reply is read into: status and
+/// qualifier to act on, and both as they were sent.
+pub const NUMBERS: usize = 8;
+
 impl Call {
-    /// The reply buffer.
+    /// The buffer that is written besides the card: reply, request, or the
+    /// numbers that are read.
     pub fn room(&self) -> Room {
         match self {
-            Call::Command { room, .. } => *room,
+            Call::Command { room, .. } | Call::Build { room, .. } => *room,
+            Call::Read { .. } => NUMBERS.into(),
             _ => 0.into(),
         }
     }
@@ -50,6 +61,8 @@ impl Call {
             Call::Command { request, .. } => Some(("request", request)),
             Call::Store { value, .. } => Some(("value", value)),
             Call::Feed { fragment, .. } => Some(("fragment", fragment)),
+            Call::Build { list, .. } => Some(("list", list)),
+            Call::Read { reply, .. } => Some(("reply", reply)),
             _ => None,
         }
     }
@@ -85,6 +98,11 @@ impl Call {
             }
             Call::Store { value, .. } => value.place = Place::USUAL,
             Call::Feed { fragment, .. } => fragment.place = Place::USUAL,
+            Call::Build { list, room, .. } => {
+                list.place = Place::USUAL;
+                room.place = Place::USUAL;
+            }
+            Call::Read { reply, .. } => reply.place = Place::USUAL,
             _ => {}
         }
         call
@@ -140,6 +158,14 @@ impl fmt::Display for Call {
             }
             Call::Finish { member, id } => write!(f, "finish, member {member}, object {id}"),
             Call::Drop(member) => write!(f, "drop of a restore, member {member}"),
+            Call::Build { fields, list, room } => {
+                write!(f, "request to build: {fields}, list of {} bytes: {list}", list.len())?;
+                write!(f, ", in a buffer of {room}")
+            }
+            Call::Read { opcode, what, reply } => {
+                write!(f, "reply to opcode {opcode:#x}, type byte {what}, to read")?;
+                write!(f, ", of {} bytes: {reply}", reply.len())
+            }
         }
     }
 }
@@ -147,8 +173,16 @@ impl fmt::Display for Call {
 #[cfg(test)]
 mod tests {
     use super::*;
-    use crate::request::request;
     use plain_card::opcode::Opcode;
+
+    /// A request of the opcode for member 7, without data.
+    fn request(opcode: Opcode) -> Vec<u8> {
+        let fields = Fields { opcode, member: 7, id: 0, byte: 0, mask: 0 };
+        let mut request = fields.request(&[]).bytes();
+        request.truncate(24);
+        request[16] = 7;
+        request
+    }
 
     fn command(request: Vec<u8>) -> Call {
         Call::Command { request: request.into(), room: 8.into() }
@@ -158,9 +192,9 @@ mod tests {
     fn a_command_names_its_member_if_it_has_one() {
         for opcode in Opcode::ALL {
             let named = opcode.names_member().then_some(7);
-            assert_eq!(command(request(opcode, 7, &[])).named(), named);
+            assert_eq!(command(request(opcode)).named(), named);
         }
-        let good = request(Opcode::Query, 7, &[]);
+        let good = request(Opcode::Query);
         assert_eq!(command(good[..23].to_vec()).named(), None);
         let mut other_group = good.clone();
         other_group[2] = 2;

@@ -9,6 +9,7 @@ use std::fmt;
 
 use plain_card::frame::u32_at;
 use plain_card::holding::Holding;
+use plain_card::host::Request;
 use plain_card::member::Mode;
 use plain_card::opcode::Opcode;
 use plain_card::{bytes, Card};
@@ -18,7 +19,6 @@ use crate::device::Make;
 use crate::draw;
 use crate::memory::{Buffer, Place, Room};
 use crate::random::Random;
-use crate::request::{object_and_parts, request};
 use crate::show::{CardBytes, Hex};
 use crate::shrink::{shrink, simplify};
 use crate::trial::{Side, Trial};
@@ -54,10 +54,8 @@ impl Trial for Fragments {
 
     fn failure(&self, make: Make) -> Option<String> {
         let mut side = Side::new(make, &self.card);
-        let list = object_and_parts(self.id, &self.list);
-        let set = request(Opcode::PartsSet, self.member, &list);
         let place = Place::BeforePage;
-        let request = Buffer { bytes: set, place };
+        let request = Buffer { bytes: self.parts_set(), place };
         let (_, reply) = side.reply(&Call::Command { request, room: Room { length: 8, place } });
         let expected = (u32_at(&reply, 0) as usize, self.without_place(&side.card()));
         for (way, cuts) in ["first", "second"].iter().zip(&self.cuts) {
@@ -122,6 +120,11 @@ impl Fragments {
         })
     }
 
+    /// One parts set of the list.
+    fn parts_set(&self) -> Vec<u8> {
+        Request::Set(self.member, self.id, &self.list).bytes()
+    }
+
     /// A card's bytes, with no holding place of the member.
     fn without_place(&self, card: &[u8]) -> Vec<u8> {
         bytes::read(card).map_or_else(Vec::new, |mut card| {
@@ -148,9 +151,8 @@ mod tests {
     /// Whether a parts set of the list is accepted.
     fn accepted(trial: &Fragments) -> bool {
         let mut card = trial.card.clone();
-        let list = object_and_parts(trial.id, &trial.list);
         let mut reply = [1; 8];
-        plain_card::command(&mut card, &request(Opcode::PartsSet, trial.member, &list), &mut reply);
+        plain_card::command(&mut card, &trial.parts_set(), &mut reply);
         reply == [0; 8]
     }
 

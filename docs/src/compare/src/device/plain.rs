@@ -5,7 +5,7 @@ use plain_card::exported;
 use plain_card::status::{answer, restore_answer, EventError, RestoreError};
 use plain_card::{command, Card, Setup};
 
-use super::Device;
+use super::{read_into, Device};
 use crate::call::Call;
 use crate::memory::Lent;
 
@@ -65,6 +65,10 @@ impl Plain {
             }
             Call::Finish { member, id } => self.restore(|card| card.restore_finish(*member, *id)),
             Call::Drop(member) => self.restore(|card| card.restore_drop(*member)),
+            Call::Build { fields, list, .. } => exported::build(&fields.request(list), reply),
+            Call::Read { opcode, what, reply: read } => {
+                read_into(reply, |numbers| exported::reply_read(*opcode, *what, read, numbers))
+            }
         }
     }
 

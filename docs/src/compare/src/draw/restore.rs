@@ -10,8 +10,8 @@ use plain_card::{Card, Setup};
 
 use super::{any_member, length, list, member, placed, spoil, Favoured};
 use crate::call::Call;
+use crate::part_bytes::{any_part, part};
 use crate::random::Random;
-use crate::request::{any_part, part};
 
 /// A call of a restore; mostly one that goes on with what is begun.
 pub fn restore(random: &mut Random, card: &Card, favoured: Favoured) -> Call {

@@ -13,6 +13,7 @@ mod data;
 mod events;
 mod exchange;
 mod frame;
+mod host;
 mod length;
 mod memory;
 mod objects;
@@ -53,6 +54,8 @@ pub enum Property {
     Exchange,
     /// A list restored in fragments, however it is cut.
     Fragments,
+    /// Built requests, sent, and their replies, read.
+    Halves,
 }
 
 /// How a fault is planted.
@@ -231,6 +234,7 @@ pub fn all() -> Vec<&'static Fault> {
         events::FAULTS,
         restore::FAULTS,
         exchange::FAULTS,
+        host::FAULTS,
         soundness::FAULTS,
         memory::FAULTS,
     ]

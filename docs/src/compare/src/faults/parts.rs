@@ -15,7 +15,7 @@ use super::tools::{each_part, given, list_start, named, operation, parts};
 use super::{breaking, fault, Fault, Outcome, Plant, Property};
 use crate::call::Call;
 use crate::device::Plain;
-use crate::request::unread_selector;
+use crate::part_bytes::unread_selector;
 
 /// A type that no part has and that is not reserved.
 const UNKNOWN: u16 = 0x5ff;
@@ -199,7 +199,7 @@ fn asked_order(outcome: &mut Outcome) {
         let values = &before.member(member).values;
         let names = asked.chunks(HEADER).filter_map(|header| named(before, header));
         let parts: Vec<u8> =
-            names.flat_map(|name| crate::request::part(name, values.get(name))).collect();
+            names.flat_map(|name| crate::part_bytes::part(name, values.get(name))).collect();
         outcome.reply[8..8 + parts.len()].copy_from_slice(&parts);
     }
 }
@@ -210,7 +210,7 @@ fn queues_beyond(outcome: &mut Outcome) {
     if let (true, Some((before, _))) = (outcome.succeeded(), outcome.cards()) {
         let values = &before.member(member).values;
         let parts: Vec<u8> =
-            inventory(4).flat_map(|name| crate::request::part(name, values.get(name))).collect();
+            inventory(4).flat_map(|name| crate::part_bytes::part(name, values.get(name))).collect();
         if let Some(result) = outcome.reply.get_mut(8..8 + parts.len()) {
             result.copy_from_slice(&parts);
             *outcome.answer = 8 + parts.len();
