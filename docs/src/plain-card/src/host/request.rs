@@ -7,25 +7,25 @@ use crate::opcode::Opcode;
 /// and whether a list is good, the card says.
 #[derive(Clone, Copy, Debug, PartialEq, Eq)]
 pub enum Request<'a> {
-    /// Tell the supported commands.
+    /// List query.
     ListQuery,
-    /// The mask becomes the list in use.
+    /// List use: mask.
     ListUse(u64),
-    /// Add an object, with its kind byte.
+    /// Object create: member, id, kind byte.
     Create(u64, u32, u8),
-    /// Give an object a new kind, by its kind byte.
+    /// Object modify: member, id, kind byte.
     Modify(u64, u32, u8),
-    /// Tell the kind of an object.
+    /// Object query: member, id.
     Query(u64, u32),
-    /// Remove an object.
+    /// Object destroy: member, id.
     Destroy(u64, u32),
-    /// Tell about the parts, with a type byte.
+    /// Parts metadata: member, id, type byte.
     Metadata(u64, u32, u8),
-    /// Tell parts, with a type byte and headers.
+    /// Parts get: member, id, type byte, headers.
     Get(u64, u32, u8, &'a [u8]),
-    /// Set the parts of a list.
+    /// Parts set: member, id, list of parts.
     Set(u64, u32, &'a [u8]),
-    /// Stop or resume, by the mode byte.
+    /// Mode set: member, mode byte.
     Mode(u64, u8),
 }
 
