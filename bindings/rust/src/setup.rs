@@ -43,7 +43,7 @@ impl Setup {
     /// sizes of arrays.
     #[must_use]
     pub const fn card_bytes(&self) -> usize {
-        28 + 222 * self.members as usize
+        28 + 1248 * self.members as usize
     }
 
     /// The setup that the head of a sound card holds: the four numbers, one

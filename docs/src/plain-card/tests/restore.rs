@@ -86,7 +86,7 @@ fn a_list_byte_by_byte() {
 #[test]
 fn finish_answers_what_parts_set_would_and_the_place_is_gone() {
     let bad = [list(), vec![0]].concat();
-    let cases: [(Card, u32, Vec<u8>, Result<(), Refusal>); 8] = [
+    let cases = [
         (stopped(fresh()), SET_ID, list(), Ok(())),
         (stopped(fresh()), SET_ID, vec![], Ok(())),
         (stopped(fresh()), 2, list(), Err(Refusal::Field)),
