@@ -1,9 +1,9 @@
 //! Two neighbouring calls that name different members change places.
 //!
-//! Somewhere in a sequence stand two commands or card stores that name
-//! different members, one right behind the other. In the other order each
-//! must get the reply it got, all other calls the same replies, and the card
-//! at the end is the same.
+//! Somewhere in a sequence stand two commands, card stores or calls of a restore
+//! that name different members, one right behind the other. In the other order
+//! each must get the reply it got, all other calls the same replies, and the
+//! card at the end is the same.
 
 use std::fmt;
 
