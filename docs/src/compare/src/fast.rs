@@ -70,9 +70,7 @@ fn sound(header: &[u8; HEADER], records: &[u8]) -> bool {
     let ids = usize::from(gets + sets);
     records.chunks_exact(RECORD).all(|record| {
         let objects: [u8; 16] = array_at(record, 1);
-        (record[0] < 2)
-            & (u16_at(record, 17) <= 1 + ROOM as u16)
-            & (record[19..35] == features)
+        (record[0] < 2) & (u16_at(record, 17) <= 1 + ROOM as u16) & (record[19..35] == features)
             && objects.iter().fold(true, |low, byte| low & (*byte <= 2))
             && objects[ids..].iter().all(|byte| *byte == 0)
             && sum(&objects, |byte| byte % 2) <= gets
