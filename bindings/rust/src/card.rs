@@ -16,8 +16,8 @@ use core::fmt;
 /// array, or another type that gives its bytes.
 ///
 /// A card is sound when it is made or taken up, and every call leaves it so:
-/// this is proved of the archive. A refusal changes nothing but what [`Restore`]
-/// says of its own.
+/// this is proved of the archive. A refusal changes nothing, but for what
+/// [`Restore`] says of the holding place.
 ///
 /// ```
 /// use kajurnat::{Card, PartType, Setup};

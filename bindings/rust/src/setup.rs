@@ -118,7 +118,7 @@ mod tests {
     #[test]
     fn an_error_says_what_would_do() {
         assert_eq!(SetupError::Members(17).to_string(), "17 members: a setup has 1 to 16");
-        let error = SetupError::Length { memory: 100, card: 250 };
-        assert_eq!(error.to_string(), "100 bytes of memory: a card of this setup has 250");
+        let error = SetupError::Length { memory: 100, card: 1276 };
+        assert_eq!(error.to_string(), "100 bytes of memory: a card of this setup has 1276");
     }
 }

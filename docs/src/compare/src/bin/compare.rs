@@ -23,9 +23,8 @@ compare [--seed N] [--calls N] [--seconds N] [--planted-faults] [--help]
   --seed N          another seed (default 1)
   --calls N         calls to compare (default 1000000, at least 1); for every 250
                     calls one pair of sequences is tried for isolation, for every
-                    100 one round trip, one exchange of neighbouring calls,
-                    one restore in fragments and one built request with its
-                    reply
+                    100 one round trip, one exchange of neighbouring calls, one
+                    restore in fragments and one built request with its reply
   --seconds N       instead, as many as can be made in so many seconds (at least
                     1), a sixth each
   --planted-faults  instead, plant each fault in the plain card or host and tell
