@@ -12,9 +12,9 @@
  *     keeps no pointer.
  *   - The answer, the bytes written and the card afterwards are those that
  *     the specification gives. A refusal leaves the card as it was, but for
- *     three calls: kajurnat_setup() fills a refused buffer with zeros,
- *     kajurnat_restore_finish() ends the holding place whatever it answers,
- *     and so does kajurnat_restore_feed() if there is no room in it.
+ *     three calls: kajurnat_setup() fills a refused buffer with zeros, and
+ *     kajurnat_restore_finish(), and kajurnat_restore_feed() with more than
+ *     there is room for, end a holding place that is open.
  *   - A sound card stays sound.
  *   - A capture of all parts of a member can be set in a stopped member of a
  *     card of the same setup, and a capture there gives the same bytes.
@@ -432,8 +432,8 @@ uint32_t kajurnat_restore_feed(uint8_t *card, size_t card_len, uint64_t member,
 /*
  * Does what parts set of the bytes that are held would do now, through the set
  * object of this id: the same checks, the same answer from row 4 of the order
- * of refusals on, the same card. The holding place and its bytes are then gone,
- * whatever the answer.
+ * of refusals on, the same card. The holding place, if it was open, and its
+ * bytes are then gone, whatever the answer.
  */
 uint32_t kajurnat_restore_finish(uint8_t *card, size_t card_len,
                                  uint64_t member, uint32_t id);
