@@ -11,13 +11,18 @@
  *   - It returns, touches no byte outside the buffers that it is lent, and
  *     keeps no pointer.
  *   - The answer, the bytes written and the card afterwards are those that
- *     the specification gives. A refusal leaves the card as it was;
- *     kajurnat_setup() alone fills a refused buffer with zeros.
+ *     the specification gives. A refusal leaves the card as it was, but for
+ *     three calls: kajurnat_setup() fills a refused buffer with zeros, and
+ *     kajurnat_restore_finish(), and kajurnat_restore_feed() with more than
+ *     there is room for, end a holding place that is open.
  *   - A sound card stays sound.
  *   - A capture of all parts of a member can be set in a stopped member of a
  *     card of the same setup, and a capture there gives the same bytes.
  *   - Once a member is reset, no reply and no byte of the card depends on the
- *     commands and stores that named it before.
+ *     commands, stores and restores that named it before.
+ *   - A list of parts that is restored in fragments is set as one parts set
+ *     would set it, with the same answer and the same card, however it was
+ *     cut.
  *   - A card takes a built request as the command and the fields that it was
  *     built from, if these are inside its setup's numbers; and whatever it
  *     answers to a built request is read as it was meant.
@@ -27,8 +32,9 @@
  *     const, for reads and writes where it is not. With length 0 any pointer
  *     will do, NULL too; nothing is read or written through it.
  *   - The buffers of a call do not overlap: card, request and reply are apart
- *     from each other, and so are card and features, card and value, request
- *     and list, and the reply and the four numbers that it is read into.
+ *     from each other, and so are card and features, card and value, card
+ *     and fragment, request and list, and the reply and the four numbers that
+ *     it is read into.
  *   - Until the call returns, nothing else writes to its buffers, and nothing
  *     else reads those that it writes. There is no lock inside: one call at a
  *     time for each card. Calls on different cards may run at once.
@@ -65,10 +71,10 @@ extern "C" {
  * What the bytes of a card mean: raised whenever that changes. A card is for
  * the library whose kajurnat_version() is the one it was made with.
  */
-#define KAJURNAT_VERSION 1
+#define KAJURNAT_VERSION 2
 
 /* The stack that a call takes at most, memcpy, memmove and memset aside. */
-#define KAJURNAT_STACK_BYTES 2304
+#define KAJURNAT_STACK_BYTES 2560
 
 /* ---- Setup and answers ------------------------------------------------ */
 
@@ -88,7 +94,7 @@ enum {
  * sizes. kajurnat_card_bytes() gives the same number at run time.
  */
 #define KAJURNAT_CARD_BYTES(members) \
-    ((size_t)28 + (size_t)222 * (size_t)(members))
+    ((size_t)28 + (size_t)1248 * (size_t)(members))
 
 /* The answers of setup, of the two resets and of store. */
 enum {
@@ -97,7 +103,7 @@ enum {
     KAJURNAT_NO_SUCH_PART = 2, /* device features count so */
     KAJURNAT_WRONG_LENGTH = 3,
     KAJURNAT_BAD_SETUP = 4,
-    KAJURNAT_NOT_SOUND = 9 /* the buffer is not a sound card */
+    KAJURNAT_NOT_SOUND = 9 /* the buffer is not a sound card; no status */
 };
 
 /* ---- Requests and replies --------------------------------------------- */
@@ -324,8 +330,8 @@ size_t kajurnat_card_bytes(uint64_t members);
 
 /*
  * Makes the buffer a fresh card: the two list commands are in use; every
- * member runs, has no object, and all its parts are zero but the device
- * features. What the buffer held before does not matter.
+ * member runs, has no object and no open holding place, and all its parts are
+ * zero but the device features. What the buffer held before does not matter.
  *
  * Returns KAJURNAT_DONE. Returns KAJURNAT_BAD_SETUP, and every byte of the
  * buffer is zero, if a number is outside its limits, features_len is not 16,
@@ -383,6 +389,60 @@ uint32_t kajurnat_version(void);
 uint8_t kajurnat_store(uint8_t *card, size_t card_len, uint64_t member,
                        uint16_t part_type, uint64_t selector,
                        const uint8_t *value, size_t value_len);
+
+/* ---- Restore in fragments --------------------------------------------- */
+
+/*
+ * A list of parts may come in fragments that end anywhere. Each member has a
+ * holding place for them, which is open from begin until finish or drop. Only
+ * these four functions and the two resets touch it; commands and stores go on
+ * meanwhile, for the same member too.
+ *
+ * Each function returns a status and, in the upper 16 bits, its qualifier, or
+ * KAJURNAT_NOT_SOUND, which is no status. The first row that applies answers.
+ *
+ *   KAJURNAT_NOT_SOUND      the buffer is not a sound card
+ *   EINVAL INVALID_MEMBER   there is no such member
+ *   EEXIST INVALID_COMMAND  begin: the holding place is open
+ *   ENXIO  INVALID_COMMAND  feed, finish, drop: it is not open
+ *   EINVAL INVALID_COMMAND  feed: over KAJURNAT_RESTORE_BYTES_MAX in all
+ *   as parts set            finish
+ *   OK                      done
+ */
+enum { KAJURNAT_RESTORE_BYTES_MAX = 1024 };
+
+/* Status and qualifier of an answer that is not KAJURNAT_NOT_SOUND. */
+#define KAJURNAT_RESTORE_STATUS(answer) ((uint16_t)((answer) & 0xffffu))
+#define KAJURNAT_RESTORE_QUALIFIER(answer) ((uint16_t)((answer) >> 16))
+
+/*
+ * Opens the holding place of a member, which then holds no bytes. It needs
+ * neither an object nor a stopped member.
+ */
+uint32_t kajurnat_restore_begin(uint8_t *card, size_t card_len,
+                                uint64_t member);
+
+/*
+ * Adds a fragment to the bytes that are held; it may be empty. If they are over
+ * KAJURNAT_RESTORE_BYTES_MAX in all, the holding place and its bytes are gone.
+ */
+uint32_t kajurnat_restore_feed(uint8_t *card, size_t card_len, uint64_t member,
+                               const uint8_t *fragment, size_t fragment_len);
+
+/*
+ * Does what parts set of the bytes that are held would do now, through the set
+ * object of this id: the same checks, the same answer from row 4 of the order
+ * of refusals on, the same card. The holding place, if it was open, and its
+ * bytes are then gone, whatever the answer.
+ */
+uint32_t kajurnat_restore_finish(uint8_t *card, size_t card_len,
+                                 uint64_t member, uint32_t id);
+
+/*
+ * Ends the holding place; its bytes are gone.
+ */
+uint32_t kajurnat_restore_drop(uint8_t *card, size_t card_len,
+                               uint64_t member);
 
 /* ---- Functions of the host's half ------------------------------------- */
 

@@ -1,8 +1,8 @@
 /*
  * What kajurnat.h says, tried from C: the worked examples, a refusal for each
  * row of the header's order that also meets later rows, requests of other
- * lengths than are built, the builders and the reader, NULL with length 0,
- * soundness and version.
+ * lengths than are built, a restore in fragments, the builders and the reader,
+ * NULL with length 0, soundness and version.
  */
 #include "common.h"
 #include "kajurnat.h"
@@ -251,6 +251,73 @@ static void try_host(void)
            "numbers that are not known are handled, and shown");
 }
 
+/* The answer of a call of a restore. */
+#define ANSWER(status, qualifier)                                              \
+    ((uint32_t)KAJURNAT_STATUS_##status | (uint32_t)KAJURNAT_Q_##qualifier     \
+                                              << 16)
+
+/* A restore of member 2 in fragments: each row of its answers, with later rows
+ * met too. */
+static void try_restore(void)
+{
+    static const uint8_t list[] = {DRIVER_FEATURES};
+    static const uint8_t zeros[KAJURNAT_RESTORE_BYTES_MAX + 1];
+    uint8_t before[sizeof card];
+
+    set_up();
+    memcpy(before, card, sizeof card);
+    expect(
+        kajurnat_restore_begin(card, sizeof card, 3) ==
+                ANSWER(EINVAL, INVALID_MEMBER) &&
+            kajurnat_restore_feed(card, sizeof card, 0, zeros, sizeof zeros) ==
+                ANSWER(EINVAL, INVALID_MEMBER) &&
+            kajurnat_restore_finish(card, sizeof card, 0, 9) ==
+                ANSWER(EINVAL, INVALID_MEMBER) &&
+            kajurnat_restore_drop(card, sizeof card, 3) ==
+                ANSWER(EINVAL, INVALID_MEMBER),
+        "restore: no such member");
+    expect(kajurnat_restore_feed(card, sizeof card, 2, zeros, sizeof zeros) ==
+                   ANSWER(ENXIO, INVALID_COMMAND) &&
+               kajurnat_restore_finish(card, sizeof card, 2, 9) ==
+                   ANSWER(ENXIO, INVALID_COMMAND) &&
+               kajurnat_restore_drop(card, sizeof card, 2) ==
+                   ANSWER(ENXIO, INVALID_COMMAND),
+           "restore: nothing begun");
+    expect(memcmp(card, before, sizeof card) == 0,
+           "restore: a refusal changes nothing");
+
+    expect(kajurnat_restore_begin(card, sizeof card, 2) == ANSWER(OK, OK) &&
+               kajurnat_restore_begin(card, sizeof card, 2) ==
+                   ANSWER(EEXIST, INVALID_COMMAND) &&
+               kajurnat_restore_feed(card, sizeof card, 2, zeros,
+                                     KAJURNAT_RESTORE_BYTES_MAX) ==
+                   ANSWER(OK, OK) &&
+               kajurnat_restore_feed(card, sizeof card, 2, NULL, 0) ==
+                   ANSWER(OK, OK) &&
+               kajurnat_restore_feed(card, sizeof card, 2, zeros, 1) ==
+                   ANSWER(EINVAL, INVALID_COMMAND) &&
+               kajurnat_restore_drop(card, sizeof card, 2) ==
+                   ANSWER(ENXIO, INVALID_COMMAND),
+           "restore: a feed without room ends it");
+    expect(kajurnat_restore_begin(card, sizeof card, 2) == ANSWER(OK, OK) &&
+               kajurnat_restore_feed(card, sizeof card, 2, list, sizeof list) ==
+                   ANSWER(OK, OK) &&
+               kajurnat_restore_drop(card, sizeof card, 2) == ANSWER(OK, OK) &&
+               kajurnat_restore_begin(card, sizeof card, 2) == ANSWER(OK, OK) &&
+               kajurnat_restore_finish(card, sizeof card, 2, SET_ID) ==
+                   ANSWER(EINVAL, INVALID_OPCODE) &&
+               kajurnat_restore_begin(card, sizeof card, 1) == ANSWER(OK, OK) &&
+               kajurnat_reset_member(card, sizeof card, 1) == KAJURNAT_DONE,
+           "restore: drop, a refused finish and a reset end it");
+    expect(memcmp(card, before, sizeof card) == 0,
+           "restore: nothing is left of it");
+
+    const uint32_t answer = ANSWER(EAGAIN, TRYAGAIN);
+    expect(KAJURNAT_RESTORE_STATUS(answer) == KAJURNAT_STATUS_EAGAIN &&
+               KAJURNAT_RESTORE_QUALIFIER(answer) == KAJURNAT_Q_TRYAGAIN,
+           "restore: the numbers of an answer");
+}
+
 /* Row 2 of the order, and length 0 everywhere. */
 static void try_lengths(void)
 {
@@ -279,6 +346,12 @@ static void try_lengths(void)
                kajurnat_store(card, sizeof card, 1, KAJURNAT_PART_DEVICE_STATUS,
                               0, NULL, 0) == KAJURNAT_WRONG_LENGTH,
            "NULL: store");
+    expect(kajurnat_restore_begin(NULL, 0, 1) == KAJURNAT_NOT_SOUND &&
+               kajurnat_restore_feed(NULL, 0, 1, NULL, 0) ==
+                   KAJURNAT_NOT_SOUND &&
+               kajurnat_restore_finish(NULL, 0, 1, 0) == KAJURNAT_NOT_SOUND &&
+               kajurnat_restore_drop(NULL, 0, 1) == KAJURNAT_NOT_SOUND,
+           "NULL: restore");
     expect(kajurnat_setup(NULL, 0, MEMBERS, QUEUES, GETS, SETS, features,
                           sizeof features) == KAJURNAT_BAD_SETUP &&
                kajurnat_setup(NULL, 0, 0, 0, 0, 0, NULL, 0) ==
@@ -327,6 +400,7 @@ int main(int count, char **arguments)
         try_row(&rows[i]);
     }
     try_host();
+    try_restore();
     try_stores();
     try_lengths();
     printf("boundary: as kajurnat.h says\n");

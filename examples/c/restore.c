@@ -2,9 +2,10 @@
  * Moves the state of one member device to another card.
  *
  * The source card is set up, its data path stores some parts of member 1, and
- * the member is stopped and captured. On the destination card the capture is
- * set in member 2 and captured again: the bytes are the same. In the end
- * member 1 of the source is reset, and nothing of its parts is left.
+ * the member is stopped and captured. The capture comes to the destination card
+ * in fragments, as from a slow connection, and is set in member 2 and captured
+ * again: the bytes are the same. In the end member 1 of the source is reset,
+ * and nothing of its parts is left.
  */
 #include "common.h"
 #include "kajurnat.h"
@@ -191,13 +192,36 @@ static struct capture capture(struct card *card, uint64_t member)
     return all;
 }
 
-/* Sets all parts of a member through its set object. */
+/* Sets all parts of a member through its set object, with one command. */
 static struct reply restore(struct card *card, uint64_t member,
                             const struct capture *all)
 {
     return command(card, KAJURNAT_CMD_DEV_PARTS_SET,
                    kajurnat_request_set(request, sizeof request, member, SET_ID,
                                         all->bytes, sizeof all->bytes));
+}
+
+/* The same with fragments of a few bytes, as a slow connection hands them over.
+ * Ends early if one is refused; returns the last answer. */
+static uint32_t restore_slowly(struct card *card, uint64_t member,
+                               const struct capture *all)
+{
+    enum { FRAGMENT = 13 };
+    uint32_t answer =
+        kajurnat_restore_begin(card->bytes, sizeof card->bytes, member);
+
+    for (size_t at = 0; answer == KAJURNAT_STATUS_OK && at < sizeof all->bytes;
+         at += FRAGMENT) {
+        size_t left = sizeof all->bytes - at;
+        answer = kajurnat_restore_feed(card->bytes, sizeof card->bytes, member,
+                                       all->bytes + at,
+                                       left < FRAGMENT ? left : FRAGMENT);
+    }
+    if (answer != KAJURNAT_STATUS_OK) {
+        return answer;
+    }
+    return kajurnat_restore_finish(card->bytes, sizeof card->bytes, member,
+                                   SET_ID);
 }
 
 static bool is_zero(const uint8_t *bytes, size_t length)
@@ -263,13 +287,16 @@ static void load(struct card *card, uint64_t member,
     expect(reply.status == KAJURNAT_STATUS_EAGAIN &&
                reply.qualifier == KAJURNAT_Q_TRYAGAIN,
            "a running member takes no parts");
+    uint32_t answer = restore_slowly(card, member, saved);
+    expect(KAJURNAT_RESTORE_STATUS(answer) == KAJURNAT_STATUS_EAGAIN &&
+               KAJURNAT_RESTORE_QUALIFIER(answer) == KAJURNAT_Q_TRYAGAIN,
+           "nor in fragments");
     report(card, member, "is running: restore refused");
 
     stop(card, member);
-    reply = restore(card, member, saved);
-    expect(reply.status == KAJURNAT_STATUS_OK,
-           "a stopped member takes the parts");
-    report(card, member, "restored");
+    answer = restore_slowly(card, member, saved);
+    expect(answer == KAJURNAT_STATUS_OK, "a stopped member takes the parts");
+    report(card, member, "restored from fragments");
 
     struct capture again = capture(card, member);
     expect(memcmp(again.bytes, saved->bytes, sizeof again.bytes) == 0,

@@ -94,6 +94,20 @@ MEASURED(uint8_t, kajurnat_store,
           uint64_t selector, const uint8_t *value, size_t value_len),
          (card, card_len, member, part_type, selector, value, value_len))
 
+MEASURED(uint32_t, kajurnat_restore_begin,
+         (uint8_t * card, size_t card_len, uint64_t member),
+         (card, card_len, member))
+MEASURED(uint32_t, kajurnat_restore_feed,
+         (uint8_t * card, size_t card_len, uint64_t member,
+          const uint8_t *fragment, size_t fragment_len),
+         (card, card_len, member, fragment, fragment_len))
+MEASURED(uint32_t, kajurnat_restore_finish,
+         (uint8_t * card, size_t card_len, uint64_t member, uint32_t id),
+         (card, card_len, member, id))
+MEASURED(uint32_t, kajurnat_restore_drop,
+         (uint8_t * card, size_t card_len, uint64_t member),
+         (card, card_len, member))
+
 MEASURED(size_t, kajurnat_request_list_query,
          (uint8_t * request, size_t request_len), (request, request_len))
 MEASURED(size_t, kajurnat_request_list_use,

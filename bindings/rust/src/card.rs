@@ -5,6 +5,7 @@ use crate::part::PartType;
 use crate::raw;
 use crate::reply::{Refusal, Reply, ReplyTooShort};
 use crate::request::Request;
+use crate::restore::Restore;
 use crate::setup::{Setup, SetupError};
 use alloc::vec;
 use alloc::vec::Vec;
@@ -15,7 +16,8 @@ use core::fmt;
 /// array, or another type that gives its bytes.
 ///
 /// A card is sound when it is made or taken up, and every call leaves it so:
-/// this is proved of the archive. A refusal changes nothing.
+/// this is proved of the archive. A refusal changes nothing, but for what
+/// [`Restore`] says of the holding place.
 ///
 /// ```
 /// use kajurnat::{Card, PartType, Setup};
@@ -166,6 +168,73 @@ impl<B: AsMut<[u8]>> Card<B> {
         let written = raw::command(self.memory.as_mut(), request.as_ref(), reply);
         assert!(written != 0, "a sound card replies to every command");
         Ok(&reply[..written])
+    }
+
+    /// Sets the parts of a list that comes in fragments, through the set object
+    /// of this id, once they are all there: all parts or none. Fragments end
+    /// anywhere.
+    ///
+    /// ```
+    /// # use kajurnat::{Card, Kind, Opcode, Request, Setup};
+    /// # let setup = Setup { members: 1, queues: 1, gets: 1, sets: 1, features: [0; 16] };
+    /// # let mut card = Card::new(&setup)?;
+    /// # card.send(Request::list_use(Opcode::SUPPORTED))?;
+    /// # card.send(Request::create(1, 0, Kind::Get))?;
+    /// # card.send(Request::create(1, 1, Kind::Set))?;
+    /// # card.send(Request::stop(1))?;
+    /// let parts = card.send(Request::capture(1, 0))?;
+    /// card.restore(1, 1, parts.chunks(5))?;
+    /// # Ok::<(), Box<dyn std::error::Error>>(())
+    /// ```
+    ///
+    /// # Errors
+    ///
+    /// [`Refusal`] as that of [`Card::begin_restore`], [`Restore::feed`] or
+    /// [`Restore::finish`]. Nothing is then set, and no holding place is left
+    /// open but one that was.
+    pub fn restore<I>(&mut self, member: u64, id: u32, fragments: I) -> Result<(), Refusal>
+    where
+        I: IntoIterator,
+        I::Item: AsRef<[u8]>,
+    {
+        let mut restore = self.begin_restore(member)?;
+        for fragment in fragments {
+            restore.feed(fragment.as_ref())?;
+        }
+        restore.finish(id)
+    }
+
+    /// Begins a restore of a member from fragments that come one at a time. It
+    /// needs neither an object nor a stopped member until it is finished.
+    ///
+    /// # Errors
+    ///
+    /// [`Refusal`] with [`Qualifier::INVALID_MEMBER`] if the card has no such
+    /// member, with [`Status::EEXIST`] if its holding place is open: see
+    /// [`Card::take_up_restore`].
+    ///
+    /// [`Qualifier::INVALID_MEMBER`]: crate::Qualifier::INVALID_MEMBER
+    /// [`Status::EEXIST`]: crate::Status::EEXIST
+    pub fn begin_restore(&mut self, member: u64) -> Result<Restore<'_, B>, Refusal> {
+        Restore::begin(self, member)
+    }
+
+    /// Goes on with a restore of a member that was left open.
+    ///
+    /// # Errors
+    ///
+    /// [`Refusal`] with [`Qualifier::INVALID_MEMBER`] if the card has no such
+    /// member, with [`Status::ENXIO`] if its holding place is not open.
+    ///
+    /// [`Qualifier::INVALID_MEMBER`]: crate::Qualifier::INVALID_MEMBER
+    /// [`Status::ENXIO`]: crate::Status::ENXIO
+    pub fn take_up_restore(&mut self, member: u64) -> Result<Restore<'_, B>, Refusal> {
+        Restore::take_up(self, member)
+    }
+
+    /// The bytes of the card, to be lent to the archive.
+    pub(crate) fn bytes_mut(&mut self) -> &mut [u8] {
+        self.memory.as_mut()
     }
 
     /// Makes one member fresh and changes nothing else.

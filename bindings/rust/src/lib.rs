@@ -44,6 +44,14 @@
 //! # Ok::<(), Box<dyn std::error::Error>>(())
 //! ```
 //!
+//! A list of parts that comes over a slow connection is set with
+//! [`Card::restore`] or a [`Restore`], fragment by fragment.
+//!
+//! # Features
+//!
+//! `std`, on by default, makes a [`Restore`] a `std::io::Write`. Without it the
+//! package needs `alloc` alone.
+//!
 //! # Linking
 //!
 //! The build links `libkajurnat.a` from the directory that the environment
@@ -56,6 +64,8 @@
 #![deny(unsafe_code)]
 
 extern crate alloc;
+#[cfg(feature = "std")]
+extern crate std;
 
 mod card;
 mod event;
@@ -64,6 +74,7 @@ mod part;
 pub mod raw;
 mod reply;
 mod request;
+mod restore;
 mod setup;
 mod status;
 
@@ -73,5 +84,6 @@ pub use part::PartType;
 pub use raw::version;
 pub use reply::{BadReply, Refusal, Reply, ReplyTooShort};
 pub use request::{Kind, Metadata, Opcode, Request, RequestTooLong};
+pub use restore::Restore;
 pub use setup::{Setup, SetupError};
 pub use status::{Qualifier, Status};

@@ -55,6 +55,21 @@ mod abi {
             value_len: usize,
         ) -> u8;
 
+        pub fn kajurnat_restore_begin(card: *mut u8, card_len: usize, member: u64) -> u32;
+
+        pub fn kajurnat_restore_feed(
+            card: *mut u8,
+            card_len: usize,
+            member: u64,
+            fragment: *const u8,
+            fragment_len: usize,
+        ) -> u32;
+
+        pub fn kajurnat_restore_finish(card: *mut u8, card_len: usize, member: u64, id: u32)
+            -> u32;
+
+        pub fn kajurnat_restore_drop(card: *mut u8, card_len: usize, member: u64) -> u32;
+
         pub fn kajurnat_request_list_query(request: *mut u8, request_len: usize) -> usize;
 
         pub fn kajurnat_request_list_use(request: *mut u8, request_len: usize, mask: u64) -> usize;
@@ -247,6 +262,56 @@ pub fn store(card: &mut [u8], member: u64, part_type: u16, selector: u64, value:
             value.len(),
         )
     }
+}
+
+/// Opens the holding place of a member, which then holds no bytes.
+///
+/// This and the three functions below answer a status and 65,536 times its
+/// qualifier, the first that applies: 9 card not sound, 22/5 no such member,
+/// then what stands there; 0 done.
+///
+/// Answers 17/1 if it is open.
+#[must_use]
+pub fn restore_begin(card: &mut [u8], member: u64) -> u32 {
+    // SAFETY: pointer and length are those of one slice, which is borrowed
+    // mutably for the call.
+    unsafe { abi::kajurnat_restore_begin(card.as_mut_ptr(), card.len(), member) }
+}
+
+/// Adds a fragment to the bytes that the holding place of a member holds.
+///
+/// Answers 6/1 if it is not open; 22/1, and the holding place is dropped, if
+/// the bytes are over 1,024 in all.
+#[must_use]
+pub fn restore_feed(card: &mut [u8], member: u64, fragment: &[u8]) -> u32 {
+    // SAFETY: each pointer and length are those of one slice, which is
+    // borrowed for the call (`card` mutably, so it overlaps no other).
+    unsafe {
+        abi::kajurnat_restore_feed(
+            card.as_mut_ptr(),
+            card.len(),
+            member,
+            fragment.as_ptr(),
+            fragment.len(),
+        )
+    }
+}
+
+/// Does what one parts set of the bytes held would do, through the set object
+/// of this id. The holding place is then gone, whatever the answer.
+///
+/// Answers 6/1 if it is not open, else what that command answers.
+#[must_use]
+pub fn restore_finish(card: &mut [u8], member: u64, id: u32) -> u32 {
+    // SAFETY: as in `restore_begin`.
+    unsafe { abi::kajurnat_restore_finish(card.as_mut_ptr(), card.len(), member, id) }
+}
+
+/// Drops the holding place of a member. Answers 6/1 if it is not open.
+#[must_use]
+pub fn restore_drop(card: &mut [u8], member: u64) -> u32 {
+    // SAFETY: as in `restore_begin`.
+    unsafe { abi::kajurnat_restore_drop(card.as_mut_ptr(), card.len(), member) }
 }
 
 /// Builds a list query. This and the builders below write the request at the

@@ -111,7 +111,8 @@ impl fmt::Debug for Reply<'_> {
     }
 }
 
-/// A command was not carried out, and the card is unchanged.
+/// A command was not carried out, and the card is unchanged; or a step of a
+/// [`Restore`](crate::Restore) was not.
 #[derive(Clone, Copy, Debug, PartialEq, Eq)]
 pub struct Refusal {
     /// Why, to act on.

@@ -10,8 +10,8 @@ fn sound_card() -> Vec<u8> {
 }
 
 #[test]
-fn the_bindings_are_for_version_1() {
-    assert_eq!(raw::version(), 1);
+fn the_bindings_are_for_version_2() {
+    assert_eq!(raw::version(), 2);
 }
 
 #[test]
@@ -29,7 +29,7 @@ fn card_bytes_grow_by_one_record_a_member() {
     for members in Setup::MEMBERS {
         let setup = Setup { members, queues: 1, gets: 0, sets: 0, features: [0; 16] };
         assert_eq!(raw::card_bytes(members.into()), setup.card_bytes());
-        assert_eq!(setup.card_bytes(), 28 + 222 * usize::from(members));
+        assert_eq!(setup.card_bytes(), 28 + 1248 * usize::from(members));
     }
     for members in [0, 17, (1 << 32) + 1, u64::MAX] {
         assert_eq!(raw::card_bytes(members), 0);
@@ -72,6 +72,10 @@ fn a_card_that_is_not_sound_is_refused() {
         assert_eq!(raw::reset_member(&mut card, 1), 9);
         assert_eq!(raw::reset_card(&mut card), 9);
         assert_eq!(raw::store(&mut card, 1, 0x103, 0, &[1]), 9);
+        assert_eq!(raw::restore_begin(&mut card, 1), 9);
+        assert_eq!(raw::restore_feed(&mut card, 1, &[1]), 9);
+        assert_eq!(raw::restore_finish(&mut card, 1, 1), 9);
+        assert_eq!(raw::restore_drop(&mut card, 1), 9);
         assert_eq!(card, before);
     }
 }

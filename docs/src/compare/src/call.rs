@@ -25,6 +25,14 @@ pub enum Call {
     ResetCard,
     /// Card store.
     Store { member: u64, part_type: u16, selector: u64, value: Buffer },
+    /// Begin of a restore in fragments.
+    Begin(u64),
+    /// A fragment of it.
+    Feed { member: u64, fragment: Buffer },
+    /// Its end, through the set object of this id.
+    Finish { member: u64, id: u32 },
+    /// Drop of it.
+    Drop(u64),
     /// A request built in a buffer.
     Build { fields: Fields, list: Buffer, room: Room },
     /// A reply read as the answer to a command; `what` is a type byte.
@@ -52,14 +60,15 @@ impl Call {
             Call::Setup { features, .. } => Some(("features", features)),
             Call::Command { request, .. } => Some(("request", request)),
             Call::Store { value, .. } => Some(("value", value)),
+            Call::Feed { fragment, .. } => Some(("fragment", fragment)),
             Call::Build { list, .. } => Some(("list", list)),
             Call::Read { reply, .. } => Some(("reply", reply)),
             _ => None,
         }
     }
 
-    /// The member that the call names in the sense of document 01, whether the
-    /// card has it or not.
+    /// The member that the call names in the sense of documents 01 and 02,
+    /// whether the card has it or not.
     pub fn named(&self) -> Option<u64> {
         match self {
             Call::Command { request, .. } => {
@@ -68,6 +77,8 @@ impl Call {
                 names.then_some(frame.member)
             }
             Call::Store { member, .. } => Some(*member),
+            Call::Begin(member) | Call::Drop(member) => Some(*member),
+            Call::Feed { member, .. } | Call::Finish { member, .. } => Some(*member),
             _ => None,
         }
     }
@@ -86,12 +97,13 @@ impl Call {
                 room.place = Place::USUAL;
             }
             Call::Store { value, .. } => value.place = Place::USUAL,
+            Call::Feed { fragment, .. } => fragment.place = Place::USUAL,
             Call::Build { list, room, .. } => {
                 list.place = Place::USUAL;
                 room.place = Place::USUAL;
             }
             Call::Read { reply, .. } => reply.place = Place::USUAL,
-            Call::CardBytes(_) | Call::ResetMember(_) | Call::ResetCard => {}
+            _ => {}
         }
         call
     }
@@ -140,6 +152,12 @@ impl fmt::Display for Call {
                 write!(f, "store, member {member}, type {part_type:#x}, selector {selector:#x}")?;
                 write!(f, ", value of {} bytes: {value}", value.len())
             }
+            Call::Begin(member) => write!(f, "begin of a restore, member {member}"),
+            Call::Feed { member, fragment } => {
+                write!(f, "feed, member {member}, of {} bytes: {fragment}", fragment.len())
+            }
+            Call::Finish { member, id } => write!(f, "finish, member {member}, object {id}"),
+            Call::Drop(member) => write!(f, "drop of a restore, member {member}"),
             Call::Build { fields, list, room } => {
                 write!(f, "request to build: {fields}, list of {} bytes: {list}", list.len())?;
                 write!(f, ", in a buffer of {room}")
@@ -182,6 +200,14 @@ mod tests {
         other_group[2] = 2;
         assert_eq!(command(other_group).named(), None);
         assert_eq!(command([good, vec![0; 4073]].concat()).named(), None);
+    }
+
+    #[test]
+    fn a_call_of_a_restore_names_its_member() {
+        let fragment = vec![].into();
+        let calls =
+            [Call::Begin(7), Call::Feed { member: 7, fragment }, Call::Finish { member: 7, id: 1 }];
+        assert!(calls.iter().chain([&Call::Drop(7)]).all(|call| call.named() == Some(7)));
     }
 
     #[test]

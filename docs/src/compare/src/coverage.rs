@@ -1,4 +1,4 @@
-//! Which rows of the tables of document 01 a comparison has reached.
+//! Which rows of the tables of documents 01 and 02 a comparison has reached.
 
 use std::collections::BTreeMap;
 use std::fmt;
@@ -30,6 +30,10 @@ const COMMANDS: [&str; 11] = [
     "mode set",
     "other requests",
 ];
+const RESTORES: [&str; 4] = ["restore begin", "restore feed", "restore finish", "restore drop"];
+/// Answers of these in their order.
+const RESTORE_ANSWERS: [&str; 9] =
+    ["9", "22/5", "17/1", "6/1", "22/1", "22/2", "22/3", "11/7", "0/0"];
 const EVENTS: [&str; 5] =
     ["setup", "reset of a member", "reset of the card", "card store", "is sound"];
 const HOST: [&str; 2] = ["request built", "reply read"];
@@ -49,6 +53,10 @@ impl Coverage {
             Call::ResetMember(_) => (EVENTS[1], seen.answer.to_string()),
             Call::ResetCard => (EVENTS[2], seen.answer.to_string()),
             Call::Store { .. } => (EVENTS[3], seen.answer.to_string()),
+            Call::Begin(_) => (RESTORES[0], restore(seen)),
+            Call::Feed { .. } => (RESTORES[1], restore(seen)),
+            Call::Finish { .. } => (RESTORES[2], restore(seen)),
+            Call::Drop(_) => (RESTORES[3], restore(seen)),
             Call::Build { .. } => (HOST[0], outcome(seen.answer != 0)),
             Call::Read { .. } => (HOST[1], outcome(seen.answer == 0)),
         };
@@ -102,9 +110,18 @@ fn status(seen: &Seen) -> String {
     }
 }
 
+/// The answer of a call of a restore in fragments.
+fn restore(seen: &Seen) -> String {
+    match seen.answer {
+        9 => "9".into(),
+        answer => format!("{}/{}", answer & 0xffff, answer >> 16),
+    }
+}
+
 impl fmt::Display for Coverage {
     fn fmt(&self, f: &mut fmt::Formatter) -> fmt::Result {
         self.table(f, &COMMANDS, &STATUSES)?;
+        self.table(f, &RESTORES, &RESTORE_ANSWERS)?;
         self.table(f, &EVENTS, &ANSWERS)?;
         self.table(f, &HOST, &OUTCOMES)
     }

@@ -7,6 +7,7 @@
 use plain_card::bytes::{HEADER, RECORD};
 use plain_card::exported;
 use plain_card::frame::{array_at, u16_at, u32_at, u64_at};
+use plain_card::holding::ROOM;
 use plain_card::opcode::{Opcode, SUPPORTED};
 
 /// The request of a get-all has this length.
@@ -69,12 +70,11 @@ fn sound(header: &[u8; HEADER], records: &[u8]) -> bool {
     let ids = usize::from(gets + sets);
     records.chunks_exact(RECORD).all(|record| {
         let objects: [u8; 16] = array_at(record, 1);
-        record[0] < 2
+        (record[0] < 2) & (u16_at(record, 17) <= 1 + ROOM as u16) & (record[19..35] == features)
             && objects.iter().fold(true, |low, byte| low & (*byte <= 2))
             && objects[ids..].iter().all(|byte| *byte == 0)
             && sum(&objects, |byte| byte % 2) <= gets
             && sum(&objects, |byte| byte / 2) <= sets
-            && record[17..33] == features
     })
 }
 
@@ -89,7 +89,7 @@ fn write<const Q: usize>(record: &[u8; RECORD], reply: &mut [u8]) -> Option<usiz
     let reply = reply.get_mut(..length)?;
     let template = const { template(Q) };
     reply.copy_from_slice(&template[..length]);
-    let values = &record[17..];
+    let values = &record[19..];
     let mut copy = |to: usize, from: usize, length: usize| {
         reply[to..to + length].copy_from_slice(&values[from..from + length]);
     };

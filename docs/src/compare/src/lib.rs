@@ -10,6 +10,7 @@
 //! | [`isolation`] | demand 3, tried on random pairs of sequences |
 //! | [`round_trip`] | the round trip of demand 2, tried on random cards |
 //! | [`exchange`] | neighbouring calls for different members, tried in both orders |
+//! | [`fragments`] | a list restored in fragments, tried with two ways to cut it |
 //! | [`halves`] | built requests, sent to a card, and its replies, read |
 //! | [`shrink`], [`show`] | the shortest sequence found that shows a difference, as text |
 //! | [`faults`] | planted faults that the above have to find |
@@ -27,6 +28,7 @@ pub mod exchange;
 pub mod fast;
 pub mod faults;
 pub mod fields;
+pub mod fragments;
 pub mod halves;
 pub mod isolation;
 pub mod limit;

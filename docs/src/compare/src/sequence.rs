@@ -188,7 +188,9 @@ fn place(at: usize) -> String {
     match at % RECORD {
         0 => format!(" (mode of member {member})"),
         object @ 1..17 => format!(" (object {} of member {member})", object - 1),
-        value => format!(" (value byte {} of member {member})", value - 17),
+        17 | 18 => format!(" (length held for member {member})"),
+        value @ 19..224 => format!(" (value byte {} of member {member})", value - 19),
+        held => format!(" (byte {} held for member {member})", held - 224),
     }
 }
 

@@ -3,6 +3,7 @@
 use std::fmt;
 
 use plain_card::bytes;
+use plain_card::holding::Holding;
 use plain_card::member::{Member, Mode};
 use plain_card::part::{inventory, MAX_QUEUES};
 use plain_card::{Card, Setup};
@@ -62,6 +63,13 @@ fn difference(f: &mut fmt::Formatter, record: &Member, fresh: &Member) -> fmt::R
         if value != fresh.values.get(part) {
             write!(f, ", {part:?} {}", Hex(value))?;
         }
+    }
+    let Holding { held, room } = &record.holding;
+    if let Some(held) = held {
+        write!(f, ", a holding place of {held} bytes")?;
+    }
+    if room != &fresh.holding.room {
+        write!(f, ", bytes of the holding place {}", Hex(room))?;
     }
     Ok(())
 }

@@ -1,5 +1,6 @@
 //! Shortens what shows a difference.
 
+use plain_card::holding::Holding;
 use plain_card::member::{Member, Mode};
 use plain_card::object::Objects;
 use plain_card::part::{inventory, MAX_QUEUES};
@@ -50,6 +51,8 @@ fn changes<'a>(record: &Member, fresh: &'a Member) -> Vec<Change<'a>> {
         Box::new(|record| record.values = fresh.values.clone()),
         Box::new(|record| record.objects = Objects::default()),
         Box::new(|record| record.mode = Mode::Running),
+        Box::new(|record| record.holding = Holding::default()),
+        Box::new(|record| record.holding.room.fill(0)),
     ];
     for id in (0..16).filter(|id| record.objects.find(*id).is_some()) {
         changes.push(Box::new(move |record| record.objects.remove(id)));

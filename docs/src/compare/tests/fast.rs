@@ -31,6 +31,12 @@ impl Device for Fast {
             Call::Store { member, part_type, selector, value } => {
                 exported::store(card, *member, *part_type, *selector, value).into()
             }
+            Call::Begin(member) => exported::restore_begin(card, *member) as usize,
+            Call::Feed { member, fragment } => {
+                exported::restore_feed(card, *member, fragment) as usize
+            }
+            Call::Finish { member, id } => exported::restore_finish(card, *member, *id) as usize,
+            Call::Drop(member) => exported::restore_drop(card, *member) as usize,
             // The host's half has no fast form.
             Call::Build { .. } | Call::Read { .. } => {
                 Plain::default().hear(call, reply.bytes_mut())

@@ -73,6 +73,24 @@ fn a_stored_value_has_a_wrong_length() {
 }
 
 #[test]
+fn a_fragment_is_too_long() {
+    let mut huge = Huge::new();
+    for length in [0, 1, 1024] {
+        let fragment = huge.starting_with(&vec![7; length]);
+        let answer = same(
+            |card| raw::restore_feed(card, 1, fragment),
+            |card| exported::restore_feed(card, 1, fragment),
+        );
+        assert_eq!(answer, 6 + 65_536);
+        let answers = same(
+            |card| [raw::restore_begin(card, 1), raw::restore_feed(card, 1, fragment)],
+            |card| [exported::restore_begin(card, 1), exported::restore_feed(card, 1, fragment)],
+        );
+        assert_eq!(answers, [0, 22 + 65_536]);
+    }
+}
+
+#[test]
 fn features_have_a_wrong_length() {
     let mut huge = Huge::new();
     let features = huge.starting_with(&[7; 16]);
@@ -93,6 +111,10 @@ fn a_card_is_not_sound() {
     assert_eq!(raw::reset_member(card, 1), 9);
     assert_eq!(raw::reset_card(card), 9);
     assert_eq!(raw::store(card, 1, 0x101, 0, &[7; 16]), 9);
+    assert_eq!(raw::restore_begin(card, 1), 9);
+    assert_eq!(raw::restore_feed(card, 1, &[7; 16]), 9);
+    assert_eq!(raw::restore_finish(card, 1, 1), 9);
+    assert_eq!(raw::restore_drop(card, 1), 9);
     assert_eq!((raw::is_sound(card), exported::is_sound(card)), (0, 0));
     assert_eq!(reply, [7; 600]);
     assert_eq!(card[..length], self::card());

@@ -4,6 +4,7 @@
 use compare::call::Call;
 use compare::device::{Archive, Device, Lending, Misuse};
 use compare::exchange::Exchange;
+use compare::fragments::Fragments;
 use compare::isolation::Pair;
 use compare::limit::Limit;
 use compare::memory::Place;
@@ -35,6 +36,12 @@ fn write_ahead_of_reply(call: &Call, lending: &mut Lending) {
 
 fn change_value(call: &Call, lending: &mut Lending) {
     if let Call::Store { .. } = call {
+        lending.input.bytes_mut().fill(0x55);
+    }
+}
+
+fn change_fragment(call: &Call, lending: &mut Lending) {
+    if let Call::Feed { .. } = call {
         lending.input.bytes_mut().fill(0x55);
     }
 }
@@ -89,7 +96,9 @@ fn trials_of_properties_tell_violations_too() {
         check::<T>(3, LIMIT, &with(misuse)).1.expect("it is found").what
     }
     let written = "bytes ahead of the reply buffer were written";
-    assert_eq!(told::<Pair>(change_value), "bytes of the value were changed");
-    assert_eq!(told::<Exchange>(change_value), "bytes of the value were changed");
+    let changed = "bytes of the value were changed";
+    assert!(told::<Pair>(change_value).contains(changed));
+    assert!(told::<Exchange>(change_value).contains(changed));
+    assert!(told::<Fragments>(change_fragment).contains("bytes of the fragment were changed"));
     assert!(told::<RoundTrip>(write_ahead_of_reply).contains(written));
 }

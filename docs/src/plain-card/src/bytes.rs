@@ -4,10 +4,13 @@
 //! |---|---|---|---|
 //! | N, Q, G, S | 1 each | mode: 0 running, 1 stopped | 1 |
 //! | device features | 16 | objects: 0 free, 1 get, 2 set | 16 |
-//! | list in use, little-endian | 8 | values of the parts for Q = 4, in order | 205 |
+//! | list in use, little-endian | 8 | holding place, little-endian: 0 none, k + 1 open with k bytes | 2 |
+//! | | | values of the parts for Q = 4, in order | 205 |
+//! | | | holding place: its bytes | 1,024 |
 
 use crate::card::Card;
-use crate::frame::{array_at, u64_at};
+use crate::frame::{array_at, u16_at, u64_at};
+use crate::holding::{Holding, ROOM};
 use crate::member::{Member, Mode};
 use crate::object::{Kind, Objects, IDS};
 use crate::part::{inventory, MAX_QUEUES};
@@ -17,11 +20,15 @@ use crate::values::Values;
 /// The length of the header.
 pub const HEADER: usize = 28;
 /// The length of a member's record.
-pub const RECORD: usize = 222;
+pub const RECORD: usize = HOLDING + ROOM;
 /// Where the objects stand in a record.
 const OBJECTS: usize = 1;
+/// Where it stands in a record whether a holding place is open.
+const HELD: usize = OBJECTS + IDS;
 /// Where the values stand in a record.
-const VALUES: usize = OBJECTS + IDS;
+const VALUES: usize = HELD + 2;
+/// Where the bytes of the holding place stand in a record.
+const HOLDING: usize = VALUES + 205;
 
 /// The card that the bytes say, sound or not. Bytes of another length than the
 /// header's N asks for, a mode byte over 1 and an object byte over 2 say none.
@@ -44,8 +51,12 @@ pub fn read(bytes: &[u8]) -> Option<Card> {
 fn read_record(record: &[u8]) -> Option<Member> {
     Some(Member {
         mode: read_mode(record[0])?,
-        objects: read_objects(&record[OBJECTS..VALUES])?,
-        values: read_values(&record[VALUES..]),
+        objects: read_objects(&record[OBJECTS..HELD])?,
+        values: read_values(&record[VALUES..HOLDING]),
+        holding: Holding {
+            held: u16_at(record, HELD).checked_sub(1),
+            room: array_at(record, HOLDING),
+        },
     })
 }
 
@@ -103,7 +114,10 @@ fn write_record(bytes: &mut Vec<u8>, member: &Member) {
         Some(Kind::Get) => 1,
         Some(Kind::Set) => 2,
     }));
+    let Holding { held, room } = &member.holding;
+    bytes.extend(held.map_or(0, |held| held + 1).to_le_bytes());
     for part in inventory(MAX_QUEUES) {
         bytes.extend(member.values.get(part));
     }
+    bytes.extend(room);
 }

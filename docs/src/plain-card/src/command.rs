@@ -35,7 +35,7 @@ pub fn command(card: &mut Card, request: &[u8], reply: &mut [u8]) -> usize {
 }
 
 /// Steps 2 to 12: writes the result and tells its length, or refuses.
-fn answer(card: &mut Card, request: &[u8], result: &mut [u8]) -> Result<usize, Refusal> {
+pub(crate) fn answer(card: &mut Card, request: &[u8], result: &mut [u8]) -> Result<usize, Refusal> {
     let frame = Frame::read(request)?; // step 2
     frame.check_group_type()?; // step 3
     let opcode = frame.opcode_in_use(card.in_use)?; // step 4

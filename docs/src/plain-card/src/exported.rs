@@ -8,7 +8,7 @@ use crate::card::Card;
 use crate::host::{self, Answer, Request};
 use crate::opcode::Opcode;
 use crate::setup::{Setup, MEMBERS};
-use crate::status::{answer, EventError};
+use crate::status::{answer, restore_answer, EventError, RestoreError};
 
 /// The length of a card, or 0 if it cannot have so many members.
 pub fn card_bytes(members: u64) -> usize {
@@ -74,6 +74,26 @@ pub fn store(card: &mut [u8], member: u64, part_type: u16, selector: u64, value:
     event(card, |card| card.store(member, part_type, selector.to_le_bytes(), value))
 }
 
+/// Opens a holding place.
+pub fn restore_begin(card: &mut [u8], member: u64) -> u32 {
+    restore(card, |card| card.restore_begin(member))
+}
+
+/// Adds a fragment to the bytes held.
+pub fn restore_feed(card: &mut [u8], member: u64, fragment: &[u8]) -> u32 {
+    restore(card, |card| card.restore_feed(member, fragment))
+}
+
+/// Sets the parts of the bytes held; the holding place is then gone.
+pub fn restore_finish(card: &mut [u8], member: u64, id: u32) -> u32 {
+    restore(card, |card| card.restore_finish(member, id))
+}
+
+/// Drops the holding place.
+pub fn restore_drop(card: &mut [u8], member: u64) -> u32 {
+    restore(card, |card| card.restore_drop(member))
+}
+
 /// Builds a request; tells its length, or 0 if it is refused.
 pub fn build(request: &Request, buffer: &mut [u8]) -> usize {
     request.build(buffer).unwrap_or(0)
@@ -96,4 +116,11 @@ fn event(bytes: &mut [u8], act: impl FnOnce(&mut Card) -> Result<(), EventError>
     let outcome = act(&mut card);
     bytes.copy_from_slice(&write(&card));
     answer(outcome)
+}
+
+fn restore(bytes: &mut [u8], act: impl FnOnce(&mut Card) -> Result<(), RestoreError>) -> u32 {
+    let Some(mut card) = read(bytes) else { return restore_answer(Err(RestoreError::NotSound)) };
+    let outcome = act(&mut card);
+    bytes.copy_from_slice(&write(&card));
+    restore_answer(outcome)
 }

@@ -1,20 +1,21 @@
 //! An independent plain Rust card and host, written from document 01 and
-//! requests 1 and 2 of document 02 alone.
+//! requests 1, 2 and 6 of document 02 alone.
 //!
 //! It is the readable, executable version of these and the reference that the
 //! verified archive is compared with. It shares no code with the archive. Terms
-//! of document 01 (card, sound, fresh, list in use, card store) are used as
-//! they stand there.
+//! of these documents (card, sound, fresh, list in use, card store, holding
+//! place) are used as they stand there.
 //!
 //! Start with [`command`](mod@command): the status table is two functions, one line a step.
 //!
 //! | module | holds |
 //! |---|---|
-//! | [`setup`], [`card`], [`member`], [`object`], [`part`], [`values`] | the card and what it is made of |
+//! | [`setup`], [`card`], [`member`], [`object`], [`part`], [`values`], [`holding`] | the card and what it is made of |
 //! | [`frame`], [`opcode`], [`operation`] | from request bytes to what is asked: steps 2 to 7 |
 //! | [`list`] | lists of parts, asked and given: step 10 |
 //! | [`command`](mod@command), [`effect`] | the steps in order, and what a command does |
 //! | [`event`] | resets and card store |
+//! | [`restore`] | restore in fragments |
 //! | [`status`] | the numbers of the answers |
 //! | [`host`] | requests built from their fields, replies read |
 //! | [`bytes`], [`exported`] | the card as bytes, and the archive's functions over them |
@@ -29,6 +30,7 @@ pub mod effect;
 pub mod event;
 pub mod exported;
 pub mod frame;
+pub mod holding;
 pub mod host;
 pub mod list;
 pub mod member;
@@ -36,6 +38,7 @@ pub mod object;
 pub mod opcode;
 pub mod operation;
 pub mod part;
+pub mod restore;
 pub mod setup;
 pub mod status;
 pub mod values;

@@ -1,5 +1,6 @@
 //! A member's record.
 
+use crate::holding::Holding;
 use crate::object::Objects;
 use crate::setup::Setup;
 use crate::values::Values;
@@ -14,7 +15,8 @@ pub enum Mode {
     Stopped,
 }
 
-/// The record of a member: its mode, its live objects and its parts.
+/// The record of a member: its mode, its live objects, its parts and its
+/// holding place.
 #[derive(Clone, Debug, PartialEq, Eq)]
 pub struct Member {
     /// Running or stopped.
@@ -23,21 +25,26 @@ pub struct Member {
     pub objects: Objects,
     /// The values of the parts.
     pub values: Values,
+    /// The holding place of a restore in fragments.
+    pub holding: Holding,
 }
 
 impl Member {
     /// A fresh member runs, has no objects, has device features as in the
-    /// setup and every other part all zero.
+    /// setup and every other part all zero. No holding place is open.
     pub fn fresh(setup: &Setup) -> Member {
         Member {
             mode: Mode::Running,
             objects: Objects::default(),
             values: Values { device_features: setup.features, ..Values::default() },
+            holding: Holding::default(),
         }
     }
 
     /// Whether the record may stand in a sound card of this setup.
     pub fn is_sound(&self, setup: &Setup) -> bool {
-        self.objects.fit(setup) && self.values.device_features == setup.features
+        self.objects.fit(setup)
+            && self.values.device_features == setup.features
+            && self.holding.fits()
     }
 }

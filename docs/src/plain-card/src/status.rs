@@ -100,3 +100,53 @@ pub fn answer(outcome: Result<(), EventError>) -> u8 {
         Err(error) => error as u8,
     }
 }
+
+/// Why a call of a restore in fragments is refused.
+#[derive(Clone, Copy, Debug, PartialEq, Eq)]
+pub enum RestoreError {
+    /// The card is not sound.
+    NotSound,
+    /// Member not 1 to N.
+    NoMember,
+    /// Begin while a holding place is open.
+    AlreadyBegun,
+    /// Another call while none is open.
+    NothingBegun,
+    /// A feed past 1,024 bytes in all.
+    TooLong,
+    /// Finish: what parts set is refused for.
+    Set(Refusal),
+}
+
+impl RestoreError {
+    /// Refuses unless all is good.
+    pub fn unless(self, good: bool) -> Result<(), RestoreError> {
+        if good {
+            Ok(())
+        } else {
+            Err(self)
+        }
+    }
+
+    /// Status and qualifier, of all but a card that is not sound.
+    pub fn numbers(self) -> Option<(u16, u16)> {
+        match self {
+            RestoreError::NotSound => None,
+            RestoreError::NoMember => Some((22, 5)),
+            RestoreError::AlreadyBegun => Some((17, 1)),
+            RestoreError::NothingBegun => Some((6, 1)),
+            RestoreError::TooLong => Some((22, 1)),
+            RestoreError::Set(refusal) => Some(refusal.numbers()),
+        }
+    }
+}
+
+/// The number that a call of a restore in fragments answers: status and 65,536
+/// times the qualifier, or 9 for a card that is not sound.
+pub fn restore_answer(outcome: Result<(), RestoreError>) -> u32 {
+    match outcome.map_err(RestoreError::numbers) {
+        Ok(()) => 0,
+        Err(None) => EventError::NotSound as u32,
+        Err(Some((status, qualifier))) => u32::from(status) | u32::from(qualifier) << 16,
+    }
+}

@@ -9,6 +9,8 @@ use plain_card::{bytes, exported};
 fn sample() -> Vec<u8> {
     let mut card = stopped(card(2, 2, 1, 2));
     card.store(2, 0x104, [1, 0, 0, 0, 0, 0, 0, 0], &[9; 32]).unwrap();
+    card.restore_begin(2).unwrap();
+    card.restore_feed(2, &[6; 300]).unwrap();
     bytes::write(&card)
 }
 
@@ -22,6 +24,10 @@ fn sound(card: &[u8]) -> bool {
     assert_eq!(exported::command(&mut copy, &[], &mut reply) != 0, sound);
     assert_eq!(exported::store(&mut copy, 0, 0, 0, &[]) != 9, sound);
     assert_eq!(exported::reset_member(&mut copy, 0) != 9, sound);
+    assert_eq!(exported::restore_begin(&mut copy, 0) != 9, sound);
+    assert_eq!(exported::restore_feed(&mut copy, 0, &[]) != 9, sound);
+    assert_eq!(exported::restore_finish(&mut copy, 0, 0) != 9, sound);
+    assert_eq!(exported::restore_drop(&mut copy, 0) != 9, sound);
     assert_eq!(copy, card);
     assert_eq!(exported::reset_card(&mut copy) != 9, sound);
     assert!(sound || (copy == card && reply == [PATTERN; 8]));
@@ -38,15 +44,19 @@ fn with(at: usize, byte: u8) -> Vec<u8> {
 #[test]
 fn the_layout() {
     let card = sample();
-    assert_eq!(card.len(), 28 + 2 * 222);
+    assert_eq!(card.len(), 28 + 2 * 1248);
     assert_eq!(card[..4], [2, 2, 1, 2]);
     assert_eq!(card[20..28], ALL.to_le_bytes());
     assert_eq!(card[28..33], [1, 1, 2, 0, 0]);
-    let second = &card[28 + 222..];
+    let second = &card[28 + 1248..];
     assert_eq!(second[..17], [0; 17]);
+    // A holding place of 300 bytes.
+    assert_eq!(second[17..19], [45, 1]);
     // Queue 1 follows 16 + 16 + 4 + 4 + 2 + 2 + 1 value bytes and queue 0.
-    assert_eq!(second[17 + 45 + 32..17 + 45 + 64], [9; 32]);
-    assert_eq!(second[17 + 45 + 64..], [0; 205 - 45 - 64]);
+    assert_eq!(second[19 + 45 + 32..19 + 45 + 64], [9; 32]);
+    assert_eq!(second[19 + 45 + 64..224], [0; 205 - 45 - 64]);
+    assert_eq!(second[224..224 + 300], [6; 300]);
+    assert_eq!(second[224 + 300..], [0; 724]);
 }
 
 #[test]
@@ -64,7 +74,7 @@ fn read_and_write_are_inverse() {
 fn the_length_is_exact() {
     let card = sample();
     assert!(sound(&card));
-    for length in [0, 27, 28, 28 + 222, card.len() - 1] {
+    for length in [0, 27, 28, 28 + 1248, card.len() - 1] {
         assert!(!sound(&card[..length]));
     }
     assert!(!sound(&[card, vec![0]].concat()));
@@ -81,7 +91,7 @@ fn the_setup_is_in_range() {
     for members in 1..=20 {
         let mut header = bytes::write(&card(1, 1, 0, 0))[..28].to_vec();
         header[0] = members;
-        let card = [header, vec![0; 222 * usize::from(members)]].concat();
+        let card = [header, vec![0; 1248 * usize::from(members)]].concat();
         assert_eq!(sound(&card), members <= 16);
     }
 }
@@ -118,38 +128,55 @@ fn objects_fit() {
 fn device_features_are_those_of_the_setup() {
     for at in 0..16 {
         assert!(!sound(&with(4 + at, 1)));
-        assert!(!sound(&with(28 + 17 + at, 1)));
-        assert!(!sound(&with(28 + 222 + 17 + at, 1)));
+        assert!(!sound(&with(28 + 19 + at, 1)));
+        assert!(!sound(&with(28 + 1248 + 19 + at, 1)));
     }
 }
 
 #[test]
 fn other_values_are_free_and_carried() {
-    for at in 28 + 17 + 16..28 + 222 {
+    for at in 28 + 19 + 16..28 + 1248 {
         let mut card = with(at, 0xff);
         assert!(sound(&card));
         let before = card.clone();
         assert_eq!(exported::reset_member(&mut card, 2), 0);
-        assert_eq!(card[..28 + 222], before[..28 + 222]);
+        assert_eq!(card[..28 + 1248], before[..28 + 1248]);
         assert_eq!(exported::reset_member(&mut card, 1), 0);
-        assert_eq!(card[28 + 17 + 16..], [0; 2 * 222 - 17 - 16][..]);
+        assert_eq!(card[28 + 19 + 16..], [0; 2 * 1248 - 19 - 16][..]);
+    }
+}
+
+#[test]
+fn a_holding_place_holds_1024_bytes_at_most() {
+    for number in (0..=1100u16).chain([1280, 2049, 4096, 0x8000, 0xfffe, 0xffff]) {
+        let mut card = sample();
+        card[28 + 17..28 + 19].copy_from_slice(&number.to_le_bytes());
+        let read = bytes::read(&card).unwrap();
+        assert_eq!(read.members[0].holding.held, number.checked_sub(1));
+        assert_eq!(read.is_sound(), number <= 1025);
+        assert_eq!(bytes::write(&read), card);
+    }
+    for (high, low, good) in [(4, 1, true), (4, 2, false), (0x80, 0, false), (0xff, 0xff, false)] {
+        let mut card = with(28 + 17, low);
+        card[28 + 18] = high;
+        assert_eq!(sound(&card), good);
     }
 }
 
 #[test]
 fn setup_makes_a_fresh_card_or_zeros() {
-    let mut card = vec![PATTERN; 28 + 2 * 222];
+    let mut card = vec![PATTERN; 28 + 2 * 1248];
     assert_eq!(exported::setup(&mut card, 2, 1, 1, 1, &[0; 16]), 0);
     assert_eq!(card, bytes::write(&fresh()));
     let refused: [(u64, u64, u64, u64, usize, usize); 9] = [
         (0, 1, 1, 1, 16, 28),
-        (17, 1, 1, 1, 16, 28 + 17 * 222),
-        (2, 0, 1, 1, 16, 28 + 2 * 222),
-        (2, 5, 1, 1, 16, 28 + 2 * 222),
-        (2, 1, 9, 1, 16, 28 + 2 * 222),
-        (2, 1, 1, 9, 16, 28 + 2 * 222),
-        (2, 1, 1, 1, 15, 28 + 2 * 222),
-        (2, 1, 1, 1, 16, 28 + 2 * 222 + 1),
+        (17, 1, 1, 1, 16, 28 + 17 * 1248),
+        (2, 0, 1, 1, 16, 28 + 2 * 1248),
+        (2, 5, 1, 1, 16, 28 + 2 * 1248),
+        (2, 1, 9, 1, 16, 28 + 2 * 1248),
+        (2, 1, 1, 9, 16, 28 + 2 * 1248),
+        (2, 1, 1, 1, 15, 28 + 2 * 1248),
+        (2, 1, 1, 1, 16, 28 + 2 * 1248 + 1),
         (2, 1, 1, 1, 16, 0),
     ];
     for (members, queues, gets, sets, features, length) in refused {
@@ -163,8 +190,8 @@ fn setup_makes_a_fresh_card_or_zeros() {
 
 #[test]
 fn the_length_of_a_card() {
-    assert_eq!(exported::card_bytes(1), 28 + 222);
-    assert_eq!(exported::card_bytes(16), 28 + 16 * 222);
+    assert_eq!(exported::card_bytes(1), 28 + 1248);
+    assert_eq!(exported::card_bytes(16), 28 + 16 * 1248);
     for members in [0, 17, 257, 1 << 32 | 1, u64::MAX] {
         assert_eq!(exported::card_bytes(members), 0);
     }

@@ -1,5 +1,6 @@
 //! Times full captures: the archive, the idiomatic plain card and the fastest
-//! plain Rust over bytes, with the same input in the same process.
+//! plain Rust over bytes, with the same input in the same process; and mode set,
+//! a command that changes a member, by the first two.
 
 use std::hint::black_box;
 use std::process::ExitCode;
@@ -18,41 +19,49 @@ use plain_card::{bytes, Card, Setup};
 
 const MEMBERS: u64 = 16;
 const QUEUES: u8 = 4;
-/// The contestants take turns; a run captures every member so many times.
+/// The contestants take turns; a run makes every request so many times.
 const RUNS: usize = 100;
 const TIMES: usize = 100;
 const REPLY: usize = 8 + 157 + 72 * QUEUES as usize;
 
 /// Hears a request and tells the bytes written.
 type Hear = Box<dyn FnMut(&[u8], &mut [u8]) -> usize>;
+/// A program with its name.
+type Contestant = (&'static str, Hear);
 
 const USAGE: &str = "\
 bench-capture [--help]
-  times full captures by the archive and by two plain Rust programs, and prints
-  the ratios";
+  times full captures by the archive and by two plain Rust programs, then mode
+  set by the archive and by one of them, and prints the ratios";
 
 fn main() -> ExitCode {
     if let Err(stop) = arguments::none(arguments::of_process()) {
         return stop.tell(USAGE);
     }
-    print_times();
+    let card = full_card();
+    let captures: Vec<Vec<u8>> =
+        (1..=MEMBERS).map(|member| Request::Get(member, 0, 1, &[]).bytes()).collect();
+    println!("{MEMBERS} members of {QUEUES} queues, {} full captures of each", RUNS * TIMES);
+    print_times("ns per capture", &mut contestants(&card), &captures, REPLY);
+    let modes: Vec<Vec<u8>> = (1..=MEMBERS)
+        .flat_map(|member| [0, 1].map(|mode| Request::Mode(member, mode).bytes()))
+        .collect();
+    println!("each resumed and stopped {} times", RUNS * TIMES);
+    print_times("ns per mode set", &mut contestants(&card)[..2], &modes, 8);
     ExitCode::SUCCESS
 }
 
-fn print_times() {
-    let card = full_card();
-    let requests: Vec<Vec<u8>> =
-        (1..=MEMBERS).map(|member| Request::Get(member, 0, 1, &[]).bytes()).collect();
-    let mut contestants = contestants(&card);
-    check_replies(&mut contestants, &requests);
-    let runs: Vec<[f64; 3]> =
-        (0..RUNS).map(|_| contestants.each_mut().map(|(_, hear)| time(hear, &requests))).collect();
-    println!("{MEMBERS} members of {QUEUES} queues, {} full captures of each", RUNS * TIMES);
-    println!("{:<34} {:>14} {:>16}", "", "ns per capture", "archive / this");
+/// Times the requests, which all have replies of one length.
+fn print_times(unit: &str, contestants: &mut [Contestant], requests: &[Vec<u8>], reply: usize) {
+    check_replies(contestants, requests, reply);
+    let runs: Vec<Vec<f64>> = (0..RUNS)
+        .map(|_| contestants.iter_mut().map(|(_, hear)| time(hear, requests)).collect())
+        .collect();
+    println!("{:<34} {unit:>16} {:>16}", "", "archive / this");
     for (index, (name, _)) in contestants.iter().enumerate() {
         let nanoseconds = median(runs.iter().map(|run| run[index]));
         let ratio = median(runs.iter().map(|run| run[0] / run[index]));
-        println!("{name:<34} {nanoseconds:>14.1} {ratio:>16.2}");
+        println!("{name:<34} {nanoseconds:>16.1} {ratio:>16.2}");
     }
 }
 
@@ -81,7 +90,7 @@ fn fill(random: &mut Random, member: &mut Member) {
 }
 
 /// The archive first, then what it is timed against.
-fn contestants(card: &Card) -> [(&'static str, Hear); 3] {
+fn contestants(card: &Card) -> [Contestant; 3] {
     let mut plain = card.clone();
     let mut lent = bytes::write(card);
     let mut fast = lent.clone();
@@ -98,14 +107,14 @@ fn contestants(card: &Card) -> [(&'static str, Hear); 3] {
     ]
 }
 
-/// Every contestant gives the same bytes for every member.
-fn check_replies(contestants: &mut [(&str, Hear)], requests: &[Vec<u8>]) {
+/// Every contestant gives the same bytes for every request.
+fn check_replies(contestants: &mut [Contestant], requests: &[Vec<u8>], length: usize) {
     for request in requests {
         let replies: Vec<[u8; REPLY]> = contestants
             .iter_mut()
             .map(|(name, hear)| {
                 let mut reply = [0xa5; REPLY];
-                assert_eq!(hear(request, &mut reply), REPLY, "{name}");
+                assert_eq!(hear(request, &mut reply), length, "{name}");
                 reply
             })
             .collect();
@@ -113,7 +122,7 @@ fn check_replies(contestants: &mut [(&str, Hear)], requests: &[Vec<u8>]) {
     }
 }
 
-/// Nanoseconds per capture in one run.
+/// Nanoseconds per request in one run.
 fn time(hear: &mut Hear, requests: &[Vec<u8>]) -> f64 {
     let mut reply = [0; REPLY];
     let start = Instant::now();

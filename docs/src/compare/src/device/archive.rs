@@ -23,7 +23,8 @@ pub type Misuse = fn(&Call, &mut Lending);
 pub struct Lending<'a> {
     /// The card.
     pub card: &'a mut Lent,
-    /// What the call only reads: request, features, value, list or reply.
+    /// What the call only reads: request, features, value, fragment, list or
+    /// reply.
     pub input: &'a mut Lent,
     /// The buffer that is written besides the card.
     pub reply: &'a mut Lent,
@@ -53,6 +54,10 @@ impl Archive {
             Call::Store { member, part_type, selector, .. } => {
                 raw::store(card, *member, *part_type, *selector, input).into()
             }
+            Call::Begin(member) => raw::restore_begin(card, *member) as usize,
+            Call::Feed { member, .. } => raw::restore_feed(card, *member, input) as usize,
+            Call::Finish { member, id } => raw::restore_finish(card, *member, *id) as usize,
+            Call::Drop(member) => raw::restore_drop(card, *member) as usize,
             Call::Build { fields, .. } => build(fields, input, reply),
             Call::Read { opcode, what, .. } => read_into(reply, |numbers| {
                 let [a, b, c, d] = numbers;

@@ -13,8 +13,7 @@ use crate::memory::Lent;
 
 /// A card that hears calls.
 pub trait Device {
-    /// Hears a call and tells the bytes written, or the answer of an event or
-    /// of the reader of replies.
+    /// Hears a call and tells the bytes written, or the answer.
     fn call(&mut self, call: &Call, reply: &mut Lent) -> usize;
 
     /// The card's bytes.
@@ -35,7 +34,7 @@ pub type Make<'a> = &'a dyn Fn() -> Box<dyn Device>;
 /// Everything that a call shows.
 #[derive(Clone, Debug, PartialEq, Eq)]
 pub struct Seen {
-    /// The bytes written, or the answer of an event or of the reader of replies.
+    /// The bytes written, or the answer.
     pub answer: usize,
     /// The whole buffer that is written besides the card.
     pub reply: Vec<u8>,

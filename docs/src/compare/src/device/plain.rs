@@ -2,7 +2,7 @@
 
 use plain_card::bytes;
 use plain_card::exported;
-use plain_card::status::{answer, EventError};
+use plain_card::status::{answer, restore_answer, EventError, RestoreError};
 use plain_card::{command, Card, Setup};
 
 use super::{read_into, Device};
@@ -37,8 +37,7 @@ impl Plain {
         matches!(self, Plain::Card(card) if card.is_sound())
     }
 
-    /// Hears a call and tells the bytes written, or the answer of an event or
-    /// of the reader of replies.
+    /// Hears a call and tells the bytes written, or the answer.
     pub fn hear(&mut self, call: &Call, reply: &mut [u8]) -> usize {
         match call {
             Call::CardBytes(members) => exported::card_bytes(*members),
@@ -60,6 +59,12 @@ impl Plain {
             Call::Store { member, part_type, selector, value } => {
                 self.event(|card| card.store(*member, *part_type, selector.to_le_bytes(), value))
             }
+            Call::Begin(member) => self.restore(|card| card.restore_begin(*member)),
+            Call::Feed { member, fragment } => {
+                self.restore(|card| card.restore_feed(*member, fragment))
+            }
+            Call::Finish { member, id } => self.restore(|card| card.restore_finish(*member, *id)),
+            Call::Drop(member) => self.restore(|card| card.restore_drop(*member)),
             Call::Build { fields, list, .. } => exported::build(&fields.request(list), reply),
             Call::Read { opcode, what, reply: read } => {
                 read_into(reply, |numbers| exported::reply_read(*opcode, *what, read, numbers))
@@ -85,6 +90,15 @@ impl Plain {
             Plain::NoCard(_) => Err(EventError::NotSound),
         };
         answer(outcome).into()
+    }
+
+    /// The answer of a call of a restore in fragments.
+    fn restore(&mut self, act: impl FnOnce(&mut Card) -> Result<(), RestoreError>) -> usize {
+        let outcome = match self {
+            Plain::Card(card) => act(card),
+            Plain::NoCard(_) => Err(RestoreError::NotSound),
+        };
+        restore_answer(outcome) as usize
     }
 }
 

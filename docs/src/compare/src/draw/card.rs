@@ -1,14 +1,18 @@
 //! Random setups and cards.
 
 use plain_card::bytes::{self, HEADER, RECORD};
+use plain_card::holding::ROOM;
 use plain_card::member::{Member, Mode};
 use plain_card::object::{Kind, IDS};
 use plain_card::opcode::SUPPORTED;
 use plain_card::part::{inventory, Part, MAX_QUEUES};
 use plain_card::{Card, Setup};
 
-use super::length;
+use super::{length, restore};
 use crate::random::Random;
+
+/// The length of a record ahead of the bytes of its holding place.
+const FIELDS: usize = RECORD - ROOM;
 
 /// The numbers of a setup in range, more often at an end of it.
 pub fn setup_numbers(random: &mut Random) -> [u64; 4] {
@@ -55,6 +59,9 @@ pub fn other_record(random: &mut Random, setup: &Setup) -> Member {
             member.objects.put(id, kind);
         }
     }
+    if random.chance(30) {
+        member.holding = restore::holding(random, setup);
+    }
     for part in inventory(MAX_QUEUES).filter(|part| *part != Part::DeviceFeatures) {
         if random.chance(50) {
             let value = random.bytes(part.length() as usize);
@@ -72,7 +79,7 @@ pub fn any_bytes(random: &mut Random) -> Vec<u8> {
         0 => break_rule(random, &mut card),
         1 => {
             for _ in 0..1 + random.below(3) {
-                let at = random.below(card.len());
+                let at = any_place(random, card.len());
                 card[at] = random.byte();
             }
         }
@@ -87,23 +94,37 @@ pub fn any_bytes(random: &mut Random) -> Vec<u8> {
     card
 }
 
+/// A byte of a card, more often one of the header and the fields of a record
+/// than one of the bytes of a holding place.
+fn any_place(random: &mut Random, length: usize) -> usize {
+    let at = random.below(length);
+    match at.checked_sub(HEADER) {
+        Some(at) if random.chance(80) => HEADER + at / RECORD * RECORD + at % RECORD % FIELDS,
+        _ => at,
+    }
+}
+
 /// Breaks one rule of soundness, if the setup leaves room for it; of a record
 /// more often in the last one.
 fn break_rule(random: &mut Random, card: &mut [u8]) {
     let last = (card.len() - HEADER) / RECORD - 1;
     let member = if random.chance(40) { last } else { random.below(last + 1) };
     let record = HEADER + RECORD * member;
-    let (objects, features) = (record + 1, record + 17);
+    let (objects, held, features) = (record + 1, record + 17, record + 19);
     let valid = usize::from(card[2] + card[3]);
-    match random.below(9) {
+    match random.below(10) {
         0 => card[1] = random.pick(&[0, 5, 255]),
         1 => card[2 + random.below(2)] = random.pick(&[9, 16, 255]),
         2 => card[4 + random.below(16)] ^= 1 << random.below(8),
         3 => card[20 + random.below(8)] |= 1 << random.below(8),
         4 => card[record] = random.pick(&[2, 3, 128, 255]),
         5 => card[objects + random.below(IDS)] = random.pick(&[3, 4, 128, 255]),
-        6 => card[objects + valid.min(IDS - 1)..features].fill(1 + random.byte() % 2),
+        6 => card[objects + valid.min(IDS - 1)..held].fill(1 + random.byte() % 2),
         7 => card[objects..objects + valid].fill(1 + random.byte() % 2),
+        8 => {
+            let number: u16 = random.pick(&[1026, 1027, 1280, 2049, 0x8000, 0xffff]);
+            card[held..features].copy_from_slice(&number.to_le_bytes());
+        }
         _ => card[features + random.below(16)] ^= 1 << random.below(8),
     }
 }

@@ -5,11 +5,14 @@ mod command;
 mod host;
 mod length;
 mod list;
+mod restore;
 mod spoil;
 
 pub use card::{any_bytes, other_record, setup_numbers, sound_card};
 pub use list::{asked, given};
+pub use restore::{list_to_restore, set_id};
 
+use plain_card::bytes::RECORD;
 use plain_card::opcode::Opcode;
 use plain_card::part::{inventory, Part, MAX_QUEUES};
 use plain_card::Card;
@@ -100,14 +103,15 @@ pub fn next(random: &mut Random, card: Option<&Card>, favoured: Favoured) -> Cal
     }
 }
 
-/// The next command or card event on a card.
+/// The next command, card event or call of a restore on a card.
 pub fn on_card(random: &mut Random, card: &Card, favoured: Favoured) -> Call {
     // Without list use nothing but a reset changes the list again.
     let locked = card.in_use & Opcode::ListUse.bit() == 0;
-    match random.weighted(&[80, 12, 5, if locked { 20 } else { 1 }]) {
+    match random.weighted(&[80, 12, 30, 5, if locked { 20 } else { 1 }]) {
         0 => command::command(random, card, favoured),
         1 => store(random, card, favoured),
-        2 => Call::ResetMember(any_member(random, card, favoured)),
+        2 => restore::restore(random, card, favoured),
+        3 => Call::ResetMember(any_member(random, card, favoured)),
         _ => Call::ResetCard,
     }
 }
@@ -123,7 +127,7 @@ fn setup(random: &mut Random) -> Call {
             0 => features.truncate(random.below(16)),
             1 => features.push(0),
             2 => features.resize(length::wrong(random, 16), 0),
-            3 => length = random.pick(&[0, 28, length - 1, length + 1, length + 222]),
+            3 => length = random.pick(&[0, 28, length - 1, length + 1, length + RECORD]),
             4 => length = length::wrong(random, length),
             5 => numbers[at] |= 1 << (8 + random.below(56)),
             _ => numbers[at] = any_count(random),

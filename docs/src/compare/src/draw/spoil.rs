@@ -54,7 +54,7 @@ fn opcode(random: &mut Random, request: &[u8]) -> u16 {
 }
 
 /// An id at the edges of validity.
-fn id(random: &mut Random, card: &Card) -> u32 {
+pub fn id(random: &mut Random, card: &Card) -> u32 {
     let valid = u32::from(card.setup.gets) + u32::from(card.setup.sets);
     let low = random.below(17) as u32;
     random.pick(&[valid, valid + 1, 15, 16, 255, 256, low | 1 << 8, low | 1 << 16, u32::MAX, low])

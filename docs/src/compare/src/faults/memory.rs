@@ -11,6 +11,7 @@ pub const FAULTS: &[Fault] = &[
     fault("memory: request read in words of 8", Plant::Misuse(request_words)),
     fault("memory: byte behind the value read", Plant::Misuse(value_behind)),
     fault("memory: byte behind the features read", Plant::Misuse(features_behind)),
+    fault("memory: byte behind the fragment read", Plant::Misuse(fragment_behind)),
     fault("memory: byte behind the card read", Plant::Misuse(card_behind)),
     fault("memory: byte ahead of the card read", Plant::Misuse(card_ahead)),
     fault("memory: byte behind the card written", Plant::Misuse(card_written)),
@@ -20,6 +21,7 @@ pub const FAULTS: &[Fault] = &[
     fault("memory: request changed", Plant::Misuse(request_changed)),
     fault("memory: value changed", Plant::Misuse(value_changed)),
     fault("memory: features changed", Plant::Misuse(features_changed)),
+    fault("memory: fragment changed", Plant::Misuse(fragment_changed)),
     fault("memory: a request at an odd offset misread", Plant::Misuse(request_offset)),
     fault("memory: a reply at offset 13 miswritten", Plant::Misuse(reply_offset)),
     fault("memory: a card at offset 15 miswritten", Plant::Misuse(card_offset)),
@@ -30,8 +32,8 @@ pub const FAULTS: &[Fault] = &[
     fault("memory: reply to read changed", Plant::Misuse(reply_read_changed)),
 ];
 
-/// The request of a command, the value of a store or the features of a setup,
-/// if that is what the call reads.
+/// The request of a command, the value of a store, the features of a setup or
+/// the fragment of a feed, if that is what the call reads.
 fn input<'a>(name: &str, call: &Call, lending: &'a mut Lending) -> Option<&'a mut Lent> {
     call.input().filter(|(input, _)| *input == name).map(|_| &mut *lending.input)
 }
@@ -91,6 +93,12 @@ fn features_behind(call: &Call, lending: &mut Lending) {
     }
 }
 
+fn fragment_behind(call: &Call, lending: &mut Lending) {
+    if let Some(fragment) = input("fragment", call, lending) {
+        read_behind(fragment);
+    }
+}
+
 fn card_behind(call: &Call, lending: &mut Lending) {
     if on_card(call) {
         read_behind(lending.card);
@@ -142,6 +150,12 @@ fn value_changed(call: &Call, lending: &mut Lending) {
 fn features_changed(call: &Call, lending: &mut Lending) {
     if let Some(features) = input("features", call, lending) {
         change(features);
+    }
+}
+
+fn fragment_changed(call: &Call, lending: &mut Lending) {
+    if let Some(fragment) = input("fragment", call, lending) {
+        change(fragment);
     }
 }
 

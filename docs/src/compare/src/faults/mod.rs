@@ -20,6 +20,7 @@ mod objects;
 mod order;
 mod parts;
 mod programs;
+mod restore;
 mod soundness;
 mod tools;
 
@@ -51,6 +52,8 @@ pub enum Property {
     Isolation,
     /// Neighbouring calls for different members in either order.
     Exchange,
+    /// A list restored in fragments, however it is cut.
+    Fragments,
     /// Built requests, sent, and their replies, read.
     Halves,
 }
@@ -81,7 +84,7 @@ pub struct Outcome<'a> {
     pub before: &'a Plain,
     /// The card after it.
     pub after: &'a mut Plain,
-    /// The bytes written, or the answer of an event.
+    /// The bytes written, or the answer.
     pub answer: &'a mut usize,
     /// The reply buffer.
     pub reply: &'a mut [u8],
@@ -150,7 +153,7 @@ impl Faulty {
         }
     }
 
-    /// Hears a call and tells the bytes written, or the answer of an event.
+    /// Hears a call and tells the bytes written, or the answer.
     fn hear(&mut self, call: &Call, reply: &mut [u8]) -> usize {
         match self.fault.map(|fault| &fault.plant) {
             None | Some(Plant::IsSound(_) | Plant::Misuse(_)) => self.plain.hear(call, reply),
@@ -229,6 +232,7 @@ pub fn all() -> Vec<&'static Fault> {
         objects::FAULTS,
         parts::FAULTS,
         events::FAULTS,
+        restore::FAULTS,
         exchange::FAULTS,
         host::FAULTS,
         soundness::FAULTS,

@@ -1,9 +1,14 @@
 //! Cards that are not sound, taken for sound ones.
 
 use plain_card::bytes::{HEADER, RECORD};
+use plain_card::frame::u16_at;
+use plain_card::holding::ROOM;
 use plain_card::opcode::SUPPORTED;
 
 use super::{fault, Fault, Plant};
+
+/// The number of an open place that is full.
+const MOST: u16 = ROOM as u16 + 1;
 
 pub const FAULTS: &[Fault] = &[
     fault("sound: list bits not looked at", Plant::Repair(list_bits)),
@@ -13,11 +18,15 @@ pub const FAULTS: &[Fault] = &[
     fault("sound: get objects not counted", Plant::Repair(gets)),
     fault("sound: queue count not looked at", Plant::Repair(queues)),
     fault("sound: member's features not compared", Plant::Repair(features)),
+    fault("sound: length held not looked at", Plant::Repair(held)),
     fault("sound: bytes behind the last record", Plant::Repair(length)),
     fault("is sound: yes whenever the setup is", Plant::IsSound(setup_alone)),
     fault("is sound: list bits not looked at", Plant::IsSound(list_bits)),
     fault("is sound: mode byte not looked at", Plant::IsSound(mode_byte)),
     fault("is sound: set objects not counted", Plant::IsSound(sets)),
+    fault("is sound: length held not looked at", Plant::IsSound(held)),
+    fault("is sound: 1,025 bytes held", Plant::IsSound(held_1025)),
+    fault("is sound: the bytes held looked at", Plant::IsSound(bytes_held)),
     fault("is sound: features of member 16 skipped", Plant::IsSound(last_features)),
     fault("is sound: members past the 8th skipped", Plant::IsSound(past_8)),
     fault("is sound: a stopped last member is not", Plant::IsSound(stopped_last)),
@@ -78,7 +87,7 @@ fn setup_alone(card: &mut Vec<u8>) {
 fn last_features(card: &mut Vec<u8>) {
     let Some(features) = card.get(4..20).map(<[u8]>::to_vec) else { return };
     if let Some(record) = records(card).nth(15) {
-        record[17..33].copy_from_slice(&features);
+        record[19..35].copy_from_slice(&features);
     }
 }
 
@@ -86,13 +95,36 @@ fn past_8(card: &mut Vec<u8>) {
     let Some(features) = card.get(4..20).map(<[u8]>::to_vec) else { return };
     for record in records(card).skip(8) {
         record.fill(0);
-        record[17..33].copy_from_slice(&features);
+        record[19..35].copy_from_slice(&features);
     }
 }
 
 fn stopped_last(card: &mut Vec<u8>) {
     if let Some(record) = records(card).last().filter(|record| record[0] == 1) {
         record[0] = 2;
+    }
+}
+
+fn held(card: &mut Vec<u8>) {
+    for record in records(card).filter(|record| u16_at(record, 17) > MOST) {
+        record[17..19].copy_from_slice(&MOST.to_le_bytes());
+    }
+}
+
+fn held_1025(card: &mut Vec<u8>) {
+    for record in records(card).filter(|record| u16_at(record, 17) == MOST + 1) {
+        record[17..19].copy_from_slice(&MOST.to_le_bytes());
+    }
+}
+
+/// A card with other bytes than zero behind those held counts as not sound.
+fn bytes_held(card: &mut Vec<u8>) {
+    for record in records(card) {
+        let held = usize::from(u16_at(record, 17)).saturating_sub(1);
+        let behind = record.get(RECORD - ROOM + held..).unwrap_or_default();
+        if behind.iter().any(|byte| *byte != 0) {
+            record[0] = 2;
+        }
     }
 }
 
@@ -104,7 +136,7 @@ fn queues(card: &mut Vec<u8>) {
 
 fn features(card: &mut Vec<u8>) {
     if let Some(features) = card.get(4..20).map(<[u8]>::to_vec) {
-        records(card).for_each(|record| record[17..33].copy_from_slice(&features));
+        records(card).for_each(|record| record[19..35].copy_from_slice(&features));
     }
 }
 
