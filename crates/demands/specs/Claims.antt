@@ -161,7 +161,7 @@ CommandsCommute =
     → names m (command q i) ≡ true → names k (command r j) ≡ true
     → (p t : List Call) → Swappable step c p (command q i) (command r j) t
 
--- ---- REQUEST 6 of document 02: a restore in fragments ----
+-- ---- REQUEST 6, SPEC 13.6: a restore in fragments ----
 
 -- What finish does, what is held, and that it does not matter how the bytes are cut: staging/specs/Claims.antt. Example:
 -- ../proofs/RestoreExample.antt
