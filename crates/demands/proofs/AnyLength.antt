@@ -35,7 +35,7 @@ use Rattle.frame.specs.Ask.{framedOf, askOf}
 use Rattle.frame.proofs.Lengths.{rest-ignored, missing-zero, ask-more}
 use Rattle.reply.specs.Result.{resultOf}
 use Rattle.admin.specs.Command.{askIn, effect, perform, respond}
-use Rattle.demands.specs.Claims.{AnyLength}
+use Rattle.demands.specs.Claims.{MissingIsZero, RestIsIgnored}
 
 -- ---- the list of a request counts with parts get, selected, and with parts set alone ----
 
@@ -141,7 +141,7 @@ module _ (c r x : List ℕ) (room : ℕ) (long : 24 ≤ length r) (short : lengt
   unfolding respond Same
   respond-same = rw (ask-same, done-same)
 
--- ---- the claim ----
+-- ---- the claims ----
 
 -- the fixed fields of the two that have a list of parts
 get-fixed : fixedSize 0x0f ≡ 16
@@ -156,9 +156,8 @@ set-fixed = refl
 no-list : (n : ℕ) (r s : List ℕ) → length r ≤ n → length s ≤ n → drop n s ≡ drop n r
 no-list n r s h l = drop-of-length-le s l ∙ sym (drop-of-length-le r h)
 
-any-missing : (c r : List ℕ) (n room : ℕ) → 24 ≤ length r → length r + n ≤ 24 + fixedSize (opcodeOf r)
-    → respond c (r ++ replicate n 0) room ≡ respond c r room
-any-missing c r n room h l =
+pub missing-is-zero : MissingIsZero
+missing-is-zero c r n room h l =
     let k : length (r ++ replicate n 0) ≡ length r + n = rw (length-append, length-replicate) in
     let most = fixed-longest (opcodeOf r) in
     respond-same c r (replicate n 0) room h (omega arith)
@@ -166,13 +165,9 @@ any-missing c r n room h l =
     (λ o. let f : fixedSize (opcodeOf r) ≡ 8 = rw o set-fixed in no-list 32 r (r ++ replicate n 0) (omega arith) (omega arith))
     (λ ids m s. missing-zero ids m (opcodeOf r) n (dataOf r) s (omega (arith, length-drop 24 r)))
 
-any-ignored : (c r x : List ℕ) (room : ℕ) → 24 + fixedSize (opcodeOf r) ≤ length r → opcodeRow (opcodeOf r) .listed ≡ false
-    → length r + length x ≤ 4096 → respond c (r ++ x) room ≡ respond c r room
+pub rest-is-ignored : RestIsIgnored
 unfolding opcodeRow opcodeRows
-any-ignored c r x room h o l =
+rest-is-ignored c r x room h o l =
     respond-same c r x room (omega arith) (rw length-append l)
     (λ e. let z = rw e at o in cc) (λ e. let z = rw e at o in cc)
     (λ ids m s. rest-ignored ids m (opcodeOf r) (dataOf r) x s o (omega (arith, length-drop 24 r)))
-
-pub any-length : AnyLength
-any-length = record { missing = any-missing; ignored = any-ignored }

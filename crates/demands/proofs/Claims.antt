@@ -8,7 +8,7 @@ use Rattle.demands.proofs.Examples.{examples-hold}
 use Rattle.demands.proofs.LengthExamples.{length-examples-hold}
 use Rattle.demands.proofs.Taken.{taken}
 use Rattle.demands.proofs.ReadBack.{read-back}
-use Rattle.demands.proofs.AnyLength.{any-length}
+use Rattle.demands.proofs.AnyLength.{missing-is-zero, rest-is-ignored}
 use Rattle.demands.proofs.WrongPrograms.{wrong-programs-rejected}
 use Rattle.demands.proofs.RoundTrip.{round-trip}
 use Rattle.demands.proofs.Isolation.{isolation}
@@ -30,7 +30,8 @@ claims = record {
   integrity = integrity;
   taken = taken;
   readBack = read-back;
-  anyLength = any-length;
+  missingIsZero = missing-is-zero;
+  restIsIgnored = rest-is-ignored;
   lengthExamples = length-examples-hold;
   commutation = commutation;
   commandsCommute = commands-commute;

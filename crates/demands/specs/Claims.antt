@@ -112,15 +112,21 @@ pub record Integrity : Type 0 where
 
 -- ---- REQUEST 2 of document 02: requests of any length ----
 
--- Whatever the card is, bytes more at the end of a request change neither the card after it nor its reply, if they are
--- zeros within the fixed fields of its command ("missing bytes of the fixed fields read as zero"), or any bytes past the
--- fixed fields of a command that has no open list, up to 4,096 in all ("bytes past a command's fixed fields are
--- ignored"). Examples: cut-create, whole-create; worked examples: Lengths.antt
-pub record AnyLength : Type 0 where
-  pub missing : (c r : List ℕ) (n room : ℕ) → 24 ≤ length r → length r + n ≤ 24 + fixedSize (opcodeOf r)
-      → respond c (r ++ replicate n 0) room ≡ respond c r room
-  pub ignored : (c r x : List ℕ) (room : ℕ) → 24 + fixedSize (opcodeOf r) ≤ length r → opcodeRow (opcodeOf r) .listed ≡ false
-      → length r + length x ≤ 4096 → respond c (r ++ x) room ≡ respond c r room
+-- Whatever the card is, bytes more at the end of a request change neither the card after it nor its reply:
+-- zeros within the fixed fields of its command, "missing bytes of the fixed fields read as zero". Example: cut-create
+abbrev pub MissingIsZero : Type 0
+MissingIsZero =
+    (c r : List ℕ) (n room : ℕ) → 24 ≤ length r → length r + n ≤ 24 + fixedSize (opcodeOf r)
+    → respond c (r ++ replicate n 0) room ≡ respond c r room
+
+-- and any bytes past the fixed fields of a command that has no open list, up to 4,096 in all, "bytes past a command's
+-- fixed fields are ignored". Example: whole-create
+abbrev pub RestIsIgnored : Type 0
+RestIsIgnored =
+    (c r x : List ℕ) (room : ℕ) → 24 + fixedSize (opcodeOf r) ≤ length r → opcodeRow (opcodeOf r) .listed ≡ false
+    → length r + length x ≤ 4096 → respond c (r ++ x) room ≡ respond c r room
+
+-- The worked examples L1 to L15: Lengths.antt
 
 -- ---- REQUEST 12 of document 02: calls for different members, in any order ----
 
@@ -160,7 +166,8 @@ pub record Claims : Type 1 where
   pub taken : Taken
   pub readBack : ReadBack
   -- request 2
-  pub anyLength : AnyLength
+  pub missingIsZero : MissingIsZero
+  pub restIsIgnored : RestIsIgnored
   pub lengthExamples : LengthExamplesHold
   -- request 12
   pub commutation : Commutation

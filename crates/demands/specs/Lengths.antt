@@ -1,5 +1,5 @@
 -- WORKED EXAMPLES of requests of any length (02, request 2): a second table, on the card of Examples.antt and in its form.
--- Assumes nothing.
+-- The program worked_examples runs L1 to L7. Assumes nothing.
 use mathlib.Core.Path.{_≡_}
 use mathlib.Core.List.{List, [], _∷_, _++_, map}
 use Prim.Native.Nat.{ℕ}
@@ -7,7 +7,7 @@ use lib.ListN.{replicate}
 use Rattle.wire.specs.Le.{bytes}
 use Rattle.host.specs.Request.{request, objectHeader, setParts}
 use Rattle.demands.specs.Calls.{Call, command, cardReset, answered, step}
-use Rattle.demands.specs.Examples.{exampleCard, send, setMode, allUsed, objectsLive, refuses, gives, succeeds, aNumber, header, headerBytes, nineParts, driverPart, Example, example, repliesTo}
+use Rattle.demands.specs.Examples.{exampleCard, send, useList, setMode, allUsed, objectsLive, refuses, gives, succeeds, aNumber, header, headerBytes, nineParts, driverPart, Example, example, repliesTo}
 
 -- a command with this data, for member 1
 abbrev pub sendData : ℕ → List ℕ → Call
@@ -30,36 +30,37 @@ lengthExamples =
     ∷ example allUsed
     (sendData 0x0a (objectHeader 0 ++ (replicate 16 0 ++ replicate 6 0xff)) ∷ sendData 0x0c [] ∷ [])
     (succeeds ∷ gives (replicate 8 0) ∷ [])
-    -- L3 a field of which some bytes came is not zero for that: id 256 of two bytes, flags 1 of one byte
+    -- L3 empty mode set resumes the member, so a parts set is 11/7
+    ∷ example objectsLive (setMode 1 1 ∷ sendData 0x11 [] ∷ send (setParts 1 1 (driverPart 7)) ∷ [])
+    (succeeds ∷ succeeds ∷ refuses 11 7 ∷ [])
+    -- L4 empty list use, and then list query: 22/2
+    ∷ example allUsed (sendData 0x01 [] ∷ sendData 0x00 [] ∷ []) (succeeds ∷ refuses 22 2 ∷ [])
+    -- L5 list use of 9 bytes with a bit in the last
+    ∷ example [] (sendData 0x01 (bytes 8 3 ++ (1 ∷ [])) ∷ []) (refuses 22 3 ∷ [])
+    -- L6 get-all with one byte past 16, a zero: 22/3, ahead of the object that is not live
+    ∷ example allUsed (sendData 0x0f (objectHeader 0 ++ (1 ∷ replicate 8 0)) ∷ []) (refuses 22 3 ∷ [])
+    -- L7 selected, of one header and a half: 22/3, ahead of a buffer that is too short
+    ∷ example objectsLive (command getHalf 8 ∷ []) (refuses 22 3 ∷ [])
+    -- L8 after empty list use, list use is blocked too, until a reset of the card
+    ∷ example (useList 0x3fc03 ∷ sendData 0x01 [] ∷ []) (sendData 0x01 (bytes 8 3) ∷ cardReset ∷ sendData 0x00 [] ∷ [])
+    (refuses 22 2 ∷ answered 0 ∷ gives (bytes 8 0x3fc03) ∷ [])
+    -- L9 list use of 9 bytes, the last zero; of 3 bytes, the whole mask
+    ∷ example [] (sendData 0x01 (bytes 8 3 ++ (0 ∷ [])) ∷ sendData 0x01 (0x03 ∷ 0xfc ∷ 0x03 ∷ []) ∷ setMode 1 1 ∷ [])
+    (succeeds ∷ succeeds ∷ succeeds ∷ [])
+    -- L10 a field of which some bytes came is not zero for that: id 256 of two bytes, flags 1 of one byte
     ∷ example allUsed
     (sendData 0x0a (replicate 4 0 ++ (0 ∷ 1 ∷ [])) ∷ sendData 0x0a (objectHeader 0 ++ (1 ∷ [])) ∷ [])
     (refuses 22 3 ∷ refuses 22 3 ∷ [])
-    -- L4 empty mode set resumes the member, so a parts set is 11/7
-    ∷ example objectsLive (setMode 1 1 ∷ sendData 0x11 [] ∷ send (setParts 1 1 (driverPart 7)) ∷ [])
-    (succeeds ∷ succeeds ∷ refuses 11 7 ∷ [])
-    -- L5 empty list use blocks every command, list use too, until a reset of the card
-    ∷ example allUsed
-    (sendData 0x01 [] ∷ sendData 0x00 [] ∷ sendData 0x01 (bytes 8 3) ∷ cardReset ∷ sendData 0x00 [] ∷ [])
-    (succeeds ∷ refuses 22 2 ∷ refuses 22 2 ∷ answered 0 ∷ gives (bytes 8 0x3fc03) ∷ [])
-    -- L6 list use of 9 bytes, with a bit in the last and without; of 3 bytes, the whole mask
-    ∷ example []
-    (sendData 0x01 (bytes 8 3 ++ (1 ∷ [])) ∷ sendData 0x01 (bytes 8 3 ++ (0 ∷ [])) ∷ sendData 0x01 (0x03 ∷ 0xfc ∷ 0x03 ∷ [])
-    ∷ setMode 1 1 ∷ [])
-    (refuses 22 3 ∷ succeeds ∷ succeeds ∷ succeeds ∷ [])
-    -- L7 get-all with one byte past 16, a zero: 22/3, ahead of the object that is not live
-    ∷ example allUsed (sendData 0x0f (objectHeader 0 ++ (1 ∷ replicate 8 0)) ∷ []) (refuses 22 3 ∷ [])
-    -- L8 get-all cut after its type byte
+    -- L11 get-all cut after its type byte
     ∷ example objectsLive (sendData 0x0f (objectHeader 0 ++ (1 ∷ [])) ∷ []) (gives nineParts ∷ [])
-    -- L9 selected, of one header and a half: 22/3, ahead of a buffer that is too short
-    ∷ example objectsLive (command getHalf 8 ∷ []) (refuses 22 3 ∷ [])
-    -- L10 the same through an object that is not live: 6/1
+    -- L12 the request of L7 through an object that is not live: 6/1
     ∷ example allUsed (send getHalf ∷ []) (refuses 6 1 ∷ [])
-    -- L11 parts get and metadata of no data: object 0, selected, an empty list; and the size
+    -- L13 parts get and metadata of no data: object 0, selected, an empty list; and the size
     ∷ example objectsLive (sendData 0x0f [] ∷ sendData 0x0e [] ∷ []) (succeeds ∷ gives (aNumber 229) ∷ [])
-    -- L12 parts set of 5 bytes: object 1 and an empty list; of 9, a list that is cut
+    -- L14 parts set of 5 bytes: object 1 and an empty list; of 9, a list that is cut
     ∷ example objectsLive (setMode 1 1 ∷ sendData 0x10 cutHeader ∷ sendData 0x10 (objectHeader 1 ++ (0 ∷ [])) ∷ [])
     (succeeds ∷ succeeds ∷ refuses 22 3 ∷ [])
-    -- L13 step 2 stays: a request of 23 bytes is 22/1
+    -- L15 step 2 stays: a request of 23 bytes is 22/1
     ∷ example allUsed (send (replicate 23 0) ∷ []) (refuses 22 1 ∷ [])
     ∷ []
 

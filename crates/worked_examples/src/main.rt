@@ -1,5 +1,5 @@
 // The worked examples of document 01, B1 to B12 and the metadata list, and those of requests of any length (02, request 2),
-// L1 to L13, through the exported library: each reply in hexadecimal under its name. Setup: two members, one queue, one get
+// L1 to L7, through the exported library: each reply in hexadecimal under its name. Setup: two members, one queue, one get
 // and one set object each, features all zero.
 use transcript::GET;
 use transcript::Request;
@@ -204,7 +204,7 @@ fn room(card: &mut [u8]) {
 
 // ---- requests of any length, for member 1: built ones that are cut, or have bytes more ----
 
-// An object header that ends after the first byte of its id.
+// The object header ends after the first byte of its id.
 fn query_of_5() -> Request {
     Request::query(1, 1).cut(11)
 }
@@ -222,43 +222,9 @@ fn create_of_30() -> Request {
     r.more(0xff).more(0xff).more(0xff)
 }
 
-// Id 256, of which two bytes came.
-fn create_of_6() -> Request {
-    create(0x100, GET).cut(18)
-}
-
-// Flags 1, of which one byte came.
-fn create_of_9() -> Request {
-    create(0, GET).cut(16).more(1)
-}
-
-fn use_of_9(last: u8) -> Request {
-    Request::list_use(3).more(last)
-}
-
-fn use_of_3() -> Request {
-    Request::list_use(transcript::ALL).cut(5)
-}
-
-fn use_of_0() -> Request {
-    Request::list_use(3).cut(8)
-}
-
-fn mode_of_0() -> Request {
-    Request::mode_set(1, 1).cut(1)
-}
-
-// The first header and half of the second.
-fn get_of_40() -> Request {
+// A header and the first half of another.
+fn get_half() -> Request {
     Request::get(1, 0, 0, &TWO).cut(8)
-}
-
-fn get_of_0() -> Request {
-    Request::get_all(1).cut(16)
-}
-
-fn set_of_5() -> Request {
-    Request::set(1, 1, &[]).cut(3)
 }
 
 // ---- each example on a card of its own ----
@@ -286,106 +252,56 @@ fn long_create(card: &mut [u8]) {
     show(b"L2 query of no data", query_of_0(), card);
 }
 
-fn cut_fields(card: &mut [u8]) {
-    all_used(card);
-    show(b"L3 create, id 256 of two bytes", create_of_6(), card);
-    show(b"L3 create, flags 1 of one byte", create_of_9(), card);
-}
-
 fn resumed(card: &mut [u8]) {
     objects_live(card);
     send(Request::mode_set(1, 1), card);
-    show(b"L4 mode set of no data", mode_of_0(), card);
-    show(b"L4 parts set", set_once(), card);
+    show(
+        b"L3 mode set of no data",
+        Request::mode_set(1, 1).cut(1),
+        card,
+    );
+    show(b"L3 parts set", set_once(), card);
 }
 
 fn blocked(card: &mut [u8]) {
     all_used(card);
-    show(b"L5 list use of no data", use_of_0(), card);
-    show(b"L5 list query", Request::list_query(), card);
+    show(b"L4 list use of no data", Request::list_use(3).cut(8), card);
+    show(b"L4 list query", Request::list_query(), card);
 }
 
-fn unblocked(card: &mut [u8]) {
-    show(b"L5 list use", Request::list_use(3), card);
-    kajurnat::kajurnat_reset_card(card);
-    show(b"L5 list query, card reset", Request::list_query(), card);
-}
-
-fn long_masks(card: &mut [u8]) {
+fn long_mask(card: &mut [u8]) {
     fresh(card);
-    show(b"L6 list use of 9 bytes, bit 64", use_of_9(1), card);
-    show(b"L6 list use of 9 bytes, the last zero", use_of_9(0), card);
-}
-
-fn short_mask(card: &mut [u8]) {
-    show(b"L6 list use of 3 bytes", use_of_3(), card);
-    show(b"L6 mode set", Request::mode_set(1, 1), card);
-}
-
-fn all_asked(card: &mut [u8]) {
-    all_used(card);
     show(
-        b"L7 get all, one byte past 16",
-        Request::get_all(1).more(0),
+        b"L5 list use of 9 bytes, bit 64",
+        Request::list_use(3).more(1),
         card,
     );
-    objects_live(card);
-    show(b"L8 get all of 9 bytes", Request::get_all(1).cut(7), card);
 }
 
 fn cut_lists(card: &mut [u8]) {
     let mut short = [0u8; 8];
+    all_used(card);
+    show(
+        b"L6 get all, one byte past 16",
+        Request::get_all(1).more(0),
+        card,
+    );
     objects_live(card);
     show_in(
-        b"L9 one header and a half, room for 8",
-        get_of_40(),
+        b"L7 one header and a half, room for 8",
+        get_half(),
         card,
         &mut short,
     );
-    all_used(card);
-    show(b"L10 one header and a half, no object", get_of_40(), card);
 }
 
-fn empty_lists(card: &mut [u8]) {
-    objects_live(card);
-    show(b"L11 parts get of no data", get_of_0(), card);
-    show(b"L11 metadata of no data", metadata(0).cut(16), card);
-}
-
-fn lists_given(card: &mut [u8]) {
-    objects_live(card);
-    send(Request::mode_set(1, 1), card);
-    show(b"L12 parts set of 5 bytes", set_of_5(), card);
-    show(b"L12 parts set of 9 bytes", Request::set(1, 1, &[0]), card);
-}
-
-// Shorter than the frame.
-fn no_frame(card: &mut [u8]) {
-    let mut reply = [0u8; 512];
-    let written = kajurnat::kajurnat_command(card, &[0u8; 23], &mut reply);
-    show_reply(b"L13 a request of 23 bytes", &reply, written);
-}
-
-fn fields_of_any_length(card: &mut [u8]) {
+fn any_length(card: &mut [u8]) {
     cut_create(card);
     long_create(card);
-    cut_fields(card);
     resumed(card);
-}
-
-fn masks_of_any_length(card: &mut [u8]) {
     blocked(card);
-    unblocked(card);
-    long_masks(card);
-    short_mask(card);
-}
-
-fn lists_of_any_length(card: &mut [u8]) {
-    all_asked(card);
+    long_mask(card);
     cut_lists(card);
-    empty_lists(card);
-    lists_given(card);
-    no_frame(card);
 }
 
 fn main() {
@@ -399,7 +315,5 @@ fn main() {
     parts(&mut card);
     stopped(&mut card);
     room(&mut card);
-    fields_of_any_length(&mut card);
-    masks_of_any_length(&mut card);
-    lists_of_any_length(&mut card);
+    any_length(&mut card);
 }
