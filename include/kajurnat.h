@@ -3,7 +3,9 @@
  * devices. Group administration commands, resource objects, device parts.
  *
  * Link libkajurnat.a. The library has no state of its own: a card is a buffer
- * that the caller lends for the time of a call.
+ * that the caller lends for the time of a call. It has both halves: the card's,
+ * which carries out commands, and the host's, which builds the requests and
+ * reads the replies.
  *
  * Proved of every call, whatever its arguments:
  *   - It returns, touches no byte outside the buffers that it is lent, and
@@ -16,20 +18,24 @@
  *     card of the same setup, and a capture there gives the same bytes.
  *   - Once a member is reset, no reply and no byte of the card depends on the
  *     commands and stores that named it before.
+ *   - A card takes a built request as the command and the fields that it was
+ *     built from, if these are inside its setup's numbers; and whatever it
+ *     answers to a built request is read as it was meant.
  *
  * The caller is trusted for this:
  *   - Each pointer is valid for the length beside it: for reads where it is
  *     const, for reads and writes where it is not. With length 0 any pointer
  *     will do, NULL too; nothing is read or written through it.
  *   - The buffers of a call do not overlap: card, request and reply are apart
- *     from each other, and so are card and features, card and value.
+ *     from each other, and so are card and features, card and value, request
+ *     and list, and the reply and the four numbers that it is read into.
  *   - Until the call returns, nothing else writes to its buffers, and nothing
  *     else reads those that it writes. There is no lock inside: one call at a
  *     time for each card. Calls on different cards may run at once.
  *   - Only these functions write to a card. It may be copied, moved and kept
  *     in a file as it is, for a library of the same KAJURNAT_VERSION.
  *
- * Bytes that are not a sound card are refused by every call but
+ * Bytes that are not a sound card are refused by every call on a card but
  * kajurnat_setup(). Trusted too are the compiler that made the archive, the
  * linker, the three C functions that the archive calls, that the stack is deep
  * enough, and the machine.
@@ -62,7 +68,7 @@ extern "C" {
 #define KAJURNAT_VERSION 1
 
 /* The stack that a call takes at most, memcpy, memmove and memset aside. */
-#define KAJURNAT_STACK_BYTES 2048
+#define KAJURNAT_STACK_BYTES 2304
 
 /* ---- Setup and answers ------------------------------------------------ */
 
@@ -97,6 +103,10 @@ enum {
 /* ---- Requests and replies --------------------------------------------- */
 
 /*
+ * A host builds requests and reads replies with the functions at the end; it
+ * needs to know of results, parts and their headers alone. This is how the
+ * bytes are laid out.
+ *
  * A request is a head of 24 bytes and the data of its command. All numbers
  * are little-endian.
  *
@@ -128,17 +138,28 @@ enum {
 #define KAJURNAT_REPLY_BYTES_MAX \
     (KAJURNAT_REPLY_HEAD_BYTES + KAJURNAT_CAPTURE_BYTES(KAJURNAT_QUEUES_MAX))
 
-/* Opcodes, with the length of the data and of the result. */
+/*
+ * Opcodes, with the length of the fixed fields of the data, what follows them,
+ * and the length of the result.
+ *
+ * Data may have any length. Bytes of the fixed fields that are missing read as
+ * zero, each for itself: an id of which one byte came has three zero bytes
+ * more. So without data mode set resumes, and list use blocks every command
+ * until kajurnat_reset_card(). Bytes past the fixed fields are
+ *   - bits of opcodes from 64 on, in list use: zero, or the mask is refused;
+ *   - a list of headers or of parts, in parts get and parts set;
+ *   - ignored, in every other command.
+ */
 enum {
-    KAJURNAT_CMD_LIST_QUERY = 0x00,             /* 0; mask of opcodes, 8 */
-    KAJURNAT_CMD_LIST_USE = 0x01,               /* mask of opcodes, 8; 0 */
+    KAJURNAT_CMD_LIST_QUERY = 0x00,             /*  0; mask of opcodes, 8 */
+    KAJURNAT_CMD_LIST_USE = 0x01,               /*  8, mask of opcodes; 0 */
     KAJURNAT_CMD_RESOURCE_OBJ_CREATE = 0x0a,    /* 24; 0 */
     KAJURNAT_CMD_RESOURCE_OBJ_MODIFY = 0x0b,    /* 24; 0 */
     KAJURNAT_CMD_RESOURCE_OBJ_QUERY = 0x0c,     /* 16; 8 */
     KAJURNAT_CMD_RESOURCE_OBJ_DESTROY = 0x0d,   /*  8; 0 */
     KAJURNAT_CMD_DEV_PARTS_METADATA_GET = 0x0e, /* 16; 8 (+ 16 a part) */
-    KAJURNAT_CMD_DEV_PARTS_GET = 0x0f,          /* 16 (+ 16 a part); parts */
-    KAJURNAT_CMD_DEV_PARTS_SET = 0x10,          /*  8 + parts; 0 */
+    KAJURNAT_CMD_DEV_PARTS_GET = 0x0f,          /* 16, headers; parts */
+    KAJURNAT_CMD_DEV_PARTS_SET = 0x10,          /*  8, parts; 0 */
     KAJURNAT_CMD_DEV_MODE_SET = 0x11            /*  1; 0 */
 };
 
@@ -170,7 +191,8 @@ enum {
 
 /*
  * The order of refusals. The first row that applies answers, and the card
- * stays as it was; if none applies, the command succeeds.
+ * stays as it was; if none applies, the command succeeds. The rows have the
+ * numbers of the specification's steps; there is no row 6.
  *
  *    1  (0 bytes written)       the card is not sound, or the reply buffer is
  *                               under 8 bytes
@@ -178,13 +200,13 @@ enum {
  *    3  EINVAL INVALID_GROUP    the group type is not KAJURNAT_GROUP_SRIOV
  *    4  EINVAL INVALID_OPCODE   the opcode is not supported, or not in use
  *    5  EINVAL INVALID_MEMBER   0x0a to 0x11: there is no such member
- *    6  EINVAL INVALID_COMMAND  the data is not of the command's length
  *    7  EINVAL INVALID_FIELD    a mask bit that is not supported, an object
  *                               type other than KAJURNAT_OBJ_DEV_PARTS, an id
  *                               of gets + sets or more, flags that are not
  *                               zero, a kind, a metadata or a get byte out of
- *                               range, one of the mode bits 1 to 7, headers
- *                               with KAJURNAT_PARTS_ALL
+ *                               range, one of the mode bits 1 to 7, a byte
+ *                               past the fixed fields with
+ *                               KAJURNAT_PARTS_ALL
  *    8  EEXIST INVALID_COMMAND  create: the id is live
  *       ENXIO  INVALID_COMMAND  0x0b to 0x10: the id is not live
  *       ENOSPC INVALID_COMMAND  create, modify: there would be more than gets
@@ -283,7 +305,7 @@ enum {
  * A value is kept and given back whole, its reserved bytes too.
  *
  * A list of parts is taken whole or not at all. It is bad if
- *   - a header or a value runs past its end;
+ *   - a header or a value runs past its end, also a header that is asked for;
  *   - it has a part that the member does not have. Parts set skips such a part
  *     if it has KAJURNAT_PART_F_OPTIONAL and a type below 0x600;
  *   - a value to set is not of the part's length;
@@ -361,6 +383,88 @@ uint32_t kajurnat_version(void);
 uint8_t kajurnat_store(uint8_t *card, size_t card_len, uint64_t member,
                        uint16_t part_type, uint64_t selector,
                        const uint8_t *value, size_t value_len);
+
+/* ---- Functions of the host's half ------------------------------------- */
+
+/*
+ * The builders, one for each command. Each writes the request at the start of
+ * the buffer and returns its length; the bytes of the buffer past it keep their
+ * values. It returns 0, with nothing written, if the request is over
+ * KAJURNAT_REQUEST_BYTES_MAX or too long for the buffer, and only then.
+ *
+ * Fields and lists go in as they are given, and every byte that is no field is
+ * zero. A card takes the request as that command with those fields, if
+ *   - the fields are inside its setup's numbers: member, id, kind and type
+ *     byte, mode, supported bits of a mask;
+ *   - a list of headers has whole headers, and none with KAJURNAT_PARTS_ALL.
+ * It refuses others. No request without a list is over 48 bytes.
+ */
+
+/* Asks for the mask of the supported commands. */
+size_t kajurnat_request_list_query(uint8_t *request, size_t request_len);
+
+/* Puts the commands of the mask in use, and no others. */
+size_t kajurnat_request_list_use(uint8_t *request, size_t request_len,
+                                 uint64_t mask);
+
+/* Creates an object; kind is KAJURNAT_OBJ_GET or KAJURNAT_OBJ_SET. */
+size_t kajurnat_request_create(uint8_t *request, size_t request_len,
+                               uint64_t member, uint32_t id, uint8_t kind);
+
+/* Gives an object another kind. */
+size_t kajurnat_request_modify(uint8_t *request, size_t request_len,
+                               uint64_t member, uint32_t id, uint8_t kind);
+
+/* Asks for the kind of an object. */
+size_t kajurnat_request_query(uint8_t *request, size_t request_len,
+                              uint64_t member, uint32_t id);
+
+/* Ends an object. */
+size_t kajurnat_request_destroy(uint8_t *request, size_t request_len,
+                                uint64_t member, uint32_t id);
+
+/* Asks about all parts; what is one of KAJURNAT_METADATA_.. */
+size_t kajurnat_request_metadata(uint8_t *request, size_t request_len,
+                                 uint64_t member, uint32_t id, uint8_t what);
+
+/* Asks for the parts of the headers with KAJURNAT_PARTS_SELECTED, or, without
+ * headers, for all parts with KAJURNAT_PARTS_ALL. */
+size_t kajurnat_request_get(uint8_t *request, size_t request_len,
+                            uint64_t member, uint32_t id, uint8_t which,
+                            const uint8_t *headers, size_t headers_len);
+
+/* Sets the parts of the list. */
+size_t kajurnat_request_set(uint8_t *request, size_t request_len,
+                            uint64_t member, uint32_t id, const uint8_t *list,
+                            size_t list_len);
+
+/* Stops or resumes a member; mode is KAJURNAT_MODE_STOP or .._RESUME. */
+size_t kajurnat_request_mode(uint8_t *request, size_t request_len,
+                             uint64_t member, uint8_t mode);
+
+/*
+ * Reads a reply as the answer to the command of this opcode. what is the byte
+ * that a metadata command asked with; it is not read for other opcodes.
+ *
+ * Returns KAJURNAT_REPLY_READ and writes the four numbers. The result is the
+ * reply from byte KAJURNAT_REPLY_HEAD_BYTES on. status and qualifier are the
+ * ones to act on: one of KAJURNAT_STATUS_.. and one of KAJURNAT_Q_.. Numbers
+ * that are none of these are handled as KAJURNAT_STATUS_EINVAL and
+ * KAJURNAT_Q_INVALID_COMMAND; sent_status and sent_qualifier are what the reply
+ * has.
+ *
+ * Returns KAJURNAT_REPLY_REFUSED, with nothing written, if the opcode is none
+ * of the ten, or the reply is under 8 bytes or of the wrong length for its
+ * command and status. A refusal has exactly 8 bytes, a success 8 and its
+ * result: of a metadata list as many headers as its count says, of parts get
+ * whole parts up to the end.
+ */
+enum { KAJURNAT_REPLY_READ = 0, KAJURNAT_REPLY_REFUSED = 1 };
+
+uint8_t kajurnat_reply_read(uint16_t opcode, uint8_t what, const uint8_t *reply,
+                            size_t reply_len, uint16_t *status,
+                            uint16_t *qualifier, uint16_t *sent_status,
+                            uint16_t *sent_qualifier);
 
 #ifdef __cplusplus
 }

@@ -33,8 +33,10 @@ struct card {
     uint8_t bytes[KAJURNAT_CARD_BYTES(MEMBERS)];
 };
 
+/* A reply, once it is read. */
 struct reply {
-    size_t length;
+    uint16_t status, qualifier;
+    size_t result_len;
     uint8_t bytes[KAJURNAT_REPLY_BYTES_MAX];
 };
 
@@ -57,57 +59,44 @@ static void report(const struct card *card, uint64_t member, const char *what)
     printf("%s: member %" PRIu64 " %s\n", card->name, member, what);
 }
 
-static uint16_t status_of(const struct reply *reply)
-{
-    return (uint16_t)get_number(reply->bytes, 2);
-}
-
-static uint16_t qualifier_of(const struct reply *reply)
-{
-    return (uint16_t)get_number(reply->bytes + 2, 2);
-}
-
 static const uint8_t *result_of(const struct reply *reply)
 {
     return reply->bytes + KAJURNAT_REPLY_HEAD_BYTES;
 }
 
-/* Sends one command and reads its reply. */
-static struct reply command(struct card *card, uint16_t opcode, uint64_t member,
-                            const uint8_t *data, size_t data_len)
-{
-    uint8_t request[KAJURNAT_REQUEST_BYTES_MAX] = {0};
-    struct reply reply = {0};
+/* The request that is built next. */
+static uint8_t request[KAJURNAT_REQUEST_BYTES_MAX];
 
-    expect(data_len <= sizeof request - KAJURNAT_REQUEST_HEAD_BYTES,
-           "the data fits in a request");
-    put_number(request, 2, opcode);
-    put_number(request + 2, 2, KAJURNAT_GROUP_SRIOV);
-    put_number(request + 16, 8, member);
-    if (data_len != 0) {
-        memcpy(request + KAJURNAT_REQUEST_HEAD_BYTES, data, data_len);
-    }
-    reply.length = kajurnat_command(card->bytes, sizeof card->bytes, request,
-                                    KAJURNAT_REQUEST_HEAD_BYTES + data_len,
-                                    reply.bytes, sizeof reply.bytes);
-    expect(reply.length >= KAJURNAT_REPLY_HEAD_BYTES, "a sound card replies");
+/* Sends the request that was built, of this length, and reads its reply. */
+static struct reply command(struct card *card, uint16_t opcode, size_t length)
+{
+    struct reply reply = {0};
+    uint16_t sent_status, sent_qualifier;
+
+    expect(length != 0, "the request is built");
+    size_t written =
+        kajurnat_command(card->bytes, sizeof card->bytes, request, length,
+                         reply.bytes, sizeof reply.bytes);
+    uint8_t answer = kajurnat_reply_read(opcode, 0, reply.bytes, written,
+                                         &reply.status, &reply.qualifier,
+                                         &sent_status, &sent_qualifier);
+    expect(answer == KAJURNAT_REPLY_READ, "the card answers the command");
+    reply.result_len = written - KAJURNAT_REPLY_HEAD_BYTES;
     return reply;
 }
 
-/* Sends one command that has to succeed, with this length of its result. */
-static struct reply succeed(struct card *card, uint16_t opcode, uint64_t member,
-                            const uint8_t *data, size_t data_len,
+/* Sends a request that has to succeed, with this length of its result. */
+static struct reply succeed(struct card *card, uint16_t opcode, size_t length,
                             size_t result_len)
 {
-    struct reply reply = command(card, opcode, member, data, data_len);
+    struct reply reply = command(card, opcode, length);
 
-    if (status_of(&reply) != KAJURNAT_STATUS_OK) {
+    if (reply.status != KAJURNAT_STATUS_OK) {
         fprintf(stderr, "%s: opcode 0x%02x refused: status %u, qualifier %u\n",
-                card->name, opcode, status_of(&reply), qualifier_of(&reply));
+                card->name, opcode, reply.status, reply.qualifier);
         exit(EXIT_FAILURE);
     }
-    expect(reply.length == KAJURNAT_REPLY_HEAD_BYTES + result_len,
-           "the result is of its length");
+    expect(reply.result_len == result_len, "the result is of its length");
     return reply;
 }
 
@@ -126,27 +115,22 @@ static void set_up(struct card *card)
 /* Puts every command that both sides know in use. */
 static void negotiate(struct card *card)
 {
-    uint8_t list[8];
     struct reply reply =
-        succeed(card, KAJURNAT_CMD_LIST_QUERY, 0, NULL, 0, sizeof list);
-    uint64_t used =
-        get_number(result_of(&reply), sizeof list) & KAJURNAT_CMD_MASK;
+        succeed(card, KAJURNAT_CMD_LIST_QUERY,
+                kajurnat_request_list_query(request, sizeof request), 8);
+    uint64_t used = get_number(result_of(&reply), 8) & KAJURNAT_CMD_MASK;
 
     expect(used == KAJURNAT_CMD_MASK, "the card supports the ten commands");
-    put_number(list, sizeof list, used);
-    succeed(card, KAJURNAT_CMD_LIST_USE, 0, list, sizeof list, 0);
+    succeed(card, KAJURNAT_CMD_LIST_USE,
+            kajurnat_request_list_use(request, sizeof request, used), 0);
     printf("%s: commands in use 0x%" PRIx64 "\n", card->name, used);
 }
 
 static void create_object(struct card *card, uint64_t member, uint32_t id,
                           uint8_t kind)
 {
-    uint8_t data[24] = {0};
-
-    put_number(data, 2, KAJURNAT_OBJ_DEV_PARTS);
-    put_number(data + 4, 4, id);
-    data[16] = kind;
-    succeed(card, KAJURNAT_CMD_RESOURCE_OBJ_CREATE, member, data, sizeof data,
+    succeed(card, KAJURNAT_CMD_RESOURCE_OBJ_CREATE,
+            kajurnat_request_create(request, sizeof request, member, id, kind),
             0);
     report(card, member,
            kind == KAJURNAT_OBJ_GET ? "has a get object" : "has a set object");
@@ -154,9 +138,10 @@ static void create_object(struct card *card, uint64_t member, uint32_t id,
 
 static void stop(struct card *card, uint64_t member)
 {
-    const uint8_t mode = KAJURNAT_MODE_STOP;
-
-    succeed(card, KAJURNAT_CMD_DEV_MODE_SET, member, &mode, sizeof mode, 0);
+    succeed(card, KAJURNAT_CMD_DEV_MODE_SET,
+            kajurnat_request_mode(request, sizeof request, member,
+                                  KAJURNAT_MODE_STOP),
+            0);
     report(card, member, "stopped");
 }
 
@@ -194,13 +179,13 @@ static void store_parts(struct card *card, uint64_t member)
 /* Captures all parts of a member through its get object. */
 static struct capture capture(struct card *card, uint64_t member)
 {
-    uint8_t data[16] = {0};
     struct capture all;
+    struct reply reply =
+        succeed(card, KAJURNAT_CMD_DEV_PARTS_GET,
+                kajurnat_request_get(request, sizeof request, member, GET_ID,
+                                     KAJURNAT_PARTS_ALL, NULL, 0),
+                sizeof all.bytes);
 
-    put_number(data + 4, 4, GET_ID);
-    data[8] = KAJURNAT_PARTS_ALL;
-    struct reply reply = succeed(card, KAJURNAT_CMD_DEV_PARTS_GET, member, data,
-                                 sizeof data, sizeof all.bytes);
     memcpy(all.bytes, result_of(&reply), sizeof all.bytes);
     report(card, member, "captured");
     return all;
@@ -210,11 +195,9 @@ static struct capture capture(struct card *card, uint64_t member)
 static struct reply restore(struct card *card, uint64_t member,
                             const struct capture *all)
 {
-    uint8_t data[KAJURNAT_OBJ_HEADER_BYTES + sizeof all->bytes] = {0};
-
-    put_number(data + 4, 4, SET_ID);
-    memcpy(data + KAJURNAT_OBJ_HEADER_BYTES, all->bytes, sizeof all->bytes);
-    return command(card, KAJURNAT_CMD_DEV_PARTS_SET, member, data, sizeof data);
+    return command(card, KAJURNAT_CMD_DEV_PARTS_SET,
+                   kajurnat_request_set(request, sizeof request, member, SET_ID,
+                                        all->bytes, sizeof all->bytes));
 }
 
 static bool is_zero(const uint8_t *bytes, size_t length)
@@ -277,14 +260,14 @@ static void load(struct card *card, uint64_t member,
     prepare(card, member);
 
     struct reply reply = restore(card, member, saved);
-    expect(status_of(&reply) == KAJURNAT_STATUS_EAGAIN &&
-               qualifier_of(&reply) == KAJURNAT_Q_TRYAGAIN,
+    expect(reply.status == KAJURNAT_STATUS_EAGAIN &&
+               reply.qualifier == KAJURNAT_Q_TRYAGAIN,
            "a running member takes no parts");
     report(card, member, "is running: restore refused");
 
     stop(card, member);
     reply = restore(card, member, saved);
-    expect(status_of(&reply) == KAJURNAT_STATUS_OK,
+    expect(reply.status == KAJURNAT_STATUS_OK,
            "a stopped member takes the parts");
     report(card, member, "restored");
 

@@ -94,6 +94,47 @@ MEASURED(uint8_t, kajurnat_store,
           uint64_t selector, const uint8_t *value, size_t value_len),
          (card, card_len, member, part_type, selector, value, value_len))
 
+MEASURED(size_t, kajurnat_request_list_query,
+         (uint8_t * request, size_t request_len), (request, request_len))
+MEASURED(size_t, kajurnat_request_list_use,
+         (uint8_t * request, size_t request_len, uint64_t mask),
+         (request, request_len, mask))
+MEASURED(size_t, kajurnat_request_create,
+         (uint8_t * request, size_t request_len, uint64_t member, uint32_t id,
+          uint8_t kind),
+         (request, request_len, member, id, kind))
+MEASURED(size_t, kajurnat_request_modify,
+         (uint8_t * request, size_t request_len, uint64_t member, uint32_t id,
+          uint8_t kind),
+         (request, request_len, member, id, kind))
+MEASURED(size_t, kajurnat_request_query,
+         (uint8_t * request, size_t request_len, uint64_t member, uint32_t id),
+         (request, request_len, member, id))
+MEASURED(size_t, kajurnat_request_destroy,
+         (uint8_t * request, size_t request_len, uint64_t member, uint32_t id),
+         (request, request_len, member, id))
+MEASURED(size_t, kajurnat_request_metadata,
+         (uint8_t * request, size_t request_len, uint64_t member, uint32_t id,
+          uint8_t what),
+         (request, request_len, member, id, what))
+MEASURED(size_t, kajurnat_request_get,
+         (uint8_t * request, size_t request_len, uint64_t member, uint32_t id,
+          uint8_t which, const uint8_t *headers, size_t headers_len),
+         (request, request_len, member, id, which, headers, headers_len))
+MEASURED(size_t, kajurnat_request_set,
+         (uint8_t * request, size_t request_len, uint64_t member, uint32_t id,
+          const uint8_t *list, size_t list_len),
+         (request, request_len, member, id, list, list_len))
+MEASURED(size_t, kajurnat_request_mode,
+         (uint8_t * request, size_t request_len, uint64_t member, uint8_t mode),
+         (request, request_len, member, mode))
+MEASURED(uint8_t, kajurnat_reply_read,
+         (uint16_t opcode, uint8_t what, const uint8_t *reply, size_t reply_len,
+          uint16_t *status, uint16_t *qualifier, uint16_t *sent_status,
+          uint16_t *sent_qualifier),
+         (opcode, what, reply, reply_len, status, qualifier, sent_status,
+          sent_qualifier))
+
 /* A call of a known depth is measured as such, or nothing is. */
 __attribute__((noinline)) static void take_a_kilobyte(void)
 {

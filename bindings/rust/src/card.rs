@@ -4,9 +4,11 @@ use crate::event::EventError;
 use crate::part::PartType;
 use crate::raw;
 use crate::reply::{Refusal, Reply, ReplyTooShort};
+use crate::request::Request;
 use crate::setup::{Setup, SetupError};
 use alloc::vec;
 use alloc::vec::Vec;
+use core::borrow::Borrow;
 use core::fmt;
 
 /// A sound card in memory `B`: a `Vec<u8>` of its own, a lent `&mut [u8]`, an
@@ -118,14 +120,13 @@ impl<B: AsMut<[u8]>> Card<B> {
         }
     }
 
-    /// Carries out one command and gives its result. The request is a
-    /// [`Request`](crate::Request) or any bytes.
+    /// Carries out one command and gives its result.
     ///
     /// ```
     /// # use kajurnat::{Card, Opcode, Request, Setup};
     /// # let setup = Setup { members: 1, queues: 1, gets: 1, sets: 1, features: [0; 16] };
     /// # let mut card = Card::new(&setup)?;
-    /// let mask = card.send(Request::new(Opcode::LIST_QUERY, 0, &[]))?;
+    /// let mask = card.send(Request::list_query())?;
     /// assert_eq!(mask, Opcode::SUPPORTED.to_le_bytes());
     /// # Ok::<(), Box<dyn std::error::Error>>(())
     /// ```
@@ -134,17 +135,20 @@ impl<B: AsMut<[u8]>> Card<B> {
     ///
     /// [`Refusal`] if the card refuses the command. The card is then
     /// unchanged.
-    pub fn send(&mut self, request: impl AsRef<[u8]>) -> Result<Vec<u8>, Refusal> {
+    pub fn send(&mut self, request: impl Borrow<Request>) -> Result<Vec<u8>, Refusal> {
+        let request = request.borrow();
         let mut buffer = [0; Reply::MAX];
         let reply = self.command(request, &mut buffer);
         let reply = reply.expect("the buffer has room for every reply");
+        let reply = request.read(reply).expect("a sound card answers the command sent");
         reply.result().map(<[u8]>::to_vec)
     }
 
-    /// Carries out one command, with the reply in a buffer of the caller's:
-    /// what a device does that is handed a request and a place for the reply.
-    /// [`Reply::MAX`] bytes are always enough. The bytes past the reply keep
-    /// their values.
+    /// Carries out one command that came as bytes, a [`Request`] or any
+    /// others, and gives the reply, which it writes at the start of the
+    /// buffer: what a device does that is handed a request and a place for the
+    /// reply. [`Reply::MAX`] bytes are always enough. The bytes past the reply
+    /// keep their values.
     ///
     /// # Errors
     ///
@@ -154,13 +158,14 @@ impl<B: AsMut<[u8]>> Card<B> {
         &mut self,
         request: impl AsRef<[u8]>,
         reply: &'r mut [u8],
-    ) -> Result<Reply<'r>, ReplyTooShort> {
+    ) -> Result<&'r [u8], ReplyTooShort> {
         let buffer = reply.len();
         if buffer < Reply::HEAD {
             return Err(ReplyTooShort { buffer });
         }
         let written = raw::command(self.memory.as_mut(), request.as_ref(), reply);
-        Ok(Reply::parse(&reply[..written]).expect("a sound card replies to every command"))
+        assert!(written != 0, "a sound card replies to every command");
+        Ok(&reply[..written])
     }
 
     /// Makes one member fresh and changes nothing else.

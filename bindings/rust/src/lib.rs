@@ -2,30 +2,37 @@
 //! with up to sixteen member devices.
 //!
 //! A [`Card`] takes group administration commands as bytes and answers in
-//! bytes. Its host resets it or one of its members, and its data path stores
-//! the parts of its members. What every call answers, and the card after it,
-//! is proved of the archive that this package links; the bindings are not
-//! part of the proof.
+//! bytes. Its host builds a [`Request`] from the fields of a command and reads
+//! the reply, resets the card or one of its members; its data path stores the
+//! parts of its members. What every call answers, and the card after it, is
+//! proved of the archive that this package links; the bindings are not part of
+//! the proof.
 //!
 //! ```
-//! use kajurnat::{Card, Opcode, PartType, Qualifier, Request, Setup};
+//! use kajurnat::{Card, Kind, Opcode, PartType, Qualifier, Request, Setup};
 //!
 //! // Two members with one queue each, and room for one get and one set object.
 //! let setup = Setup { members: 2, queues: 1, gets: 1, sets: 1, features: [0; 16] };
 //! let mut card = Card::new(&setup)?;
 //!
 //! // Put every command in use.
-//! let mask = card.send(Request::new(Opcode::LIST_QUERY, 0, &[]))?;
-//! card.send(Request::new(Opcode::LIST_USE, 0, &mask))?;
+//! card.send(Request::list_use(Opcode::SUPPORTED))?;
 //!
 //! // The data path of member 1 sets the device status.
 //! card.store(1, PartType::DEVICE_STATUS, 0, &[0x0f])?;
 //!
-//! // Stop member 1.
-//! card.send(Request::new(Opcode::DEV_MODE_SET, 1, &[1]))?;
+//! // Stop member 1 and capture it.
+//! card.send(Request::create(1, 0, Kind::Get))?;
+//! card.send(Request::stop(1))?;
+//! let parts = card.send(Request::capture(1, 0))?;
+//!
+//! // Set what was captured in member 2.
+//! card.send(Request::create(2, 1, Kind::Set))?;
+//! card.send(Request::stop(2))?;
+//! card.send(Request::set(2, 1, &parts)?)?;
 //!
 //! // There is no member 3; the refusal says so.
-//! let refusal = card.send(Request::new(Opcode::DEV_MODE_SET, 3, &[1])).unwrap_err();
+//! let refusal = card.send(Request::stop(3)).unwrap_err();
 //! assert_eq!(refusal.qualifier, Qualifier::INVALID_MEMBER);
 //! assert_eq!(
 //!     refusal.to_string(),
@@ -64,7 +71,7 @@ pub use card::{Card, NotSound};
 pub use event::EventError;
 pub use part::PartType;
 pub use raw::version;
-pub use reply::{Refusal, Reply, ReplyTooShort};
-pub use request::{Opcode, Request};
+pub use reply::{BadReply, Refusal, Reply, ReplyTooShort};
+pub use request::{Kind, Metadata, Opcode, Request, RequestTooLong};
 pub use setup::{Setup, SetupError};
 pub use status::{Qualifier, Status};

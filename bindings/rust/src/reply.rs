@@ -1,13 +1,33 @@
 //! Reading a reply.
 
+use crate::raw;
+use crate::request::Opcode;
 use crate::status::{Qualifier, Status};
 use core::fmt;
 
-/// The bytes that a command wrote: a head with status and qualifier, and a
+/// A reply that was read as the answer to a request: status, qualifier, and a
 /// result if the command was carried out.
+///
+/// A status or qualifier that is not known is handled as
+/// [`Status::EINVAL`] or [`Qualifier::INVALID_COMMAND`]; the number that was
+/// sent is still there.
+///
+/// ```
+/// use kajurnat::{Qualifier, Request, Status};
+///
+/// let reply = Request::stop(1).read(&[99, 0, 5, 0, 0, 0, 0, 0])?;
+/// assert_eq!(reply.status(), Status::EINVAL);
+/// assert_eq!(reply.sent_status(), Status(99));
+/// assert_eq!(reply.qualifier(), Qualifier::INVALID_MEMBER);
+/// # Ok::<(), kajurnat::BadReply>(())
+/// ```
 #[derive(Clone, Copy, PartialEq, Eq)]
 pub struct Reply<'r> {
-    bytes: &'r [u8],
+    status: Status,
+    qualifier: Qualifier,
+    sent_status: Status,
+    sent_qualifier: Qualifier,
+    result: &'r [u8],
 }
 
 impl<'r> Reply<'r> {
@@ -18,37 +38,52 @@ impl<'r> Reply<'r> {
     /// queues.
     pub const MAX: usize = 453;
 
-    /// Reads the bytes of one whole reply. None if they are under
-    /// [`Reply::HEAD`], or a refusal with bytes past its head.
-    ///
-    /// ```
-    /// use kajurnat::{Reply, Status};
-    ///
-    /// let refusal = [22, 0, 5, 0, 0, 0, 0, 0];
-    /// let reply = Reply::parse(&refusal).expect("a refusal is a head");
-    /// assert_eq!(reply.status(), Status::EINVAL);
-    /// assert!(reply.result().is_err());
-    /// ```
-    #[must_use]
-    pub fn parse(bytes: &'r [u8]) -> Option<Self> {
-        if bytes.len() < Self::HEAD {
-            return None;
+    /// Reads the bytes of a whole reply to a command.
+    pub(crate) fn read(opcode: Opcode, what: u8, reply: &'r [u8]) -> Result<Self, BadReply> {
+        let [mut status, mut qualifier, mut sent_status, mut sent_qualifier] = [0; 4];
+        let answer = raw::reply_read(
+            opcode.0,
+            what,
+            reply,
+            &mut status,
+            &mut qualifier,
+            &mut sent_status,
+            &mut sent_qualifier,
+        );
+        match (answer, reply.get(Self::HEAD..)) {
+            (0, Some(result)) => Ok(Self {
+                status: Status(status),
+                qualifier: Qualifier(qualifier),
+                sent_status: Status(sent_status),
+                sent_qualifier: Qualifier(sent_qualifier),
+                result,
+            }),
+            _ => Err(BadReply { length: reply.len() }),
         }
-        let reply = Self { bytes };
-        let whole = reply.status() == Status::OK || bytes.len() == Self::HEAD;
-        whole.then_some(reply)
     }
 
-    /// What became of the command.
+    /// What became of the command, to act on.
     #[must_use]
     pub const fn status(&self) -> Status {
-        Status(u16::from_le_bytes([self.bytes[0], self.bytes[1]]))
+        self.status
     }
 
-    /// More about the status.
+    /// More about the status, to act on.
     #[must_use]
     pub const fn qualifier(&self) -> Qualifier {
-        Qualifier(u16::from_le_bytes([self.bytes[2], self.bytes[3]]))
+        self.qualifier
+    }
+
+    /// The status as it was sent.
+    #[must_use]
+    pub const fn sent_status(&self) -> Status {
+        self.sent_status
+    }
+
+    /// The qualifier as it was sent.
+    #[must_use]
+    pub const fn sent_qualifier(&self) -> Qualifier {
+        self.sent_qualifier
     }
 
     /// The bytes after the head, if the command was carried out.
@@ -57,16 +92,11 @@ impl<'r> Reply<'r> {
     ///
     /// [`Refusal`] if it was not.
     pub fn result(&self) -> Result<&'r [u8], Refusal> {
-        match self.status() {
-            Status::OK => Ok(&self.bytes[Self::HEAD..]),
-            status => Err(Refusal { status, qualifier: self.qualifier() }),
+        let Self { status, qualifier, sent_status, sent_qualifier, result } = *self;
+        match status {
+            Status::OK => Ok(result),
+            _ => Err(Refusal { status, qualifier, sent_status, sent_qualifier }),
         }
-    }
-
-    /// The whole reply, head included.
-    #[must_use]
-    pub const fn as_bytes(&self) -> &'r [u8] {
-        self.bytes
     }
 }
 
@@ -74,9 +104,9 @@ impl fmt::Debug for Reply<'_> {
     /// The head and the length: a result may hold addresses of guest memory.
     fn fmt(&self, f: &mut fmt::Formatter<'_>) -> fmt::Result {
         f.debug_struct("Reply")
-            .field("status", &self.status())
-            .field("qualifier", &self.qualifier())
-            .field("length", &self.bytes.len())
+            .field("status", &self.sent_status)
+            .field("qualifier", &self.sent_qualifier)
+            .field("length", &(Self::HEAD + self.result.len()))
             .finish_non_exhaustive()
     }
 }
@@ -84,20 +114,41 @@ impl fmt::Debug for Reply<'_> {
 /// A command was not carried out, and the card is unchanged.
 #[derive(Clone, Copy, Debug, PartialEq, Eq)]
 pub struct Refusal {
-    /// Why.
+    /// Why, to act on.
     pub status: Status,
-    /// More about the status.
+    /// More about the status, to act on.
     pub qualifier: Qualifier,
+    /// The status as it was sent.
+    pub sent_status: Status,
+    /// The qualifier as it was sent.
+    pub sent_qualifier: Qualifier,
 }
 
 impl fmt::Display for Refusal {
+    /// The numbers as they were sent.
     fn fmt(&self, f: &mut fmt::Formatter<'_>) -> fmt::Result {
-        let Self { status, qualifier } = self;
-        write!(f, "the card refused the command: status {status}, qualifier {qualifier}")
+        let Self { sent_status, sent_qualifier, .. } = self;
+        write!(f, "the card refused the command: status {sent_status}, qualifier {sent_qualifier}")
     }
 }
 
 impl core::error::Error for Refusal {}
+
+/// Bytes are not the answer to the request: they are under [`Reply::HEAD`], or
+/// of the wrong length for the command and the status in them.
+#[derive(Clone, Copy, Debug, PartialEq, Eq)]
+pub struct BadReply {
+    /// The number of bytes.
+    pub length: usize,
+}
+
+impl fmt::Display for BadReply {
+    fn fmt(&self, f: &mut fmt::Formatter<'_>) -> fmt::Result {
+        write!(f, "{} bytes are not of a reply's length for this command and status", self.length)
+    }
+}
+
+impl core::error::Error for BadReply {}
 
 /// A reply buffer has no room for a head, so the command was not carried out.
 #[derive(Clone, Copy, Debug, PartialEq, Eq)]
@@ -125,26 +176,20 @@ mod tests {
     use alloc::format;
     use alloc::string::ToString;
 
-    #[test]
-    fn a_reply_has_a_head() {
-        assert_eq!(Reply::parse(&[]), None);
-        assert_eq!(Reply::parse(&[0; 7]), None);
-        assert!(Reply::parse(&[0; 8]).is_some());
+    fn read(bytes: &[u8]) -> Result<Reply<'_>, BadReply> {
+        Reply::read(Opcode::DEV_PARTS_GET, 0, bytes)
     }
 
     #[test]
-    fn a_success_gives_its_result() {
-        let bytes = [0, 0, 0, 0, 0, 0, 0, 0, 5, 6];
-        let reply = Reply::parse(&bytes).unwrap();
-        assert_eq!(reply.status(), Status::OK);
-        assert_eq!(reply.qualifier(), Qualifier::OK);
-        assert_eq!(reply.result(), Ok(&[5, 6][..]));
-        assert_eq!(reply.as_bytes(), bytes);
+    fn a_reply_has_a_head() {
+        assert_eq!(read(&[]), Err(BadReply { length: 0 }));
+        assert_eq!(read(&[0; 7]), Err(BadReply { length: 7 }));
+        assert!(read(&[0; 8]).is_ok());
     }
 
     #[test]
     fn a_refusal_says_why() {
-        let reply = Reply::parse(&[22, 0, 2, 0, 0, 0, 0, 0]).unwrap();
+        let reply = read(&[22, 0, 2, 0, 0, 0, 0, 0]).unwrap();
         let refusal = reply.result().unwrap_err();
         assert_eq!(refusal.status, Status::EINVAL);
         assert_eq!(refusal.qualifier, Qualifier::INVALID_OPCODE);
@@ -155,17 +200,30 @@ mod tests {
     }
 
     #[test]
+    fn an_unknown_refusal_shows_what_was_sent() {
+        let refusal = read(&[99, 0, 8, 1, 0, 0, 0, 0]).unwrap().result().unwrap_err();
+        assert_eq!(refusal.status, Status::EINVAL);
+        assert_eq!(refusal.qualifier, Qualifier::INVALID_COMMAND);
+        assert_eq!(refusal.to_string(), "the card refused the command: status 99, qualifier 264");
+    }
+
+    #[test]
     fn a_refusal_with_bytes_past_its_head_is_no_reply() {
-        assert_eq!(Reply::parse(&[22, 0, 2, 0, 0, 0, 0, 0, 5]), None);
-        assert_eq!(Reply::parse(&[0, 1, 0, 0, 0, 0, 0, 0, 5, 6]), None);
+        let error = read(&[22, 0, 2, 0, 0, 0, 0, 0, 5]).unwrap_err();
+        assert_eq!(error, BadReply { length: 9 });
+        assert_eq!(
+            error.to_string(),
+            "9 bytes are not of a reply's length for this command and status"
+        );
     }
 
     #[test]
     fn a_result_is_not_shown() {
-        let reply = Reply::parse(&[0, 0, 0, 0, 0, 0, 0, 0, 0xde, 0xad]).unwrap();
+        let reply = Reply::read(Opcode::LIST_QUERY, 0, &[0; 16]).unwrap();
+        assert_eq!(reply.result(), Ok(&[0; 8][..]));
         assert_eq!(
             format!("{reply:?}"),
-            "Reply { status: Status(0 (OK)), qualifier: Qualifier(0 (OK)), length: 10, .. }"
+            "Reply { status: Status(0 (OK)), qualifier: Qualifier(0 (OK)), length: 16, .. }"
         );
     }
 }

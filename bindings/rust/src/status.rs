@@ -26,7 +26,8 @@ wire_number! {
     Qualifier, "{}",
     /// With [`Status::OK`].
     OK = 0,
-    /// Nothing more is said; with [`Status::EINVAL`], a length is wrong.
+    /// Nothing more is said; with [`Status::EINVAL`], the request is too short
+    /// or too long.
     INVALID_COMMAND = 1,
     /// The opcode is not supported, or not in the list in use.
     INVALID_OPCODE = 2,

@@ -2,17 +2,15 @@
 
 mod common;
 
-use common::{
-    capture, capture_request, create, fresh_card, ready_card, restore, stop, use_all, GET, SETUP,
-};
+use common::{capture, fresh_card, ready_card, restore, stop, use_all, GET, SET, SETUP};
 use kajurnat::{
-    Card, EventError, NotSound, Opcode, PartType, Qualifier, Refusal, Reply, ReplyTooShort,
+    Card, EventError, Kind, NotSound, Opcode, PartType, Qualifier, Refusal, Reply, ReplyTooShort,
     Request, Setup, SetupError, Status,
 };
 
-/// A refusal by its two numbers.
+/// A refusal by its two numbers, which are known.
 fn refused<T>(status: Status, qualifier: Qualifier) -> Result<T, Refusal> {
-    Err(Refusal { status, qualifier })
+    Err(Refusal { status, qualifier, sent_status: status, sent_qualifier: qualifier })
 }
 
 #[test]
@@ -58,17 +56,18 @@ fn the_first_number_out_of_range_is_named() {
 
 #[test]
 fn a_fresh_card_lists_its_commands() {
-    let mask = fresh_card().send(Request::new(Opcode::LIST_QUERY, 0, &[]));
+    let mask = fresh_card().send(Request::list_query());
     assert_eq!(mask.unwrap(), Opcode::SUPPORTED.to_le_bytes());
 }
 
 #[test]
 fn a_command_has_to_be_in_use() {
     let mut card = fresh_card();
+    let create = Request::create(1, 0, Kind::Get);
     let unused = refused(Status::EINVAL, Qualifier::INVALID_OPCODE);
-    assert_eq!(create(&mut card, 1, 0, GET), unused);
+    assert_eq!(card.send(&create), unused);
     use_all(&mut card).unwrap();
-    assert_eq!(create(&mut card, 1, 0, GET), Ok(Vec::new()));
+    assert_eq!(card.send(&create), Ok(Vec::new()));
 }
 
 #[test]
@@ -79,9 +78,9 @@ fn each_refusal_is_read_by_its_numbers() {
     assert_eq!(stop(&mut card, 0), bad_member);
     assert_eq!(stop(&mut card, 3), bad_member);
     let live = refused(Status::EEXIST, Qualifier::INVALID_COMMAND);
-    assert_eq!(create(&mut card, 1, 0, GET), live);
+    assert_eq!(card.send(Request::create(1, GET, Kind::Get)), live);
     let bad_id = refused(Status::EINVAL, Qualifier::INVALID_FIELD);
-    assert_eq!(create(&mut card, 1, 2, GET), bad_id);
+    assert_eq!(card.send(Request::create(1, 2, Kind::Get)), bad_id);
     let running = refused(Status::EAGAIN, Qualifier::TRYAGAIN);
     assert_eq!(restore(&mut card, 1, &[]), running);
     assert_eq!(card, before);
@@ -90,13 +89,17 @@ fn each_refusal_is_read_by_its_numbers() {
 #[test]
 fn any_bytes_are_a_request() {
     let mut card = fresh_card();
-    let bad_length = refused(Status::EINVAL, Qualifier::INVALID_COMMAND);
-    assert_eq!(card.send(b"no request"), bad_length);
-    assert_eq!(card.send(Vec::new()), bad_length);
-    assert_eq!(card.send(vec![0; Request::MAX + 1]), bad_length);
-    let bad_group = refused(Status::EINVAL, Qualifier::INVALID_GROUP);
-    assert_eq!(card.send([0; Request::HEAD]), bad_group);
-    assert_eq!(card.send(vec![0; Request::MAX]), bad_group);
+    let mut reply = |request: &[u8]| {
+        let mut buffer = [0xee; Reply::MAX];
+        card.command(request, &mut buffer).unwrap().to_vec()
+    };
+    let bad_length = [22, 0, 1, 0, 0, 0, 0, 0];
+    assert_eq!(reply(b"no request"), bad_length);
+    assert_eq!(reply(&[]), bad_length);
+    assert_eq!(reply(&[0; Request::MAX + 1]), bad_length);
+    let bad_group = [22, 0, 4, 0, 0, 0, 0, 0];
+    assert_eq!(reply(&[0; 24]), bad_group);
+    assert_eq!(reply(&[0; Request::MAX]), bad_group);
 }
 
 #[test]
@@ -104,12 +107,10 @@ fn a_request_sent_gives_the_result_in_the_reply() {
     let mut card = ready_card();
     let mut other = card.clone();
     let mut buffer = [0; Reply::MAX];
-    for request in
-        [Request::new(Opcode::DEV_MODE_SET, 1, &[1]), capture_request(1), capture_request(3)]
-    {
+    for request in [Request::stop(1), Request::capture(1, GET), Request::capture(3, GET)] {
         let result = card.send(&request);
         let reply = other.command(&request, &mut buffer).unwrap();
-        assert_eq!(reply.result().map(<[u8]>::to_vec), result);
+        assert_eq!(request.read(reply).unwrap().result().map(<[u8]>::to_vec), result);
         assert_eq!(other, card);
     }
 }
@@ -118,14 +119,15 @@ fn a_request_sent_gives_the_result_in_the_reply() {
 fn a_reply_buffer_may_be_as_long_as_the_reply() {
     let mut card = ready_card();
     let mut buffer = [0xee; 237];
+    let capture = Request::capture(1, GET);
 
-    let reply = card.command(capture_request(1), &mut buffer[..236]);
+    let reply = card.command(&capture, &mut buffer[..236]).unwrap();
     let short = refused(Status::ENOMEM, Qualifier::NORESOURCE);
-    assert_eq!(reply.unwrap().result(), short);
+    assert_eq!(capture.read(reply).unwrap().result(), short);
     assert!(buffer[Reply::HEAD..].iter().all(|&byte| byte == 0xee));
 
-    let reply = card.command(capture_request(1), &mut buffer);
-    assert_eq!(reply.unwrap().result().unwrap().len(), 229);
+    let reply = card.command(&capture, &mut buffer).unwrap();
+    assert_eq!(capture.read(reply).unwrap().result().unwrap().len(), 229);
 }
 
 #[test]
@@ -133,7 +135,7 @@ fn the_longest_reply_is_a_capture_of_four_queues() {
     let setup = Setup { queues: 4, ..SETUP };
     let mut card = Card::new(&setup).unwrap();
     use_all(&mut card).unwrap();
-    create(&mut card, 1, 0, GET).unwrap();
+    card.send(Request::create(1, GET, Kind::Get)).unwrap();
     let parts = capture(&mut card, 1).unwrap();
     assert_eq!(Reply::HEAD + parts.len(), Reply::MAX);
 }
@@ -142,7 +144,7 @@ fn the_longest_reply_is_a_capture_of_four_queues() {
 fn a_reply_buffer_without_room_for_a_head_is_not_written() {
     let mut card = fresh_card();
     let before = card.clone();
-    let request = Request::new(Opcode::LIST_USE, 0, &[0; 8]);
+    let request = Request::list_use(0);
     for length in 0..Reply::HEAD {
         let mut buffer = vec![0xee; length];
         let answer = card.command(&request, &mut buffer);
@@ -157,9 +159,9 @@ fn no_address_of_a_guest_is_shown() {
     let mut card = ready_card();
     let mut buffer = [0; Reply::MAX];
     let shown = |card: &mut Card, buffer: &mut [u8]| {
-        let capture = capture(card, 1).unwrap();
-        let restore = Request::new(Opcode::DEV_PARTS_SET, 1, &capture);
-        let reply = card.command(capture_request(1), buffer).unwrap();
+        let capture = Request::capture(1, GET);
+        let reply = capture.read(card.command(&capture, buffer).unwrap()).unwrap();
+        let restore = Request::set(1, SET, reply.result().unwrap()).unwrap();
         format!("{reply:?} {restore:?} {card:?}")
     };
     let fresh = shown(&mut card, &mut buffer);
@@ -191,7 +193,7 @@ fn a_reset_leaves_nothing_of_a_member() {
     card.reset_member(1).unwrap();
     let ended = refused(Status::ENXIO, Qualifier::INVALID_COMMAND);
     assert_eq!(capture(&mut card, 1), ended);
-    create(&mut card, 1, 0, GET).unwrap();
+    card.send(Request::create(1, GET, Kind::Get)).unwrap();
     assert_eq!(capture(&mut card, 1).unwrap(), fresh);
 }
 

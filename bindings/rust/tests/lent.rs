@@ -2,8 +2,8 @@
 
 mod common;
 
-use common::{capture, capture_request, fresh_card, make_ready, ready_card, restore, stop, SETUP};
-use kajurnat::{Card, NotSound, PartType, Reply, Setup, SetupError};
+use common::{capture, fresh_card, make_ready, ready_card, restore, stop, GET, SETUP};
+use kajurnat::{Card, NotSound, PartType, Reply, Request, Setup, SetupError};
 use std::error::Error;
 
 /// Every call that changes a card, on a fresh one.
@@ -15,7 +15,7 @@ fn use_card<B: AsMut<[u8]>>(card: &mut Card<B>) -> Result<(), Box<dyn Error>> {
     let parts = capture(card, 1)?;
     restore(card, 2, &parts)?;
     card.reset_member(1)?;
-    card.command(capture_request(2), &mut [0; Reply::MAX])?.result()?;
+    card.command(Request::capture(2, GET), &mut [0; Reply::MAX])?;
     Ok(())
 }
 
@@ -114,5 +114,5 @@ fn memory_that_gives_other_bytes_is_found_out() {
     let read = fresh_card().into_bytes();
     let written = vec![0; read.len()];
     let mut card = Card::from_bytes(TwoMemories { read, written }).unwrap();
-    let _ = card.send([0; 24]);
+    let _ = card.send(Request::list_query());
 }

@@ -97,7 +97,7 @@ fn bytes_past_the_reply_keep_their_values() {
     assert_eq!(reply[8..], [0xee; 24]);
 
     let mut list_query = [0; 24];
-    list_query[2] = 1;
+    assert_eq!(raw::request_list_query(&mut list_query), 24);
     assert_eq!(raw::command(&mut card, &list_query, &mut reply), 16);
     assert_eq!(reply[..8], [0; 8]);
     assert_eq!(reply[8..16], [0x03, 0xfc, 0x03, 0, 0, 0, 0, 0]);
@@ -112,4 +112,60 @@ fn a_reply_buffer_under_eight_bytes_is_not_written() {
         assert_eq!(raw::command(&mut card, &[0; 24], &mut reply), 0);
         assert!(reply.iter().all(|&byte| byte == 0xee));
     }
+}
+
+#[test]
+fn a_request_is_built_whole_or_not_at_all() {
+    type Build = fn(&mut [u8]) -> usize;
+    let builders: [(usize, Build); 10] = [
+        (24, raw::request_list_query),
+        (32, |request| raw::request_list_use(request, u64::MAX)),
+        (48, |request| raw::request_create(request, u64::MAX, u32::MAX, 0xff)),
+        (48, |request| raw::request_modify(request, u64::MAX, u32::MAX, 0xff)),
+        (40, |request| raw::request_query(request, u64::MAX, u32::MAX)),
+        (32, |request| raw::request_destroy(request, u64::MAX, u32::MAX)),
+        (40, |request| raw::request_metadata(request, u64::MAX, u32::MAX, 0xff)),
+        (43, |request| raw::request_get(request, u64::MAX, u32::MAX, 0xff, &[0xff; 3])),
+        (35, |request| raw::request_set(request, u64::MAX, u32::MAX, &[0xff; 3])),
+        (25, |request| raw::request_mode(request, u64::MAX, 0xff)),
+    ];
+    for (length, build) in builders {
+        for short in 0..length {
+            let mut request = vec![0xee; short];
+            assert_eq!(build(&mut request), 0);
+            assert!(request.iter().all(|&byte| byte == 0xee));
+        }
+        let mut request = [0xee; 5000];
+        assert_eq!(build(&mut request), length);
+        assert!(request[length..].iter().all(|&byte| byte == 0xee));
+        assert_eq!(request[2..16], [1, 0, 0, 0, 0, 0, 0, 0, 0, 0, 0, 0, 0, 0]);
+    }
+}
+
+#[test]
+fn a_request_over_4096_bytes_is_not_built() {
+    let mut request = [0xee; 5000];
+    assert_eq!(raw::request_get(&mut request, 1, 0, 0, &[0; 4057]), 0);
+    assert_eq!(raw::request_set(&mut request, 1, 0, &[0; 4065]), 0);
+    assert_eq!(request, [0xee; 5000]);
+    assert_eq!(raw::request_get(&mut request, 1, 0, 0, &[0; 4056]), 4096);
+    assert_eq!(raw::request_set(&mut request, 1, 0, &[0; 4064]), 4096);
+}
+
+#[test]
+fn a_reply_is_read_or_nothing_is_written() {
+    let read = |opcode, what, reply: &[u8]| {
+        let [mut a, mut b, mut c, mut d] = [0xeeee; 4];
+        let answer = raw::reply_read(opcode, what, reply, &mut a, &mut b, &mut c, &mut d);
+        (answer, [a, b, c, d])
+    };
+    assert_eq!(read(0x11, 0, &[11, 0, 7, 0, 0, 0, 0, 0]), (0, [11, 7, 11, 7]));
+    assert_eq!(read(0x11, 0, &[1, 2, 3, 4, 0, 0, 0, 0]), (0, [22, 1, 0x201, 0x403]));
+    assert_eq!(read(0x0e, 1, &[0; 16]), (0, [0; 4]));
+    let refused = (1, [0xeeee; 4]);
+    assert_eq!(read(0x11, 0, &[0; 7]), refused);
+    assert_eq!(read(0x11, 0, &[0; 9]), refused);
+    assert_eq!(read(0x11, 0, &[22, 0, 1, 0, 0, 0, 0, 0, 0]), refused);
+    assert_eq!(read(0x02, 0, &[0; 8]), refused);
+    assert_eq!(read(0x0e, 2, &[0, 0, 0, 0, 0, 0, 0, 0, 1, 0, 0, 0, 0, 0, 0, 0]), refused);
 }

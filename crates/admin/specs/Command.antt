@@ -1,4 +1,4 @@
--- A command: document 01, "Statuses, and which comes first", whole. Assumes nothing.
+-- A command, whole: SPEC 6.1. Assumes nothing.
 use mathlib.Core.List.{List, []}
 use Prim.Native.Nat.{ℕ, _+_}
 use lib.Dec.{leb}
@@ -52,7 +52,7 @@ perform c r (Read m op) =
 perform c r (Change m op) =
     changing c m (changeOf (setupOf c .queues) (setupOf c .gets) (setupOf c .sets) (givenList r) op (memberIn c m))
 
--- steps 11 and 12: the card after and the reply; "Every refusal leaves the card unchanged"
+-- steps 11 and 12: the card after, which a refusal leaves as it was, and the reply
 unfoldable pub conclude : List ℕ → ℕ → Effect → List ℕ × List ℕ
 conclude c room e =
     (if isDone (finalOf (e .outcome) (length (e .result)) room) then e .card else c, replied (e .outcome) (e .result) room)

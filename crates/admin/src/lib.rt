@@ -1,4 +1,4 @@
-// A command, whole: the layers joined.
+// A command, whole: SPEC 6.1.
 ghost use mathlib.Core.Path.{_≡_};
 ghost use mathlib.Core.Bool.{true};
 ghost use Prim.Native.Nat.{_≤_};

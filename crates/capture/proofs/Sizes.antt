@@ -52,7 +52,7 @@ unfolding partsWritten partItem
 parts-length selection q list v e =
     length-items _ (itemSize selection q list) rowCount rowCount 0 refl (λ j h. length-if _ _ _ (part-length v j h e))
 
--- "the size is 157 + 72Q", "8 + 16 for each part", and there are 7 + 2Q
+-- all parts are 157 + 72Q bytes, and the headers 16 bytes for each of 7 + 2Q parts: SPEC 4.8
 pub capture-length : (q : ℕ) (v : List ℕ) → q < 5 → length v ≡ valuesSize → length (captureOf q v) ≡ partsSize q
 unfolding table sumFrom asks
 capture-length q v h e =

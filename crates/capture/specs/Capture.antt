@@ -1,4 +1,4 @@
--- The headers and the parts of a member as bytes: document 01, "Metadata" and "Parts get". Assumes nothing.
+-- The headers and the parts of a member as bytes: SPEC 4.8 and 4.9. Assumes nothing.
 use mathlib.Core.Bool.{Bool}
 use mathlib.Core.List.{List, [], _++_}
 use mathlib.Core.Path.{_≡_}
@@ -35,7 +35,7 @@ asks Asked queues list r = present queues r and among (r .partType) (r .selector
 unfoldable pub partItem : Selection → ℕ → List ℕ → List ℕ → ℕ → List ℕ
 partItem selection queues list values i = if asks selection queues list (rowAt i) then partAt values i else []
 
--- "Parts come in the order of the table below, not in the order asked"
+-- in the order of the table, whatever the order of the list
 unfoldable pub partsWritten : Selection → ℕ → List ℕ → List ℕ → List ℕ
 partsWritten selection queues list values = itemsFrom (partItem selection queues list values) rowCount 0
 

@@ -1,4 +1,4 @@
-// Writers of headers and parts into a lent tail, with the bytes that they need.
+// Writers of headers and parts into a lent tail, SPEC 4.8 and 4.9, with the bytes that they need.
 ghost use mathlib.Core.Path.{_≡_};
 ghost use mathlib.Core.List.{List, _++_};
 ghost use Prim.Native.Nat.{ℕ, _+_, _*_, _≤_, _<_};

@@ -22,7 +22,7 @@ use Rattle.card.proofs.LayoutLaws.{has-record, bytes-long, length-with-
 
 -- ---- the test, as facts, and back ----
 
--- a setup in 01's numbers
+-- a setup in the ranges of SPEC 2.1
 pub record Numbers (s : Setup) : Type 0 where
   pub someMembers : 1 ≤ s .members
   pub fewMembers : s .members ≤ 16

@@ -1,5 +1,5 @@
--- The card (01's term for the device that owns the group) is a list of bytes: a header, then a record for each of its
--- N members. What is in it, and the card with something else there. Assumes nothing.
+-- The card (01's term for the device that owns the group) is a list of bytes, SPEC 2.7: a header, then a record for each
+-- of its N members. What is in it, and the card with something else there. Assumes nothing.
 use mathlib.Core.Bool.{Bool}
 use mathlib.Core.List.{List, _∷_, _++_}
 use Prim.Native.Nat.{ℕ, _+_, _*_, _-_, _≤_}
@@ -91,7 +91,7 @@ freshRecord features = memberBytes (freshOf features)
 unfoldable pub withFresh : List ℕ → ℕ → List ℕ → List ℕ
 withFresh c m features = withRecordBytes c m 0 recordSize (freshRecord features)
 
--- "Fresh, or after reset of the whole card: commands 0x0 and 0x1 in use, every member fresh"
+-- fresh (01's term), SPEC 2.5: opcodes 0x00 and 0x01 are in use, and every member is fresh
 unfoldable pub freshHeader : Setup → List ℕ
 freshHeader s = (s .members ∷ s .queues ∷ s .gets ∷ s .sets ∷ s .features) ++ bytes 8 freshMask
 

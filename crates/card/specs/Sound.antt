@@ -1,4 +1,4 @@
--- When a card is sound: document 01, "The card and what it hears". Assumes nothing.
+-- When a card is sound (01's term): SPEC 2.4. Assumes nothing.
 use mathlib.Core.Bool.{Bool, true}
 use mathlib.Core.List.{List}
 use Prim.Native.Nat.{ℕ, zero, suc}
@@ -10,7 +10,7 @@ use Rattle.member.specs.Sound.{soundRecord}
 use Rattle.card.specs.declared.Setup.{Setup}
 use Rattle.card.specs.Layout.{cardSize, setupOf, inUseOf, memberBytesIn}
 
--- "N members (1 to 16), Q queues for each member (1 to 4), G get objects and S set objects for each member (0 to 8 each)"
+-- the ranges of SPEC 2.1: N 1 to 16, Q 1 to 4, G and S 0 to 8
 unfoldable pub inNumbers : ℕ → ℕ → ℕ → ℕ → Bool
 inNumbers members queues gets sets = within 1 16 members and within 1 4 queues and leb gets 8 and leb sets 8
 
@@ -26,8 +26,8 @@ unfoldable pub soundUpTo : Setup → List ℕ → ℕ → Bool
 soundUpTo s c zero = true
 soundUpTo s c (suc k) = soundFor s (memberBytesIn c (suc k)) and soundUpTo s c k
 
--- "its setup is in these numbers, its list in use has supported bits only, and each member" is sound; and it is as long
--- as its header and N records
+-- it is as long as its header and N records, its setup is in these ranges, its list in use has supported bits only, and
+-- each member is sound
 unfoldable pub isSound : List ℕ → Bool
 isSound c =
     eqb (length c) (cardSize (setupOf c .members))

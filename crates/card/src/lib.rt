@@ -1,4 +1,4 @@
-// The card as lent bytes: its layout and soundness.
+// The card as lent bytes: its layout, SPEC 2.7, and soundness, SPEC 2.4.
 ghost use mathlib.Core.Path.{_≡_};
 ghost use Prim.Native.Nat.{_+_, _^_, _≤_, _<_};
 ghost use lib.Dec.{eqb};
@@ -152,7 +152,7 @@ pub fn reset_record(card: &mut [u8], m: u64, features: [u8; FEATURES_SIZE])
 
 // ---- soundness ----
 
-// Document 01's numbers: N 1 to 16, Q 1 to 4, G and S at most 8.
+// The ranges of SPEC 2.1: N 1 to 16, Q 1 to 4, G and S at most 8.
 pub fn in_numbers(members: u64, queues: u64, gets: u64, sets: u64) -> bool
     ensures { λ r. ⌜ r ≡ inNumbers members queues gets sets ⌝ }
 {

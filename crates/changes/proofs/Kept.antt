@@ -67,7 +67,7 @@ module _ (queues gets sets : ℕ) (m : Member) (P : Changed → Type 0) (refused
   change-cases list (SetMode x) put free mode set = mode x
 
 module _ (queues gets sets : ℕ) (list : List ℕ) (op : ChangeOp) (m : Member) where
-  -- "Every refusal leaves the card unchanged"
+  -- a refusal leaves the member as it was
   pub change-refused : isDone (changeOf queues gets sets list op m .answer) ≡ false → changeOf queues gets sets list op m .member ≡ m
   change-refused =
       change-cases queues gets sets m (λ x. isDone (x .answer) ≡ false → x .member ≡ m) (λ a e f. refl) list op

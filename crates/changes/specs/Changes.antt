@@ -1,4 +1,4 @@
--- The commands that change a member: document 01, "What each command does", steps 8 to 10. Assumes nothing.
+-- The commands that change a member, SPEC 4.4, 4.5, 4.7, 4.10 and 4.11: steps 8 to 10 of SPEC 6.1. Assumes nothing.
 use mathlib.Core.List.{List}
 use Prim.Native.Nat.{ℕ}
 use Rattle.theory.specs.Logic.{unless_answer_then_}
@@ -25,29 +25,29 @@ refuse m a = record { answer = a; member = m }
 abbrev pub done : Member → Changed
 done m = record { answer = Done; member = m }
 
--- "create or modify that would make more than G get or S set objects 28/1": n is the member after it
+-- step 8c of create and modify: n, the member after it, has at most G get and S set objects
 unfoldable pub limited : ℕ → ℕ → Member → Member → Changed
 limited gets sets m n = unless roomIn gets sets n answer refuse m NoRoom then done n
 
--- "create on a live id 17/1"
+-- step 8a: a live id is not created again
 unfoldable pub createOf : ℕ → ℕ → ℕ → ObjectKind → Member → Changed
 createOf gets sets id kind m =
     onFound (lookupOf m id)
     (λ k. refuse m Exists)
     (limited gets sets m (withObject m id (slotFor kind)))
 
--- "another object command, metadata, get or set on an id that is not live 6/1"
+-- step 8b, here and below: the id is live
 unfoldable pub modifyOf : ℕ → ℕ → ℕ → ObjectKind → Member → Changed
 modifyOf gets sets id kind m =
     onFound (lookupOf m id)
     (λ k. limited gets sets m (withObject m id (slotFor kind)))
     (refuse m NotLive)
 
--- "destroy removes it and its id and room are free again"
+-- the object is gone: its id can be created again, and no longer counts against G or S
 unfoldable pub destroyOf : ℕ → Member → Changed
 destroyOf id m = onFound (lookupOf m id) (λ k. done (withObject m id Free)) (refuse m NotLive)
 
--- parts set "needs a set object", a stopped member and a good list, and "takes all or nothing"
+-- parts set needs a live set object, a stopped member and a good list, and sets all parts of the list or none
 unfoldable pub setPartsOf : ℕ → ℕ → List ℕ → Member → Changed
 setPartsOf queues id list m =
     onFound (lookupOf m id)
@@ -58,7 +58,7 @@ setPartsOf queues id list m =
     done (withValues m (applied queues (partsOf Parts list) (m .values))))
     (refuse m NotLive)
 
--- mode set: "either may be repeated"
+-- by command; a mode set to the mode that the member has succeeds too
 abbrev pub changeOf : ℕ → ℕ → ℕ → List ℕ → ChangeOp → Member → Changed
 changeOf queues gets sets list (Create id kind) m = createOf gets sets id kind m
 changeOf queues gets sets list (Modify id kind) m = modifyOf gets sets id kind m

@@ -1,4 +1,4 @@
-// The commands that change a member: steps 8 to 10 of document 01's table of statuses.
+// The commands that change a member, SPEC 4.4, 4.5, 4.7, 4.10 and 4.11: steps 8 to 10 of SPEC 6.1.
 ghost use mathlib.Core.Path.{_≡_};
 ghost use Rattle.member.specs.Member.{featuresIn, withMode};
 ghost use Rattle.rules.specs.Rules.{causeOf, isAccepted};

@@ -1,4 +1,4 @@
--- What a parts set gets in every case, as one law: document 01, steps 4 and 7 to 12, where the frame and the buffer are in order.
+-- What a parts set gets in every case, as one law: steps 4 and 7 to 12 of SPEC 6.1, where frame and buffer are in order.
 -- Assumes nothing.
 use mathlib.Core.Path.{_≡_}
 use mathlib.Core.Bool.{true}

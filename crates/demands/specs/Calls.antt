@@ -1,4 +1,4 @@
--- The calls of demand 3 and one step of the card: document 01, "The calls of demand 3". Assumes nothing.
+-- The calls of a sequence and one step of the card: SPEC 8. Assumes nothing.
 use mathlib.Core.Bool.{Bool, true, false, not}
 use mathlib.Core.List.{List, [], _∷_}
 use Prim.Native.Nat.{ℕ}
@@ -13,15 +13,15 @@ use Rattle.events.specs.Events.{resetMember, resetCard, store}
 use Rattle.frame.specs.Frame.{opcodeOf, groupOf, targetOf}
 use Rattle.admin.specs.Command.{respond}
 
--- commands, resets of one member, resets of the whole card and card stores, with any arguments; "of a request its bytes
--- count, of a reply buffer only its length"
+-- SPEC 8.1: commands, resets of one member, resets of the whole card and card stores, with any arguments. A command is the
+-- bytes of its request and the length of its reply buffer, whose bytes do not count
 pub data Call : Type 0 where
   command : List ℕ → ℕ → Call
   memberReset : ℕ → Call
   cardReset : Call
   cardStore : ℕ → ℕ → ℕ → List ℕ → Call
 
--- "The reply to a command is the number of bytes written and those bytes; the reply to a card event is its answer"
+-- what a command wrote, and so how much; what a card event answered
 pub data Reply : Type 0 where
   written : List ℕ → Reply
   answered : ℕ → Reply
@@ -46,8 +46,8 @@ step c (memberReset m) = ofEvent (resetMember c m)
 step c cardReset = ofEvent (resetCard c)
 step c (cardStore m t s value) = ofEvent (store c m t s value)
 
--- "Names m" (01's term): "a request of 24 to 4,096 bytes, group type 1, opcode 0x0a to 0x11, member m; or a card store
--- for m"
+-- a call names m (01's term), SPEC 8.2: a command whose request is whole, of the group type 1 and for member m, or a card
+-- store for m; whether it is refused does not matter
 unfoldable pub names : ℕ → Call → Bool
 names m (command r room) =
     within 24 4096 (length r) and eqb (groupOf r) 1 and namesMember (opcodeOf r) and eqb (targetOf r) m
@@ -55,7 +55,7 @@ names m (memberReset k) = false
 names m cardReset = false
 names m (cardStore k t s value) = eqb k m
 
--- "a reset of the whole card counts as a reset of m too"
+-- a reset of m, SPEC 8.3: its own, or that of the whole card
 pub data Resets (m : ℕ) : Call → Type 0 where
   ofMember : Resets m (memberReset m)
   ofCard : Resets m cardReset

@@ -1,7 +1,7 @@
--- WHAT IS CLAIMED OF THE CARD, by demand. Each claim is over the definitions that the contracts of the exported
--- functions cite: setUp, commandOf (a command with its buffer; respond is the same without it), resetMember, resetCard
--- and store. The record Claims at the end lists all of them, and ../proofs/Claims.antt proves it. A claim with
--- hypotheses says which example meets them; where no file is named it is in ../proofs/ClaimsExample.antt.
+-- WHAT IS CLAIMED OF THE CARD, by demand, SPEC 9, and by request, SPEC 13. Each claim is over the definitions that the
+-- contracts of the exported functions cite: setUp, commandOf (a command with its buffer; respond is the same without it),
+-- resetMember, resetCard and store. The record Claims at the end lists all of them, and ../proofs/Claims.antt proves it. A
+-- claim with hypotheses says which example meets them; where no file is named it is in ../proofs/ClaimsExample.antt.
 -- Assumes nothing.
 use mathlib.Core.Path.{_≡_}
 use mathlib.Core.Logic.{_≢_}
@@ -25,20 +25,22 @@ use Rattle.demands.specs.WrongPrograms.{WrongProgramsRejected}
 use Rattle.demands.specs.RoundTrip.{RoundTrip}
 use Rattle.demands.specs.Host.{Taken, ReadBack}
 
--- "Every call on a sound card leaves a sound card". Example: sound-card
+-- No call makes a sound card unsound: SPEC 2.4. Example: sound-card
 abbrev pub StaysSound : Type 0
 StaysSound = (c : List ℕ) (x : Call) → isSound c ≡ true → isSound (step c x .0) ≡ true
 
--- ---- DEMAND 1. That every call ends and touches only what it was lent, the prover shows of each function. ----
+-- ---- DEMAND 1, SPEC 9.1: every call is safe, whatever bytes it is given, and one that is refused changes nothing. ----
 
--- "A reply buffer under 8 bytes, or one that comes with an unsound card, is not written", and the card stays. Examples:
--- short-buffer, unsound-card
+-- That every call ends and touches only what it was lent, the prover shows of each function.
+
+-- With a reply buffer that is shorter than 8 bytes, or with a card that is not sound, nothing is written and the card stays:
+-- step 1 of SPEC 6.1. Examples: short-buffer, unsound-card
 pub record NotWritten : Type 0 where
   pub shortBuffer : (c r b : List ℕ) → length b < 8 → commandOf c r b ≡ (0, (c, b))
   pub unsoundCard : (c r b : List ℕ) → isSound c ≡ false → commandOf c r b ≡ (0, (c, b))
 
 -- What a command leaves is the card and the reply that `respond` gives for the buffer's length: the reply lies within
--- the buffer, as many bytes as are reported, and "bytes of the reply buffer past those written keep their values"
+-- the buffer, as many bytes as are reported, and the rest of the buffer is left as it was: SPEC 3.3
 pub record Delivers (c r b : List ℕ) : Type 0 where
   pub card : commandOf c r b .1 .0 ≡ respond c r (length b) .0
   pub reported : commandOf c r b .0 ≡ length (respond c r (length b) .1)
@@ -48,12 +50,12 @@ pub record Delivers (c r b : List ℕ) : Type 0 where
 abbrev pub Delivered : Type 0
 Delivered = (c r b : List ℕ) → Delivers c r b
 
--- "A refusal .. leaves the card as it stood", whatever bytes the card is. Example: refused-command
+-- After a refusal the card is what it was, whatever bytes it is: SPEC 6.1 and 7.1. Example: refused-command
 abbrev pub RefusalsChangeNothing : Type 0
 RefusalsChangeNothing = (c : List ℕ) (x : Call) → refused (step c x .1) ≡ true → step c x .0 ≡ c
 
--- Setup, done, gives a sound card of this setup; "refused, it gives a card of zeros, which is not sound", as long as
--- the buffer. Examples: setup-done, setup-refused
+-- Setup, done, gives a sound card of this setup; refused, it makes every byte of the buffer zero, and zeros are not sound:
+-- SPEC 7.2. Examples: setup-done, setup-refused
 pub record SetsUp : Type 0 where
   pub done : (b : List ℕ) (n q g s : ℕ) (f : List ℕ) → setUp b n q g s f .0 ≡ Done
       → (isSound (setUp b n q g s f .1) ≡ true) × (setupOf (setUp b n q g s f .1) ≡ setupWith n q g s f)
@@ -61,14 +63,14 @@ pub record SetsUp : Type 0 where
       → setUp b n q g s f .1 ≡ replicate (length b) 0
   pub zeros : (n : ℕ) → isSound (replicate n 0) ≡ false
 
--- ---- DEMAND 2 ----
+-- ---- DEMAND 2, SPEC 9.2: every answer, and the card after it, is the specified one, and a full capture can be set. ----
 
--- Which status a command gets: Statuses.antt. Example: ../proofs/StatusesExample.antt
--- The worked examples B1 to B12: Examples.antt
--- The programs that 01 wants rejected fail them: WrongPrograms.antt. Example: ../proofs/WrongProgramsExample.antt
+-- Which status a command gets, SPEC 6.1: Statuses.antt. Example: ../proofs/StatusesExample.antt
+-- The worked examples B1 to B12, SPEC 10: Examples.antt
+-- The wrong programs of SPEC 11.1 fail them: WrongPrograms.antt. Example: ../proofs/WrongProgramsExample.antt
 -- The round trip: RoundTrip.antt. Example: ../proofs/RoundTripExample.antt
 
--- ---- DEMAND 3 ----
+-- ---- DEMAND 3, SPEC 9.3: after a reset of member m nothing of its former guest can be observed. ----
 
 -- two lists with the same bytes but for these
 pub record SameOutside (at size : ℕ) (c d : List ℕ) : Type 0 where
@@ -92,7 +94,7 @@ Isolation =
     → (r : Call) → Resets m r → (t : List Call)
     → seen (names m) (length p₁) (trace step c₁ (p₁ ++ r ∷ t)) ≡ seen (names m) (length p₂) (trace step c₂ (p₂ ++ r ∷ t))
 
--- Integrity, beside isolation, on any card: what a call leaves alone. Examples: names-member, uses-list, sets-parts
+-- Integrity, SPEC 9.4, beside isolation, on any card: what a call leaves alone. Examples: names-member, uses-list, sets-parts
 pub record Integrity : Type 0 where
   -- one that names m, and a reset of m, changes m's record at most: the setup, the list in use and every other record
   -- stay
@@ -105,22 +107,21 @@ pub record Integrity : Type 0 where
       → (memberIn (step c (command r room) .0) (targetOf r) .mode ≡ memberIn c (targetOf r) .mode)
       × (memberIn (step c (command r room) .0) (targetOf r) .objects ≡ memberIn c (targetOf r) .objects)
 
--- ---- REQUEST 1 of document 02: the host's half ----
+-- ---- REQUEST 1, SPEC 13.1: the host's half ----
 
 -- A built request is taken, and whatever is answered to it is read: Host.antt. Example: ../proofs/HostExample.antt
 -- The round trip of demand 2 is by built requests: RoundTrip.antt
 
--- ---- REQUEST 2 of document 02: requests of any length ----
+-- ---- REQUEST 2, SPEC 13.2: requests of any length ----
 
--- Whatever the card is, bytes more at the end of a request change neither the card after it nor its reply:
--- zeros within the fixed fields of its command, "missing bytes of the fixed fields read as zero". Example: cut-create
+-- Whatever the card is, zeros more at the end of a request change neither the card after it nor its reply, as long as they
+-- stay within the fixed fields of its command: what is missing reads as zero. Example: cut-create
 abbrev pub MissingIsZero : Type 0
 MissingIsZero =
     (c r : List ℕ) (n room : ℕ) → 24 ≤ length r → length r + n ≤ 24 + fixedSize (opcodeOf r)
     → respond c (r ++ replicate n 0) room ≡ respond c r room
 
--- and any bytes past the fixed fields of a command that has no open list, up to 4,096 in all, "bytes past a command's
--- fixed fields are ignored". Example: whole-create
+-- Nor do any bytes past the fixed fields of a command that has no open list, up to 4,096 in all. Example: whole-create
 abbrev pub RestIsIgnored : Type 0
 RestIsIgnored =
     (c r x : List ℕ) (room : ℕ) → 24 + fixedSize (opcodeOf r) ≤ length r → opcodeRow (opcodeOf r) .listed ≡ false
@@ -128,7 +129,7 @@ RestIsIgnored =
 
 -- The worked examples L1 to L15: Lengths.antt
 
--- ---- REQUEST 12 of document 02: calls for different members, in any order ----
+-- ---- REQUEST 12, SPEC 13.12: calls for different members, in any order ----
 
 -- In any sequence of calls on any card, p, then x and y, then t, where x and y name different members: x and y can
 -- change places. Each keeps its own reply, all other replies are the same one by one, and so is the card at the end,
@@ -138,7 +139,7 @@ Commutation =
     (c : List ℕ) (m k : ℕ) → m ≢ k → (x y : Call) → names m x ≡ true → names k y ≡ true
     → (p t : List Call) → Swappable step c p x y t
 
--- the request's words are of commands: q in a buffer of i bytes, and r in one of j
+-- the same of commands alone: q in a buffer of i bytes, and r in one of j
 abbrev pub CommandsCommute : Type 0
 CommandsCommute =
     (c : List ℕ) (m k : ℕ) → m ≢ k → (q : List ℕ) (i : ℕ) (r : List ℕ) (j : ℕ)

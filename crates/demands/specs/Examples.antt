@@ -1,5 +1,5 @@
--- THE WORKED EXAMPLES of document 01, "Shown on the bench", in its order, as one table. Each has the calls that lead to
--- it, the calls that it is about, and their replies. Assumes nothing.
+-- THE WORKED EXAMPLES B1 to B12 and the metadata list, SPEC 10, in its order, as one table. Each has the calls that lead to it,
+-- the calls that it is about, and their replies. Assumes nothing.
 use mathlib.Core.Path.{_≡_}
 use mathlib.Core.List.{List, [], _∷_, _++_, map}
 use Prim.Native.Nat.{ℕ}
@@ -13,7 +13,7 @@ use Rattle.host.specs.declared.Command.{Command}
 use Rattle.host.specs.declared.Command.the-variants as host
 use Rattle.host.specs.Request.{request, requestOf, getAll, setParts}
 
--- "Setup N=2, Q=1, G=1, S=1, features all zero"
+-- two members; one queue, one get object and one set object for each; features all zero
 unfoldable pub exampleCard : List ℕ
 exampleCard = setUp (replicate (cardSize 2) 0) 2 1 1 1 (replicate 16 0) .1
 
@@ -49,7 +49,7 @@ metadata id what = sendAlone (host.Metadata 1 id what)
 abbrev pub getSelected : ℕ → List ℕ → Call
 getSelected id headers = send (requestOf (host.Get 1 id 0) headers)
 
--- "All used" means after list use of 0x3FC03; then get object 0 and set object 1 are made
+-- all commands are used, by list use of 0x3FC03; then get object 0 and set object 1 are made
 abbrev pub allUsed : List Call
 allUsed = useList 0x3fc03 ∷ []
 
@@ -68,13 +68,13 @@ gives result = written (replicate 8 0 ++ result)
 abbrev pub succeeds : Reply
 succeeds = gives []
 
--- "a 4-byte number and 4 zero bytes"
+-- a number in 4 bytes, and four zero bytes
 abbrev pub aNumber : ℕ → List ℕ
 aNumber n = bytes 4 n ++ replicate 4 0
 
 -- ---- parts ----
 
--- "as type, flags, selector, length, all other bytes zero"
+-- type, flags, selector and length; all other bytes of a header are zero
 pub record Header : Type 0 where
   pub partType : ℕ
   pub flags : ℕ
@@ -87,7 +87,7 @@ header t f s n = record { partType = t; flags = f; selector = s; size = n }
 abbrev pub headerBytes : Header → List ℕ
 headerBytes h = bytes 2 (h .partType) ++ (h .flags ∷ 0 ∷ (bytes 8 (h .selector) ++ bytes 4 (h .size)))
 
--- "Metadata list for Q=1"
+-- the metadata list of a member with one queue: SPEC 10.13
 unfoldable pub headersListed : List Header
 headersListed =
     header 0x100 1 0 16

@@ -1,5 +1,5 @@
--- WORKED EXAMPLES of requests of any length (02, request 2): a second table, on the card of Examples.antt and in its form.
--- The program worked_examples runs L1 to L7. Assumes nothing.
+-- WORKED EXAMPLES of requests of any length, SPEC 13.2: a second table, on the card of Examples.antt and in its form. The
+-- program worked_examples runs L1 to L7. Assumes nothing.
 use mathlib.Core.Path.{_≡_}
 use mathlib.Core.List.{List, [], _∷_, _++_, map}
 use Prim.Native.Nat.{ℕ}

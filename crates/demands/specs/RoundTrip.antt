@@ -1,5 +1,5 @@
--- DEMAND 2, the round trip: a full capture of one member can be set in another, and a capture there gives the same bytes.
--- The requests are those that the host's half builds. Assumes nothing.
+-- DEMAND 2, the round trip, SPEC 9.2, by requests that the host's half builds: a full capture of one member can be set in
+-- another, and a capture there gives the same bytes. Assumes nothing.
 use mathlib.Core.Path.{_≡_}
 use mathlib.Core.Bool.{true}
 use mathlib.Core.List.{List}

@@ -1,7 +1,7 @@
--- THE STATUS TABLE of document 01, "Statuses, and which comes first", steps 2 to 12, as one list of rows in its order,
--- and the claim that each status is given exactly when its row is the first that applies. The rows read the bytes of
--- the request and the card, and not what the decoder makes of them. Data may have any length (02, request 2): there is
--- no row of step 6, and `number` and `getD` read each missing byte as zero. Assumes nothing.
+-- THE STATUS TABLE, SPEC 6.1, steps 2 to 12, as one list of rows in its order, and the claim that each status is given
+-- exactly when its row is the first that applies. The rows read the bytes of the request and the card, and not what the
+-- decoder makes of them. Data may have any length, SPEC 13.2: there is no row of step 6, and `number` and `getD` read each
+-- missing byte as zero. Assumes nothing.
 use mathlib.Core.Path.{_≡_}
 use mathlib.Core.Bool.{Bool, true, false, not}
 use mathlib.Core.List.{List, [], _∷_, _++_, map}
@@ -71,7 +71,7 @@ kindByte d = getD d 16 0
 abbrev pub typeByte : List ℕ → ℕ
 typeByte d = getD d 8 0
 
--- "Metadata and parts get need a get object, parts set a set object"
+-- metadata and parts get are through a get object, SPEC 4.8 and 4.9
 unfoldable pub needsGet : ℕ → Bool
 needsGet op = within 0x0e 0x0f op
 
@@ -94,20 +94,20 @@ isLiveGet x = onFound x isGet false
 abbrev pub isLiveSet : Found → Bool
 isLiveSet x = onFound x isSet false
 
--- step 7, "a field"; ids is G + S
+-- step 7, a field has a value that it may not have; ids is G + S
 unfoldable pub badField : ℕ → ℕ → List ℕ → Bool
 badField ids op d =
-    (eqb op 0x01 and not (supportedOnly (le d)))  -- "unsupported mask bit", of all bytes as one long mask
-    or (namesObject op and not (eqb (objectType d) 0))  -- "type not 0"
-    or (namesObject op and not (ltb (objectId d) ids))  -- "id not valid"
-    or (hasFlags op and not (eqb (flagBytes d) 0))  -- "flags not 0"
-    or (hasKind op and not (leb (kindByte d) 1))  -- "kind or type byte out of range"
+    (eqb op 0x01 and not (supportedOnly (le d)))  -- an unsupported bit; all bytes are one mask
+    or (namesObject op and not (eqb (objectType d) 0))  -- the type of an object
+    or (namesObject op and not (ltb (objectId d) ids))  -- an id of G + S or more
+    or (hasFlags op and not (eqb (flagBytes d) 0))  -- flags
+    or (hasKind op and not (leb (kindByte d) 1))  -- a kind; the types of metadata and of parts get
     or (eqb op 0x0e and not (leb (typeByte d) 2))
     or (eqb op 0x0f and not (leb (typeByte d) 1))
-    or (eqb op 0x11 and not (leb (getD d 0 0) 1))  -- "mode bits 1 to 7"
-    or (eqb op 0x0f and eqb (typeByte d) 1 and not (leb (length d) 16))  -- "headers given with get-all": any byte past 16
+    or (eqb op 0x11 and not (leb (getD d 0 0) 1))  -- a mode bit other than bit 0
+    or (eqb op 0x0f and eqb (typeByte d) 1 and not (leb (length d) 16))  -- any byte past 16 with get type 1
 
--- step 10, "a bad list, asked or given"; an asked list whose last header is incomplete is one
+-- step 10, a bad list, SPEC 5.5 and 5.6; an asked list whose last header is incomplete is one
 unfoldable pub badList : List ℕ → List ℕ → ℕ → Bool
 badList c r op =
     (eqb op 0x0f and eqb (typeByte (dataOf r)) 0 and not (askedOf (setupOf c .queues) (askedList r)))
@@ -118,7 +118,7 @@ unfoldable pub askedSize : ℕ → List ℕ → ℕ
 askedSize queues list =
     total (map (λ (p : inventory.Row). if asks Asked queues list p then 16 + p .size else 0) inventory.rows)
 
--- "result length": 8 for both queries; metadata "8, or 8 + 16 for each part"; parts get "parts", all or those asked for
+-- the length of a result, SPEC 3.4
 unfoldable pub resultSize : List ℕ → List ℕ → ℕ → ℕ
 resultSize c r op =
     if eqb op 0x00 or eqb op 0x0c then 8 else
@@ -136,13 +136,13 @@ rowsAt c r room op =
     ∷ row (not (supported op and bit (inUseOf c) op)) 22 2  -- 4
     ∷ row (namesMember op and not (isMember c (targetOf r))) 22 5  -- 5
     ∷ row (badField (setupOf c .gets + setupOf c .sets) op (dataOf r)) 22 3  -- 7
-    -- 8: "create on a live id"
+    -- 8a: a create, and the id is live
     ∷ row (eqb op 0x0a and isLive (objectNamed c r)) 17 1
-    -- "another object command, metadata, get or set on an id that is not live"
+    -- 8b: another command on an object, and the id is not live
     ∷ row (within 0x0b 0x10 op and not (isLive (objectNamed c r))) 6 1
-    -- "create or modify that would make more than G get or S set objects"
+    -- 8c: a create or modify, and its kind would then have more objects than there may be
     ∷ row (hasKind op and not (roomIn (setupOf c .gets) (setupOf c .sets) (memberMade c r))) 28 1
-    -- "object of the wrong kind for metadata, get or set"
+    -- 8d: the object is of the other kind
     ∷ row ((needsGet op and not (isLiveGet (objectNamed c r))) or (eqb op 0x10 and not (isLiveSet (objectNamed c r)))) 22 3
     ∷ row (eqb op 0x10 and not (isStopped (memberNamed c r .mode))) 11 7  -- 9
     ∷ row (badList c r op) 22 3  -- 10
@@ -153,7 +153,7 @@ abbrev pub rows : List ℕ → List ℕ → ℕ → List Row
 rows c r room = rowsAt c r room (opcodeOf r)
 
 -- Past step 1, which the two hypotheses rule out: the reply starts with the status and the qualifier of the first row
--- that applies and four zero bytes. "A refusal's reply is exactly 8 bytes"; a success adds the result
+-- that applies and four zero bytes. A refusal has no byte more, and a success has its result after them
 pub record FirstRowAnswers (c r : List ℕ) (room : ℕ) : Type 0 where
   pub head : take 8 (respond c r room .1)
       ≡ bytes 2 (firstOf (rows c r room) .0) ++ (bytes 2 (firstOf (rows c r room) .1) ++ replicate 4 0)

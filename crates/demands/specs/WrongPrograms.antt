@@ -1,6 +1,5 @@
--- THE WRONG PROGRAMS that document 01 wants rejected, "What the contracts have to nail down", each as a kind of
--- machine: whatever its states are and whatever else it does, it fails the worked examples that 01 names. Assumes
--- nothing.
+-- THE WRONG PROGRAMS that must be rejected, SPEC 11.1, each as a kind of machine: whatever its states are and whatever else
+-- it does, it fails the worked examples that are named there. Assumes nothing.
 use mathlib.Core.Path.{_≡_}
 use mathlib.Core.Logic.{_≢_}
 use mathlib.Core.Bool.{true}
@@ -19,19 +18,19 @@ module _ {State : Type 0} (machine : State → Call → State × Reply) (start :
   Passes k = repliesTo machine start (exampleB k) ≡ exampleB k .expected
 
   pub record Rejected : Type 0 where
-    -- "one that refuses each command (B1, B7)"
+    -- it refuses all commands: B1, B7
     pub refusesEach : ((s : State) (r : List ℕ) (room : ℕ) → refused (machine s (command r room) .1) ≡ true)
         → (Passes 1 → ⊥) × (Passes 7 → ⊥)
-    -- "one with a single fixed reply (B1 against B2)"
+    -- it always gives one and the same reply: B1 and B2 differ
     pub fixedReply : (x : Reply) → ((s : State) (r : List ℕ) (room : ℕ) → machine s (command r room) .1 ≡ x)
         → Passes 1 → Passes 2 → ⊥
-    -- "one that never changes the card (B5, B7)": B5 catches every one, B7 the card with its changes left out, which is
-    -- unchanging in ../proofs/WrongProgramsExample.antt
+    -- it leaves the card as it is: B5 catches every such machine, B7 this card without its changes, which is unchanging in
+    -- ../proofs/WrongProgramsExample.antt
     pub neverChanges : ((s : State) (r : List ℕ) (room : ℕ) → machine s (command r room) .0 ≡ s) → Passes 5 → ⊥
-    -- "one that obeys the first command only (B7, after B5)"
+    -- it carries out one command, the first: B7, which follows B5
     pub firstOnly : ((s : State) (q r : List ℕ) (i j : ℕ) → refused (machine (machine s (command q i) .0) (command r j) .1) ≡ true)
         → Passes 7 → ⊥
-    -- "one that makes up counts of parts or bytes written (B9, B10)"
+    -- it gives a wrong count of parts, a wrong size, or a wrong count of the bytes that it wrote: B9, B10
     pub madeUpCount : ((s : State) → machine s (metadata 0 1) .1 ≢ gives (aNumber 9)) → Passes 9 → ⊥
     pub madeUpSize : ((s : State) → machine s (metadata 0 0) .1 ≢ gives (aNumber 229)) → Passes 9 → ⊥
     pub madeUpBytes : ((s : State) (asked : List ℕ) → sizeOf (machine s (getSelected 0 asked) .1) ≢ 49) → Passes 10 → ⊥

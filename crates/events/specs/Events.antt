@@ -1,5 +1,5 @@
--- Setup and the card events: document 01, "The card and what it hears" and "Card events and setup answer"; the first
--- that applies, nothing changed. Each gives its answer and the card after it. Assumes nothing.
+-- Setup and the card events (01's term): SPEC 7. Each gives the first answer that applies, and the card after it. Assumes
+-- nothing.
 use mathlib.Core.List.{List}
 use Prim.Native.Nat.{ℕ, _≤_}
 use lib.Dec.{eqb}
@@ -26,8 +26,7 @@ pub record InBounds (members queues gets sets : ℕ) : Type 0 where
   pub fewGets : gets ≤ 8
   pub fewSets : sets ≤ 8
 
--- "Setup takes no card; refused, it gives a card of zeros": c is the buffer, of which the length alone counts. It is
--- refused too where the features are not 16 bytes or the buffer is not one card long
+-- setup, SPEC 7.2: c is the buffer, of which the length alone counts; refused, it becomes zeros
 unfoldable pub setUp : List ℕ → ℕ → ℕ → ℕ → ℕ → List ℕ → EventAnswer × List ℕ
 setUp c members queues gets sets features =
     unless inNumbers members queues gets sets and eqb (length features) featuresSize and eqb (length c) (cardSize members)
@@ -41,24 +40,25 @@ memberAnswer c m =
     unless isMember c m answer NoMember then
     Done
 
--- what is next stands only where the answer is that it is done
+-- a refusal leaves the card as it was; else what is next is done
 unfoldable pub ifDone : EventAnswer → EventAnswer × List ℕ → List ℕ → EventAnswer × List ℕ
 ifDone a next c = unless isEventDone a answer (a, c) then next
 
 unfoldable pub onMember : List ℕ → ℕ → EventAnswer × List ℕ → EventAnswer × List ℕ
 onMember c m next = ifDone (memberAnswer c m) next c
 
--- "Member reset makes that member fresh and changes nothing else"
+-- member reset, SPEC 7.3: the member becomes fresh, and nothing else changes
 unfoldable pub resetMember : List ℕ → ℕ → EventAnswer × List ℕ
 resetMember c m = onMember c m (Done, withFresh c m (setupOf c .features))
 
+-- card reset, SPEC 7.4
 unfoldable pub resetCard : List ℕ → EventAnswer × List ℕ
 resetCard c =
     unless isSound c answer (NotSound, c) then
     (Done, freshCard (setupOf c))
 
--- a card store (01's term): the data path sets one part of one member, in either mode; s is the 8 selector bytes as a
--- number
+-- a card store (01's term), SPEC 7.5: the data path sets one part of one member, in either mode; s is the selector, to
+-- `store` the 8 selector bytes as a number
 unfoldable pub storeIn : List ℕ → ℕ → ℕ → ℕ → List ℕ → EventAnswer × List ℕ
 storeIn c m t s value =
     ifDone (storable (setupOf c .queues) t s (length value))
@@ -67,6 +67,6 @@ storeIn c m t s value =
 unfoldable pub store : List ℕ → ℕ → ℕ → ℕ → List ℕ → EventAnswer × List ℕ
 store c m t s value = onMember c m (storeIn c m t (selectorOf t s) value)
 
--- the answer as document 01's number
+-- the answer as its number
 abbrev pub numbered : EventAnswer × List ℕ → ℕ × List ℕ
 numbered x = (eventNumber (x .0), x .1)

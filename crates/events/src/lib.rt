@@ -1,4 +1,4 @@
-// What the card hears besides commands: setup, both resets and the card store.
+// Setup, both resets and the card store: SPEC 7.
 ghost use mathlib.Core.Path.{_≡_};
 ghost use Prim.Native.Nat.{_≤_};
 ghost use lib.Dec.{eqb};
@@ -52,7 +52,7 @@ fn write_fresh(card: &mut [u8], s: Setup)
     write_members(card, s.members as u64, features);
 }
 
-// Whether a setup is in document 01's numbers, its features are 16 bytes, and the buffer is one card long.
+// Whether a setup is in the ranges of SPEC 2.1, its features are 16 bytes, and the buffer is one card long.
 fn is_setup(members: u64, queues: u64, gets: u64, sets: u64, features: usize, buffer: usize) -> bool
     ensures { λ r. ⌜ r ≡ inNumbers members queues gets sets and eqb features featuresSize and eqb buffer (cardSize members) ⌝ }
 {
@@ -125,8 +125,8 @@ pub fn reset_member(card: &mut [u8], m: u64) -> EventAnswer
         return a;
     }
     let s = card::setup_of(card);
-    let features = s.features;
-    card::reset_record(card, m, features);
+    let fresh = s.features;
+    card::reset_record(card, m, fresh);
     EventAnswer::Done
 }
 
@@ -158,7 +158,7 @@ fn store_in(card: &mut [u8], m: u64, t: u16, selector: u64, value: &[u8]) -> Eve
     EventAnswer::Done
 }
 
-// A card store (01's term): the data path sets one part of one member, in either mode.
+// A card store, SPEC 7.5: the data path sets one part of one member, in either mode.
 pub fn store(card: &mut [u8], m: u64, t: u16, selector: u64, value: &[u8]) -> EventAnswer
     ensures { λ r. ⌜ (r, now (card .exit)) ≡ store (now (card .entry)) m t selector (now (value .entry)) ⌝ }
 {

@@ -28,7 +28,7 @@ ReadBelow ids (GetMetadata id what) = id < ids
 ReadBelow ids (GetSelected id) = id < ids
 ReadBelow ids (GetAll id) = id < ids
 
--- the request names m, document 01's term, and m is a member of the card
+-- the request names m (01's term), SPEC 8.2, and m is a member of the card
 pub record Named (members : ℕ) (r : List ℕ) (m : ℕ) : Type 0 where
   pub long : dataAt ≤ length r
   pub short : length r ≤ longest

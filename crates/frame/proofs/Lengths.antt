@@ -105,7 +105,7 @@ module _ (k : ℕ) (a d : List ℕ) (f : (i : ℕ) → i < k → getD a i 0 ≡ 
 
 -- ---- bytes more at the end of data ----
 
--- "bytes past a command's fixed fields are ignored": where no list follows them
+-- what follows the fixed fields is ignored where no list does: SPEC 13.2
 pub rest-ignored : (ids m op : ℕ) (d x : List ℕ) → supported op ≡ true → opcodeRow op .listed ≡ false → fixedSize op ≤ length d
     → fieldsOf ids m op (d ++ x) ≡ fieldsOf ids m op d
 unfolding opcodeRow opcodeRows
@@ -120,7 +120,7 @@ zeros-read [] (suc n) (suc i) = zeros-read [] n i
 zeros-read (b ∷ d) n zero = refl
 zeros-read (b ∷ d) n (suc i) = zeros-read d n i
 
--- "missing bytes of the fixed fields read as zero"
+-- each byte that is missing of the fixed fields reads as zero: SPEC 13.2
 pub missing-zero : (ids m op n : ℕ) (d : List ℕ) → supported op ≡ true → length d + n ≤ fixedSize op
     → fieldsOf ids m op (d ++ replicate n 0) ≡ fieldsOf ids m op d
 unfolding opcodeRows

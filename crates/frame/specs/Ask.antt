@@ -1,5 +1,5 @@
--- What a request asks: document 01, "Statuses, and which comes first", steps 2 to 7. Step 6 is gone (02, request 2): no
--- length of the data is refused. It depends on the setup and the list in use, and on no member's record. Assumes nothing.
+-- What a request asks: steps 2 to 7 of SPEC 6.1. Step 6 is gone, SPEC 13.2: no length of the data is refused. It depends on the
+-- setup and the list in use, and on no member's record. Assumes nothing.
 use mathlib.Core.Bool.{Bool, not}
 use mathlib.Core.List.{List}
 use Prim.Native.Nat.{ℕ}

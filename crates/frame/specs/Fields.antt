@@ -1,6 +1,6 @@
--- Step 7, the fields of each command's data: document 01, "What each command does" and the row of step 7.
--- ids is G + S, m the member that the request names, d the data, of any length (02, request 2): `number` and `getD` read
--- each missing byte as zero, and only list use and parts get read past their fixed fields. Assumes nothing.
+-- Step 7 of SPEC 6.1, the fields of each command's data: SPEC 4. ids is G + S, m the member that the request names, d the
+-- data, of any length, SPEC 13.2: `number` and `getD` read each missing byte as zero, and only list use and parts get read
+-- past their fixed fields. Assumes nothing.
 use mathlib.Core.Bool.{Bool}
 use mathlib.Core.List.{List}
 use Prim.Native.Nat.{ℕ, zero, suc}

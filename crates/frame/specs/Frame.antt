@@ -1,4 +1,4 @@
--- The fields of a request: document 01, "The frame" and "What each command does". Assumes nothing.
+-- The fields of a request, SPEC 3.2, and of its data, SPEC 4. Assumes nothing.
 use mathlib.Core.List.{List}
 use Prim.Native.Nat.{ℕ, _+_}
 use lib.ListN.{drop}
@@ -14,7 +14,7 @@ memberAt = 16
 abbrev pub dataAt : ℕ
 dataAt = 24
 
--- "A request is at most 4,096 bytes"
+-- no request is longer
 abbrev pub longest : ℕ
 longest = 4096
 

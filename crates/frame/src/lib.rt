@@ -1,5 +1,5 @@
-// From the bytes of a request to what it asks: steps 2 to 7 of document 01's table of statuses. Data may have any length:
-// what is missing of a command's fixed fields reads as zero (02, request 2).
+// From the bytes of a request, SPEC 3.2, to what it asks: steps 2 to 7 of SPEC 6.1. Data may have any length, SPEC 13.2: what
+// is missing of a command's fixed fields reads as zero.
 ghost use mathlib.Core.Path.{_≡_};
 ghost use mathlib.Core.Bool.{true};
 ghost use Prim.Native.Nat.{_≤_, _<_};

@@ -1,4 +1,4 @@
--- The header of a part: document 01, "The parts of a member". Assumes nothing.
+-- The header of a part: SPEC 5.1. Assumes nothing.
 use mathlib.Core.List.{List, _∷_, _++_}
 use Prim.Native.Nat.{ℕ}
 use lib.Dec.{eqb}
@@ -19,7 +19,7 @@ lengthAt = 12
 abbrev pub headerSize : ℕ
 headerSize = 16
 
--- "Only device features has flags 1; the others have 0"
+-- 1 for the device features, 0 for every other part
 abbrev pub flagsOf : Row → ℕ
 flagsOf r = indicator (eqb (r .partType) deviceFeatures)
 

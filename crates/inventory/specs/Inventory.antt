@@ -1,4 +1,4 @@
--- The parts of a member: document 01, "The parts of a member". Assumes nothing.
+-- The parts of a member and their order: SPEC 5.2 and 5.3; their selectors: SPEC 5.1. Assumes nothing.
 use mathlib.Core.Bool.{Bool}
 use mathlib.Core.List.{List, [], _∷_, map}
 use Prim.Native.Nat.{ℕ, _+_, _*_, _%_, _^_}
@@ -31,7 +31,7 @@ queueNotify = 0x105
 abbrev pub featuresSize : ℕ
 featuresSize = 16
 
--- a part's type and selector, and the bytes of its value
+-- a part's type and selector, and the length of its value
 pub record Row : Type 0 where
   pub partType : ℕ
   pub selector : ℕ
@@ -76,7 +76,7 @@ offsetOf i = total (take i (map (λ (r : Row). r .size) rows))
 abbrev pub valuesSize : ℕ
 valuesSize = 205
 
--- "The number of parts is 7 + 2Q and the size is 157 + 72Q"; the size includes headers
+-- how many parts a member with so many queues has, and their bytes, headers included
 abbrev pub partCount : ℕ → ℕ
 partCount queues = 7 + 2 * queues
 

@@ -1,5 +1,5 @@
-// The inventory of a member's parts: constant tables, and the place of a part in them. A loop over the rows binds the
-// tables first, since each read of a constant table builds it anew.
+// The inventory of a member's parts, SPEC 5.2: constant tables, and the place of a part in them. A loop over the rows
+// binds the tables first, since each read of a constant table builds it anew.
 ghost use mathlib.Core.Path.{_≡_};
 ghost use Prim.Native.Nat.{_+_, _*_, _^_, _≤_, _<_};
 ghost use lib.Dec.{eqb};
@@ -22,7 +22,7 @@ pub const QUEUE: u16 = 0x104;
 
 pub const QUEUE_NOTIFY: u16 = 0x105;
 
-// A part's header: type 2 bytes, flags 1, reserved 1, selector 8, length 4.
+// A part's header, SPEC 5.1: type 2 bytes, flags 1, reserved 1, selector 8, length 4.
 pub const FLAGS_AT: usize = 2;
 
 pub const SELECTOR_AT: usize = 4;

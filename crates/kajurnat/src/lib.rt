@@ -1,5 +1,5 @@
-// The exported functions. A card is a buffer that the caller lends; each function is a thin call, and each contract is
-// the definition of a lower crate.
+// The exported functions: SPEC 1.2. A card is a buffer that the caller lends; each function is one call, and each contract
+// cites a definition of a lower crate.
 ghost use mathlib.Core.Path.{_≡_};
 ghost use mathlib.Core.List.{[]};
 ghost use Rattle.theory.specs.Logic.{indicator};

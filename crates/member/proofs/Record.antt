@@ -2,11 +2,10 @@
 use mathlib.Core.Path.{_≡_, refl, ap, sym, _∙_}
 use mathlib.Core.Bool.{true}
 use mathlib.Core.List.{List, [], _∷_, _++_, map}
-use Prim.Native.Nat.{ℕ, zero, suc, _+_, _-_, _≤_, _<_}
+use Prim.Native.Nat.{ℕ, _+_, _-_, _≤_, _<_}
 use native.Mathlib.Omega.{arith}
-use borrow.Author.Tests.{leb-true}
 use lib.Dec.{leb}
-use lib.ListN.{length, getD, take, drop, set, replicate, length-append, length-map, length-set, length-drop, take-append-drop, List·getD-map}
+use lib.ListN.{length, getD, take, set, replicate, length-append, length-map, length-set, List·getD-map}
 use lib.Seq.{take-at, drop-at, take-all}
 use Rattle.theory.specs.Bytes.{bytesAt, put}
 use Rattle.theory.proofs.Bytes.{length-put, length-bytesAt, put-all, put-cons, put-nil, put-append, put-front, getD-bytesAt}
@@ -18,8 +17,8 @@ use Rattle.objects.specs.declared.Slot.{Slot}
 use Rattle.objects.specs.declared.ObjectRecord.{ObjectRecord}
 use Rattle.objects.specs.declared.Found.{Found}
 use Rattle.objects.specs.declared.Found.the-variants.{Nothing}
-use Rattle.objects.specs.Objects.{objectsSize, objectOf, objectByte, foundIn, allUpTo}
-use Rattle.objects.proofs.Objects.{objects-back, bytes-of-objects}
+use Rattle.objects.specs.Objects.{objectsSize, objectOf, objectByte, foundIn}
+use Rattle.objects.proofs.Objects.{objects-back}
 use Rattle.member.specs.declared.Member.{Member}
 use Rattle.member.specs.Record.{modeAt, objectsAt, valuesAt, memberSize, modeByte, objectBytes, memberOf, memberBytes}
 use Rattle.member.specs.Objects.{lookupOf, withObject}

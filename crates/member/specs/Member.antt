@@ -1,5 +1,4 @@
--- What a reset, a mode set and a card store make of a member: document 01, "The card and what it hears".
--- Assumes nothing.
+-- A fresh member, SPEC 2.5, and a member with another mode or other values. Assumes nothing.
 use mathlib.Core.List.{List, _++_}
 use Prim.Native.Nat.{ℕ, _-_}
 use lib.ListN.{replicate}
@@ -15,7 +14,7 @@ use Rattle.member.specs.declared.Member.{Member}
 abbrev pub featuresSize : ℕ
 featuresSize = 16
 
--- "A fresh member runs, has no objects, has device features as in the setup and every other part all zero"
+-- fresh (01's term): it runs, has no objects and the setup's device features, and every other value is zero
 unfoldable pub freshOf : List ℕ → Member
 freshOf features =
     record {
@@ -33,6 +32,6 @@ withMode m mode = record { mode = mode; objects = m .objects; values = m .values
 abbrev pub withValues : Member → List ℕ → Member
 withValues m values = record { mode = m .mode; objects = m .objects; values = values }
 
--- a card store: "the data path sets one part of one member", in either mode
+-- a card store, in either mode: SPEC 7.5
 abbrev pub withPart : ℕ → Member → ℕ → ℕ → List ℕ → Member
 withPart queues m t s value = withValues m (stored queues t s value (m .values))

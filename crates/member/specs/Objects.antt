@@ -1,4 +1,4 @@
--- The resource objects of a member, by id: document 01, "What each command does" and step 8. Assumes nothing.
+-- The resource objects of a member, by id: SPEC 4.3. Assumes nothing.
 use mathlib.Core.Bool.{Bool}
 use mathlib.Core.List.{map}
 use Prim.Native.Nat.{ℕ}

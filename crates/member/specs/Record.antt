@@ -1,4 +1,5 @@
--- A member's bytes, which stand at the front of its record: mode 1, object records 16, values 205. Assumes nothing.
+-- A member's bytes, which stand at the front of its record, SPEC 2.7: mode 1, object records 16, values 205. Assumes
+-- nothing.
 use mathlib.Core.List.{List, [], _∷_, _++_, map}
 use Prim.Native.Nat.{ℕ, _+_}
 use lib.ListN.{getD}

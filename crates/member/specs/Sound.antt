@@ -1,4 +1,4 @@
--- When a member's record is sound: document 01, "A card is sound if". Assumes nothing.
+-- When a member's record is sound (01's term): SPEC 2.4. Assumes nothing.
 use mathlib.Core.Bool.{Bool}
 use mathlib.Core.List.{List}
 use Prim.Native.Nat.{ℕ, _+_}
@@ -10,8 +10,8 @@ use Rattle.objects.specs.Objects.{allUpTo, withinLimits}
 use Rattle.member.specs.Record.{modeAt, objectBytes, valuesAt}
 use Rattle.member.specs.Member.{featuresSize}
 
--- its bytes say something: a mode and object records; "live ids below G + S, at most G get and S set objects, and the
--- setup's device features"
+-- its mode and its objects are bytes that have a meaning; live ids are below G + S; it has at most G get and S set objects,
+-- and the setup's device features
 unfoldable pub soundRecord : ℕ → ℕ → List ℕ → List ℕ → Bool
 soundRecord gets sets features r =
     leb (getD r modeAt 0) 1

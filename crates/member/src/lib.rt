@@ -1,4 +1,4 @@
-// A member of the card: a struct by value, its bytes at the front of its record, and its resource objects.
+// A member of the card: a struct by value, its bytes at the front of its record, SPEC 2.7, and its resource objects.
 ghost use mathlib.Core.Path.{_≡_};
 ghost use Prim.Native.Nat.{_+_, _≤_};
 ghost use mathlib.Core.List.{[], _∷_, map};
@@ -89,7 +89,7 @@ impl Member {
         self.with_mode(Mode::Running)
     }
 
-    // A card store: one part of the member, where it can be stored.
+    // A card store, SPEC 7.5: one part of the member, where it can be stored.
     pub fn store(mut self, queues: u8, t: u16, selector: u64, value: &[u8]) -> Member
         ensures { λ r. ⌜ r ≡ withPart queues self t selector (now (value .entry)) ⌝ }
     {

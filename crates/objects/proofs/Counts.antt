@@ -83,19 +83,19 @@ module _ (v : ℕ) (bs : List ℕ) (i n : ℕ) (e : count v bs ≡ n + count v (
       omega arith
 
 -- of the bytes up to 2, the odd one is 1, and the one with a half is 2
-pub odd-hit : (b : ℕ) → b ≤ 2 → b % 2 ≡ indicator (eqb b 1)
+pub odd-indicator : (b : ℕ) → b ≤ 2 → b % 2 ≡ indicator (eqb b 1)
 unfolding indicator
-odd-hit zero h = refl
-odd-hit (suc zero) h = refl
-odd-hit (suc (suc zero)) h = refl
-odd-hit (suc (suc (suc b))) h = omega arith
+odd-indicator zero h = refl
+odd-indicator (suc zero) h = refl
+odd-indicator (suc (suc zero)) h = refl
+odd-indicator (suc (suc (suc b))) h = omega arith
 
-pub half-hit : (b : ℕ) → b ≤ 2 → b / 2 ≡ indicator (eqb b 2)
+pub half-indicator : (b : ℕ) → b ≤ 2 → b / 2 ≡ indicator (eqb b 2)
 unfolding indicator
-half-hit zero h = refl
-half-hit (suc zero) h = refl
-half-hit (suc (suc zero)) h = refl
-half-hit (suc (suc (suc b))) h = omega arith
+half-indicator zero h = refl
+half-indicator (suc zero) h = refl
+half-indicator (suc (suc zero)) h = refl
+half-indicator (suc (suc (suc b))) h = omega arith
 
 -- what a test of all bytes found
 pub all-found : (n : ℕ) (bs : List ℕ) (b : Bool) → b ≡ allUpTo n (drop 0 bs) → not b ≡ false → allUpTo n bs ≡ true
@@ -107,8 +107,8 @@ all-at n [] i e = omega arith
 all-at n (b ∷ bs) zero e = leb-true b n (both _ _ e .0)
 all-at n (b ∷ bs) (suc i) e = all-at n bs i (both _ _ e .1)
 
-pub hit-le : (t : Bool) (h : ℕ) → h ≡ indicator t → h ≤ 1
-hit-le t h e = rw e (indicator-le t)
+pub adds-at-most-one : (t : Bool) (h : ℕ) → h ≡ indicator t → h ≤ 1
+adds-at-most-one t h e = rw e (indicator-le t)
 
 -- ---- a loop that tests each byte from a place on ----
 

@@ -1,5 +1,4 @@
--- Resource objects as bytes and records, and how many there are: document 01, "What each command does" and step 8.
--- Assumes nothing.
+-- Resource objects, SPEC 4.3, as bytes and records, and how many there are. Assumes nothing.
 use mathlib.Core.Bool.{Bool, true}
 use mathlib.Core.List.{List, [], _∷_}
 use Prim.Native.Nat.{ℕ, zero, suc, _+_}

@@ -1,4 +1,4 @@
-// Resource objects, one record and one byte for each id: what they stand for, how many there are, and one cleared.
+// Resource objects, SPEC 4.3, one record and one byte for each id: what they stand for, how many there are, and one cleared.
 ghost use mathlib.Core.Path.{_≡_};
 ghost use mathlib.Core.Bool.{true};
 ghost use mathlib.Core.List.{map};
@@ -82,7 +82,7 @@ pub fn object_bytes(objects: [ObjectRecord; IDS]) -> [u8; IDS]
 
 // 1 if the byte is v, else 0: of the bytes up to 2, 1 is the odd one and 2 the one that has a half. A sum of these is a
 // few vector additions; of the answers to a test it would be many more steps.
-fn hit(b: u8, v: u8) -> u8
+fn indicator_of(b: u8, v: u8) -> u8
     requires { ⌜ (b ≤ 2) × (1 ≤ v) × (v ≤ 2) ⌝ }
     ensures { λ r. ⌜ r ≡ indicator (eqb b v) ⌝ }
 {
@@ -96,7 +96,7 @@ fn count_of(v: u8, bytes: &[u8]) -> u8
     let mut n: u8 = 0;
     let mut i = 0;
     while i < bytes.len() {
-        n += hit(bytes[i], v);
+        n += indicator_of(bytes[i], v);
         i += 1;
     }
     n

@@ -1,4 +1,4 @@
--- A list of parts and its bytes: document 01, "The parts of a member". Assumes nothing.
+-- A list of parts and its bytes: SPEC 5.4. Assumes nothing.
 use mathlib.Core.Bool.{Bool, true, false}
 use mathlib.Core.List.{List}
 use Prim.Native.Nat.{ℕ, zero, suc, _+_, _-_}
@@ -25,7 +25,7 @@ headerAt form l at =
     step.Part (number at 2 l) (getD l (at + flagsAt) 0) (selectorOf (number at 2 l) (number (at + selectorAt) 8 l))
     (at + headerSize) (valueSize form l at)
 
--- what stands at a position: "if a header or a value runs past the end"
+-- what stands at a position: a part, the end, or a part that is cut: its header or its value runs past the end
 unfoldable pub stepAt : ListForm → List ℕ → ℕ → Step
 stepAt form l at =
     unless ltb at (length l) answer step.End then
@@ -40,7 +40,7 @@ pub record Part : Type 0 where
   pub selector : ℕ
   pub value : List ℕ
 
--- parts one after the other, to the end of the list or to one that is cut short
+-- parts one after the other, to the end of the list or to one that is cut
 pub data PartList : Type 0 where
   end : PartList
   cut : PartList

@@ -1,4 +1,4 @@
-// A list of parts, and the walk over it.
+// A list of parts, SPEC 5.4, and the walk over it.
 ghost use mathlib.Core.Path.{_≡_};
 ghost use Prim.Native.Nat.{_+_, _≤_};
 ghost use lib.Dec.{eqb};

@@ -1,5 +1,5 @@
--- The answers and their numbers, document 01, "Statuses, and which comes first"; modes and kinds of objects, as tests and as
--- numbers. Assumes nothing.
+-- The answers and their numbers, SPEC 6.2 and 7.1; modes, SPEC 4.11, and kinds of objects, SPEC 4.3, as tests and as numbers.
+-- Assumes nothing.
 use mathlib.Core.Bool.{Bool, true, false}
 use Prim.Native.Nat.{ℕ, zero, suc}
 use lib.Dec.{eqb}
@@ -46,7 +46,7 @@ qualifierOf ShortReply = 6
 abbrev pub isDone : Answer → Bool
 isDone a = eqb (statusOf a) 0
 
--- "Card events and setup answer"
+-- what setup and card events answer: SPEC 7.1
 abbrev pub eventNumber : EventAnswer → ℕ
 eventNumber event.Done = 0
 eventNumber event.NotSound = 9

@@ -1,4 +1,4 @@
--- The opcodes and the fixed fields of their data: document 01, "The frame", and 02, request 2. Assumes nothing.
+-- The opcodes and the fixed fields of their data: SPEC 3.4. Assumes nothing.
 use mathlib.Core.Bool.{Bool, true, false}
 use mathlib.Core.List.{List, [], _∷_}
 use Prim.Native.Nat.{ℕ, _/_, _%_, _^_}

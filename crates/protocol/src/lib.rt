@@ -5,7 +5,7 @@ ghost use mathlib.Core.Bool.{true};
 ghost use Rattle.protocol.specs.Answers.{statusOf, qualifierOf, isDone, eventNumber, isEventDone, modeOf, kindNumber};
 ghost use Rattle.protocol.specs.Opcodes.{supported, fixedSize, namesMember, bit, supportedOnly};
 
-// The answer to a command: document 01, "Statuses, and which comes first".
+// The answer to a command: SPEC 6.1, with the numbers of SPEC 6.2.
 pub enum Answer {
     Done,
     BadLength,
@@ -22,7 +22,7 @@ pub enum Answer {
     ShortReply,
 }
 
-// The answer to a card event or a setup.
+// The answer to a card event or a setup: SPEC 7.1.
 pub enum EventAnswer {
     Done,
     NotSound,

@@ -1,4 +1,4 @@
--- The commands that read a member: document 01, "What each command does", steps 8 to 10. Assumes nothing.
+-- The commands that read a member, SPEC 4.6, 4.8 and 4.9: steps 8 to 10 of SPEC 6.1. Assumes nothing.
 use mathlib.Core.List.{List}
 use Prim.Native.Nat.{ℕ}
 use Rattle.theory.specs.Logic.{unless_answer_then_}
@@ -32,7 +32,7 @@ metadataOf queues Size = Number (partsSize queues)
 metadataOf queues Count = Number (partCount queues)
 metadataOf queues HeaderList = Headers
 
--- "Metadata and parts get need a get object"
+-- metadata and parts get need a live get object
 unfoldable pub throughGet : ℕ → Member → Reading → Reading
 throughGet id m rest =
     onFound (lookupOf m id)

@@ -1,5 +1,5 @@
-// The commands that read a member: steps 8 to 10 of document 01's table of statuses. They read its bytes where
-// they stand in the card.
+// The commands that read a member, SPEC 4.6, 4.8 and 4.9: steps 8 to 10 of SPEC 6.1. They read its bytes where they stand
+// in the card.
 ghost use mathlib.Core.Path.{_≡_};
 ghost use lib.ListN.{length};
 ghost use Rattle.member.specs.Record.{memberSize, memberOf};

@@ -1,4 +1,4 @@
--- The reply: document 01, "The frame", and steps 11 and 12. Assumes nothing.
+-- The reply, SPEC 3.3: steps 11 and 12 of SPEC 6.1. Assumes nothing.
 use mathlib.Core.List.{List, [], _++_}
 use Prim.Native.Nat.{ℕ, _+_}
 use lib.Dec.{leb}
@@ -17,14 +17,14 @@ headSize = 8
 unfoldable pub headOf : Answer → List ℕ
 headOf a = bytes 2 (statusOf a) ++ (bytes 2 (qualifierOf a) ++ replicate 4 0)
 
--- step 11: "8 + result longer than the reply buffer"
+-- step 11: a success whose head and result do not fit the reply buffer is refused
 unfoldable pub finalOf : Answer → ℕ → ℕ → Answer
 finalOf a size room =
     if isDone a then
     (unless leb (headSize + size) room answer ShortReply then a) else
     a
 
--- "A refusal's reply is exactly 8 bytes"
+-- a refusal's reply is the head alone
 unfoldable pub replyOf : Answer → List ℕ → List ℕ
 replyOf a result = headOf a ++ (if isDone a then result else [])
 
@@ -32,7 +32,6 @@ replyOf a result = headOf a ++ (if isDone a then result else [])
 unfoldable pub replied : Answer → List ℕ → ℕ → List ℕ
 replied a result room = replyOf (finalOf a (length result) room) result
 
--- what is left of a buffer in which a reply was written: how many bytes it has, and the buffer, whose other bytes keep
--- their values
+-- a reply written to a buffer: how many bytes it has, and the buffer, whose other bytes keep their values
 unfoldable pub written : List ℕ → List ℕ → ℕ × List ℕ
 written reply buffer = (length reply, put 0 reply buffer)

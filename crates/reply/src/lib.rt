@@ -1,4 +1,4 @@
-// The reply to a command: its head, its result in the lent tail, and steps 11 and 12.
+// The reply to a command, SPEC 3.3: its head, its result in the lent tail, and steps 11 and 12 of SPEC 6.1.
 ghost use mathlib.Core.Path.{_≡_};
 ghost use Prim.Native.Nat.{ℕ, _+_, _≤_, _<_};
 ghost use mathlib.Core.List.{List, [], _++_};

@@ -1,4 +1,4 @@
--- Step 10, a bad list, given or asked: document 01, "The parts of a member". Assumes nothing.
+-- Step 10, a bad list: one given to be set, SPEC 5.5, and one asked for, SPEC 5.6. Assumes nothing.
 use mathlib.Core.Bool.{Bool, true, false, not}
 use mathlib.Core.List.{List}
 use Prim.Native.Nat.{ℕ, _%_}
@@ -14,7 +14,7 @@ use Rattle.rules.specs.declared.Cause.the-variants.{Accepted, Cut, Unkno
 
 -- ---- rules of one part ----
 
--- the member has got this part; 01 calls it known
+-- the member has this part: it is known (01's term)
 unfoldable pub known : ℕ → ℕ → ℕ → Bool
 known queues t s = onPlace (placeOf queues t s) (λ i. true) false
 
@@ -25,22 +25,22 @@ isOptional flags = eqb (flags % 2) 1
 abbrev pub neverSkipped : ℕ
 neverSkipped = 0x600
 
--- "a part the member has not got lacks the optional bit, or has a type of 0x600 or more"
+-- a part that is not known is skipped where its optional bit is set and its type is low enough, and else refused
 unfoldable pub knownOrSkipped : ℕ → Part → Bool
 knownOrSkipped queues p =
     known queues (p .partType) (p .selector)
     or (isOptional (p .flags) and ltb (p .partType) neverSkipped)
 
--- "a known part has another length than the table's"
+-- the value of a known part is as long as the table says
 unfoldable pub lengthRight : ℕ → Part → Bool
 lengthRight queues p =
     onPlace (placeOf queues (p .partType) (p .selector)) (λ i. eqb (length (p .value)) (rowAt i .size)) true
 
--- "the device features supplied differ from the member's"
+-- device features that are given are the member's
 unfoldable pub featuresSame : List ℕ → Part → Bool
 featuresSame features p = not (eqb (p .partType) deviceFeatures) or same (p .value) features
 
--- an asked header "that names a part the member has not got"
+-- a header asked for is that of a known part, whatever its flags
 unfoldable pub asksKnown : ℕ → Part → Bool
 asksKnown queues p = known queues (p .partType) (p .selector)
 
@@ -51,7 +51,7 @@ every rule end = true
 every rule cut = true
 every rule (part p ps) = rule p and every rule ps
 
--- "A part named twice in one list": a known part that is among those after it
+-- a known part is given or asked for twice: it is among those after it
 unfoldable pub repeated : ℕ → PartList → Bool
 repeated queues end = false
 repeated queues cut = false
@@ -59,7 +59,7 @@ repeated queues (part p ps) =
     (known queues (p .partType) (p .selector) and among (p .partType) (p .selector) ps)
     or repeated queues ps
 
--- a list given to be set: the first cause, in 01's order, that occurs anywhere in it
+-- a list given to be set: the first cause, in the order of SPEC 5.5, that occurs anywhere in it
 unfoldable pub causeIn : ℕ → List ℕ → PartList → Cause
 causeIn queues features ps =
     unless whole ps answer Cut then

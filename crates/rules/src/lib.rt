@@ -1,4 +1,4 @@
-// Step 10, a bad list, given or asked: the rules of one part, and of a list.
+// Step 10, a bad list, SPEC 5.5 and 5.6: the rules of one part, and of a list.
 ghost use mathlib.Core.Path.{_≡_};
 ghost use mathlib.Core.Bool.{true, not};
 ghost use lib.Dec.{eqb, ltb};
@@ -23,7 +23,7 @@ enum Rule {
     FeaturesSame,
 }
 
-// Why a list given to be set is refused: the first of document 01's causes that occurs anywhere in it, or none.
+// Why a list given to be set is refused: the first cause, in the order of SPEC 5.5, that occurs anywhere in it, or none.
 pub enum Cause {
     Accepted,
     Cut,

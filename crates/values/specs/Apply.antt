@@ -1,5 +1,4 @@
--- What a card store and an accepted list set: document 01, "The card and what it hears" and "The parts of a member".
--- Assumes nothing.
+-- What a card store sets, SPEC 7.5, and what an accepted list sets, SPEC 5.7. Assumes nothing.
 use mathlib.Core.List.{List}
 use Prim.Native.Nat.{ℕ}
 use lib.Dec.{ltb, eqb}
@@ -11,8 +10,7 @@ use Rattle.protocol.specs.declared.EventAnswer.the-variants.{Done, NoPart, Wron
 use Rattle.inventory.specs.Inventory.{featuresRow, rowAt, offsetOf, placeOf, onPlace}
 use Rattle.parts.specs.List.{PartList, end, cut, part}
 
--- whether a value of n bytes can be stored: "2 no such part (device features count so), 3 wrong length".
--- Device features are never set
+-- whether a value of n bytes can be stored; device features are never set, so they count as no part
 unfoldable pub storable : ℕ → ℕ → ℕ → ℕ → EventAnswer
 storable queues t s n =
     onPlace (placeOf queues t s)

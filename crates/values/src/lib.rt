@@ -1,4 +1,4 @@
-// What a card store and an accepted list set.
+// What a card store sets, SPEC 7.5, and what an accepted list sets, SPEC 5.7.
 ghost use mathlib.Core.Path.{_≡_};
 ghost use lib.ListN.{length};
 ghost use Rattle.inventory.specs.Inventory.{valuesSize};

@@ -1,4 +1,4 @@
--- Little-endian numbers: document 01, "The frame", "All numbers are little-endian". Assumes nothing.
+-- Little-endian numbers: SPEC 3.1. Assumes nothing.
 use mathlib.Core.List.{List, [], _∷_}
 use Prim.Native.Nat.{ℕ, zero, suc, _+_, _*_, _/_, _%_}
 use Rattle.theory.specs.Bytes.{bytesAt}

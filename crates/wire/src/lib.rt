@@ -1,4 +1,4 @@
-// Little-endian numbers, and bytes, at a place of a slice.
+// Little-endian numbers, SPEC 3.1, and bytes, at a place of a slice.
 ghost use mathlib.Core.Path.{_≡_};
 ghost use Prim.Native.Nat.{_+_, _^_, _≤_, _<_};
 ghost use lib.Dec.{eqb};

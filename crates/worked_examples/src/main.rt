@@ -1,6 +1,6 @@
-// The worked examples of document 01, B1 to B12 and the metadata list, and those of requests of any length (02, request 2),
-// L1 to L7, through the exported library: each reply in hexadecimal under its name. Setup: two members, one queue, one get
-// and one set object each, features all zero.
+// The worked examples of SPEC 10, B1 to B12 and the metadata list, and L1 to L7 of requests of any length, through the
+// exported library: each reply in hexadecimal under its name. Setup: two members, one queue, one get and one set object
+// each, features all zero.
 use transcript::GET;
 use transcript::Request;
 use transcript::SET;
@@ -204,7 +204,7 @@ fn room(card: &mut [u8]) {
 
 // ---- requests of any length, for member 1: built ones that are cut, or have bytes more ----
 
-// The object header ends after the first byte of its id.
+// An object header that ends after the first byte of its id.
 fn query_of_5() -> Request {
     Request::query(1, 1).cut(11)
 }
@@ -222,10 +222,33 @@ fn create_of_30() -> Request {
     r.more(0xff).more(0xff).more(0xff)
 }
 
-// A header and the first half of another.
-fn get_half() -> Request {
-    Request::get(1, 0, 0, &TWO).cut(8)
-}
+// The device status and the first half of another header.
+const HALF: [u8; 24] = [
+    0x03,
+    0x01,
+    0,
+    0,
+    0,
+    0,
+    0,
+    0,
+    0,
+    0,
+    0,
+    0,
+    0,
+    0,
+    0,
+    0,
+    0x05,
+    0x01,
+    0,
+    0,
+    0,
+    0,
+    0,
+    0,
+];
 
 // ---- each example on a card of its own ----
 
@@ -278,7 +301,7 @@ fn long_mask(card: &mut [u8]) {
     );
 }
 
-fn cut_lists(card: &mut [u8]) {
+fn lists(card: &mut [u8]) {
     let mut short = [0u8; 8];
     all_used(card);
     show(
@@ -289,19 +312,10 @@ fn cut_lists(card: &mut [u8]) {
     objects_live(card);
     show_in(
         b"L7 one header and a half, room for 8",
-        get_half(),
+        Request::get(1, 0, 0, &HALF),
         card,
         &mut short,
     );
-}
-
-fn any_length(card: &mut [u8]) {
-    cut_create(card);
-    long_create(card);
-    resumed(card);
-    blocked(card);
-    long_mask(card);
-    cut_lists(card);
 }
 
 fn main() {
@@ -315,5 +329,10 @@ fn main() {
     parts(&mut card);
     stopped(&mut card);
     room(&mut card);
-    any_length(&mut card);
+    cut_create(&mut card);
+    long_create(&mut card);
+    resumed(&mut card);
+    blocked(&mut card);
+    long_mask(&mut card);
+    lists(&mut card);
 }

@@ -1,6 +1,5 @@
 -- `events::store_in` meets its contract. Assumes nothing.
 use borrow.Author.Needs.{needs}
-use Rattle.card.proofs.LayoutLaws.{has-header}
 use Rattle.events.proofs.EventLaws.{store-refused, stored-in}
 use Rattle.events.proofs.store_in.Statement.{statement}
 use Rattle.events.proofs.store_in.Tie as tie

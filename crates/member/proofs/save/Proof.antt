@@ -1,5 +1,5 @@
 -- `member::save` meets its contract: the fields are stored one after the other. Assumes nothing.
-use mathlib.Core.Path.{_≡_, sym, _∙_}
+use mathlib.Core.Path.{sym, _∙_}
 use borrow.Author.Needs.{needs}
 use lib.ListN.{length-map}
 use Rattle.member.proofs.Record.{Shaped, values-fit, member-saved}

@@ -6,7 +6,7 @@ use Prim.Native.Nat.{_+_, _-_, _≤_}
 use lib.ListN.{drop}
 use Rattle.objects.specs.Objects.{objectsSize}
 use Rattle.objects.specs.Objects.{count}
-use Rattle.objects.proofs.Counts.{count-on, counted, hit-le, all-at}
+use Rattle.objects.proofs.Counts.{count-on, counted, adds-at-most-one, all-at}
 use Rattle.objects.proofs.count_of.Statement.{statement}
 use Rattle.objects.proofs.count_of.Tie as tie
 
@@ -17,10 +17,10 @@ abbrev μ-loop : tie.MeasureT-loop
 μ-loop v bytes n₀ i₀ n i = objectsSize - i
 
 add-n : tie.Need-add-n Inv-loop μ-loop
-add-n c = let h : c .hit .result ≤ 1 = search (needs, hit-le) in omega arith
+add-n c = let h : c .indicator-of .result ≤ 1 = search (needs, adds-at-most-one) in omega arith
 
 loop-again : tie.Need-loop-again Inv-loop μ-loop
-loop-again c = let h : c .hit .result ≤ 1 = search (needs, hit-le) in (search needs, omega arith, search (needs, count-on))
+loop-again c = let h : c .indicator-of .result ≤ 1 = search (needs, adds-at-most-one) in (search needs, omega arith, search (needs, count-on))
 
 pub count-of-spec : {M : Type 1} → statement M
 count-of-spec =

@@ -4,6 +4,7 @@ use std::fmt;
 
 use plain_card::frame::{Frame, GROUP};
 
+use crate::fields::Fields;
 use crate::memory::{Buffer, Place, Room};
 use crate::show::{CardBytes, Hex};
 
@@ -24,13 +25,23 @@ pub enum Call {
     ResetCard,
     /// Card store.
     Store { member: u64, part_type: u16, selector: u64, value: Buffer },
+    /// A request built in a buffer.
+    Build { fields: Fields, list: Buffer, room: Room },
+    /// A reply read as the answer to a command; `what` is a type byte.
+    Read { opcode: u16, what: u8, reply: Buffer },
 }
 
+/// The length of the four numbers that a reply is read into: status and
+/// qualifier to act on, and both as they were sent.
+pub const NUMBERS: usize = 8;
+
 impl Call {
-    /// The reply buffer.
+    /// The buffer that is written besides the card: reply, request, or the
+    /// numbers that are read.
     pub fn room(&self) -> Room {
         match self {
-            Call::Command { room, .. } => *room,
+            Call::Command { room, .. } | Call::Build { room, .. } => *room,
+            Call::Read { .. } => NUMBERS.into(),
             _ => 0.into(),
         }
     }
@@ -41,6 +52,8 @@ impl Call {
             Call::Setup { features, .. } => Some(("features", features)),
             Call::Command { request, .. } => Some(("request", request)),
             Call::Store { value, .. } => Some(("value", value)),
+            Call::Build { list, .. } => Some(("list", list)),
+            Call::Read { reply, .. } => Some(("reply", reply)),
             _ => None,
         }
     }
@@ -73,6 +86,11 @@ impl Call {
                 room.place = Place::USUAL;
             }
             Call::Store { value, .. } => value.place = Place::USUAL,
+            Call::Build { list, room, .. } => {
+                list.place = Place::USUAL;
+                room.place = Place::USUAL;
+            }
+            Call::Read { reply, .. } => reply.place = Place::USUAL,
             Call::CardBytes(_) | Call::ResetMember(_) | Call::ResetCard => {}
         }
         call
@@ -122,6 +140,14 @@ impl fmt::Display for Call {
                 write!(f, "store, member {member}, type {part_type:#x}, selector {selector:#x}")?;
                 write!(f, ", value of {} bytes: {value}", value.len())
             }
+            Call::Build { fields, list, room } => {
+                write!(f, "request to build: {fields}, list of {} bytes: {list}", list.len())?;
+                write!(f, ", in a buffer of {room}")
+            }
+            Call::Read { opcode, what, reply } => {
+                write!(f, "reply to opcode {opcode:#x}, type byte {what}, to read")?;
+                write!(f, ", of {} bytes: {reply}", reply.len())
+            }
         }
     }
 }
@@ -129,8 +155,16 @@ impl fmt::Display for Call {
 #[cfg(test)]
 mod tests {
     use super::*;
-    use crate::request::request;
     use plain_card::opcode::Opcode;
+
+    /// A request of the opcode for member 7, without data.
+    fn request(opcode: Opcode) -> Vec<u8> {
+        let fields = Fields { opcode, member: 7, id: 0, byte: 0, mask: 0 };
+        let mut request = fields.request(&[]).bytes();
+        request.truncate(24);
+        request[16] = 7;
+        request
+    }
 
     fn command(request: Vec<u8>) -> Call {
         Call::Command { request: request.into(), room: 8.into() }
@@ -140,9 +174,9 @@ mod tests {
     fn a_command_names_its_member_if_it_has_one() {
         for opcode in Opcode::ALL {
             let named = opcode.names_member().then_some(7);
-            assert_eq!(command(request(opcode, 7, &[])).named(), named);
+            assert_eq!(command(request(opcode)).named(), named);
         }
-        let good = request(Opcode::Query, 7, &[]);
+        let good = request(Opcode::Query);
         assert_eq!(command(good[..23].to_vec()).named(), None);
         let mut other_group = good.clone();
         other_group[2] = 2;

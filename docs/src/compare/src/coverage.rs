@@ -14,6 +14,8 @@ const STATUSES: [&str; 12] =
     ["none", "22/1", "22/4", "22/2", "22/5", "22/3", "17/1", "6/1", "28/1", "11/7", "12/6", "0/0"];
 /// Answers of events in their order.
 const ANSWERS: [&str; 6] = ["9", "1", "2", "3", "4", "0"];
+/// What becomes of a request to build and of a reply to read.
+const OUTCOMES: [&str; 2] = ["refused", "done"];
 
 const COMMANDS: [&str; 11] = [
     "list query",
@@ -30,6 +32,7 @@ const COMMANDS: [&str; 11] = [
 ];
 const EVENTS: [&str; 5] =
     ["setup", "reset of a member", "reset of the card", "card store", "is sound"];
+const HOST: [&str; 2] = ["request built", "reply read"];
 
 /// How often a kind of call was answered in one way.
 #[derive(Default)]
@@ -46,6 +49,8 @@ impl Coverage {
             Call::ResetMember(_) => (EVENTS[1], seen.answer.to_string()),
             Call::ResetCard => (EVENTS[2], seen.answer.to_string()),
             Call::Store { .. } => (EVENTS[3], seen.answer.to_string()),
+            Call::Build { .. } => (HOST[0], outcome(seen.answer != 0)),
+            Call::Read { .. } => (HOST[1], outcome(seen.answer == 0)),
         };
         self.count(kind, answer);
     }
@@ -62,7 +67,8 @@ impl Coverage {
         columns: &[&str],
     ) -> fmt::Result {
         let digits = self.0.values().max().map_or(1, |most| most.to_string().len());
-        let width = digits.max(4) + 1;
+        let widest = columns.iter().map(|column| column.len()).max().unwrap_or(0);
+        let width = digits.max(widest) + 1;
         write!(f, "{:<18}", "")?;
         columns.iter().try_for_each(|column| write!(f, "{column:>width$}"))?;
         writeln!(f)?;
@@ -85,6 +91,10 @@ fn command(request: &[u8]) -> &'static str {
     COMMANDS[row.unwrap_or(COMMANDS.len() - 1)]
 }
 
+fn outcome(done: bool) -> String {
+    OUTCOMES[usize::from(done)].into()
+}
+
 fn status(seen: &Seen) -> String {
     match seen.answer {
         0 => "none".into(),
@@ -95,6 +105,7 @@ fn status(seen: &Seen) -> String {
 impl fmt::Display for Coverage {
     fn fmt(&self, f: &mut fmt::Formatter) -> fmt::Result {
         self.table(f, &COMMANDS, &STATUSES)?;
-        self.table(f, &EVENTS, &ANSWERS)
+        self.table(f, &EVENTS, &ANSWERS)?;
+        self.table(f, &HOST, &OUTCOMES)
     }
 }

@@ -161,7 +161,7 @@ mod tests {
             _ => 0,
         };
         let mut kinds = BTreeSet::new();
-        for index in 0..5_000 {
+        for index in 0..10_000 {
             let Exchange { neighbours, .. } = Exchange::draw(&mut Random::new(1, index));
             assert!(neighbours[0].named().is_some() && neighbours[1].named().is_some());
             assert_ne!(neighbours[0].named(), neighbours[1].named());

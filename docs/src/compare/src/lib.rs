@@ -2,14 +2,15 @@
 //!
 //! | module | holds |
 //! |---|---|
-//! | [`call`], [`device`] | calls, and the two cards that hear them |
+//! | [`call`], [`fields`], [`device`] | calls, and the two cards that hear them |
 //! | [`memory`] | the buffers of a call, where what it does beside them shows |
-//! | [`draw`], [`request`], [`random`] | random calls, biased to deep states |
+//! | [`draw`], [`part_bytes`], [`random`] | random calls, biased to deep states |
 //! | [`sequence`], [`coverage`] | the comparison: random sequences on both cards, and what they reach |
 //! | [`trial`], [`limit`] | how properties are tried on one device, and for how long |
 //! | [`isolation`] | demand 3, tried on random pairs of sequences |
 //! | [`round_trip`] | the round trip of demand 2, tried on random cards |
 //! | [`exchange`] | neighbouring calls for different members, tried in both orders |
+//! | [`halves`] | built requests, sent to a card, and its replies, read |
 //! | [`shrink`], [`show`] | the shortest sequence found that shows a difference, as text |
 //! | [`faults`] | planted faults that the above have to find |
 //! | [`fast`] | the fastest plain Rust over bytes, for the timing |
@@ -25,11 +26,13 @@ pub mod draw;
 pub mod exchange;
 pub mod fast;
 pub mod faults;
+pub mod fields;
+pub mod halves;
 pub mod isolation;
 pub mod limit;
 pub mod memory;
+pub mod part_bytes;
 pub mod random;
-pub mod request;
 pub mod round_trip;
 pub mod sequence;
 pub mod show;

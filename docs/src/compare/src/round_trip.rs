@@ -6,6 +6,7 @@
 use std::fmt;
 
 use plain_card::bytes;
+use plain_card::host::Request;
 use plain_card::member::Mode;
 use plain_card::object::Kind;
 use plain_card::opcode::Opcode;
@@ -16,7 +17,6 @@ use crate::device::Make;
 use crate::draw;
 use crate::memory::{Buffer, Place, Room};
 use crate::random::Random;
-use crate::request::{object_and_parts, object_and_type, request};
 use crate::show::CardBytes;
 use crate::trial::{Side, Trial};
 
@@ -57,8 +57,7 @@ impl Trial for RoundTrip {
         if captured.get(..8) != Some(&[0; 8]) {
             return Some("the capture is refused".into());
         }
-        let data = object_and_parts(self.target_set, &captured[8..]);
-        let set = command(request(Opcode::PartsSet, self.to, &data), 8);
+        let set = command(Request::Set(self.to, self.target_set, &captured[8..]), 8);
         if target.reply(&set) != (8, vec![0; 8]) {
             return Some("the captured parts are not accepted".into());
         }
@@ -98,13 +97,14 @@ fn live(random: &mut Random, card: &mut Card, member: u64, kind: Kind) -> u32 {
 
 /// A full capture, with a buffer long enough for four queues.
 fn capture(member: u64, id: u32) -> Call {
-    command(request(Opcode::PartsGet, member, &object_and_type(id, 1, &[])), 8 + 157 + 72 * 4)
+    command(Request::Get(member, id, 1, &[]), 8 + 157 + 72 * 4)
 }
 
 /// A command whose buffers lie right before guard pages.
-fn command(request: Vec<u8>, length: usize) -> Call {
+fn command(request: Request, length: usize) -> Call {
     let place = Place::BeforePage;
-    Call::Command { request: Buffer { bytes: request, place }, room: Room { length, place } }
+    let request = Buffer { bytes: request.bytes(), place };
+    Call::Command { request, room: Room { length, place } }
 }
 
 impl fmt::Display for RoundTrip {

@@ -1,7 +1,7 @@
 //! The fast card of the timing gives what the plain card gives.
 
 use compare::call::Call;
-use compare::device::Device;
+use compare::device::{Device, Plain};
 use compare::fast;
 use compare::limit::Limit;
 use compare::memory::Lent;
@@ -30,6 +30,10 @@ impl Device for Fast {
             Call::ResetCard => exported::reset_card(card).into(),
             Call::Store { member, part_type, selector, value } => {
                 exported::store(card, *member, *part_type, *selector, value).into()
+            }
+            // The host's half has no fast form.
+            Call::Build { .. } | Call::Read { .. } => {
+                Plain::default().hear(call, reply.bytes_mut())
             }
         }
     }

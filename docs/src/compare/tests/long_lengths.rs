@@ -1,12 +1,11 @@
 //! Lengths past 32 bits, which random sequences do not reach: the archive
 //! beside the plain card, with buffers of 4 GiB and a valid length.
 
-use compare::device::is_sound;
 use compare::memory::Huge;
-use compare::request::{object_and_type, request};
 use kajurnat::raw;
+use plain_card::host::Request;
 use plain_card::object::Kind;
-use plain_card::opcode::{Opcode, SUPPORTED};
+use plain_card::opcode::SUPPORTED;
 use plain_card::{bytes, exported, Card, Setup};
 
 /// The bytes of a card with a get object and every command in use.
@@ -18,7 +17,7 @@ fn card() -> Vec<u8> {
 }
 
 fn capture() -> Vec<u8> {
-    request(Opcode::PartsGet, 1, &object_and_type(0, 1, &[]))
+    Request::Get(1, 0, 1, &[]).bytes()
 }
 
 /// The same answer and the same card, by archive and plain card.
@@ -94,7 +93,46 @@ fn a_card_is_not_sound() {
     assert_eq!(raw::reset_member(card, 1), 9);
     assert_eq!(raw::reset_card(card), 9);
     assert_eq!(raw::store(card, 1, 0x101, 0, &[7; 16]), 9);
-    assert_eq!((is_sound(card), exported::is_sound(card)), (0, 0));
+    assert_eq!((raw::is_sound(card), exported::is_sound(card)), (0, 0));
     assert_eq!(reply, [7; 600]);
     assert_eq!(card[..length], self::card());
+}
+
+#[test]
+fn a_list_is_too_long_to_be_built() {
+    let mut huge = Huge::new();
+    for length in [0, 16] {
+        let list = huge.starting_with(&vec![7; length]);
+        let mut buffer = [7; 600];
+        assert_eq!(raw::request_get(&mut buffer, 1, 0, 0, list), 0);
+        assert_eq!(raw::request_set(&mut buffer, 1, 0, list), 0);
+        assert_eq!(buffer, [7; 600]);
+        assert_eq!(exported::build(&Request::Get(1, 0, 0, list), &mut buffer), 0);
+        assert_eq!(exported::build(&Request::Set(1, 0, list), &mut buffer), 0);
+    }
+}
+
+#[test]
+fn a_buffer_for_a_request_is_long_enough() {
+    let (mut left, mut right) = (Huge::new(), Huge::new());
+    for few in [0, 47] {
+        let (left, right) = (left.starting_with(&vec![7; few]), right.starting_with(&vec![7; few]));
+        assert_eq!(raw::request_create(left, 2, 3, 1), 48);
+        assert_eq!(exported::build(&Request::Create(2, 3, 1), right), 48);
+        assert_eq!(left[..600], right[..600]);
+    }
+}
+
+#[test]
+fn a_reply_has_a_wrong_length() {
+    let mut huge = Huge::new();
+    let reply = huge.starting_with(&[0; 16]);
+    for (opcode, what) in [(0x00, 0), (0x0c, 0), (0x0e, 0), (0x0e, 2), (0x11, 0)] {
+        let [mut a, mut b, mut c, mut d] = [7; 4];
+        let archive = raw::reply_read(opcode, what, reply, &mut a, &mut b, &mut c, &mut d);
+        let mut numbers = [7; 4];
+        let plain = exported::reply_read(opcode, what, reply, &mut numbers);
+        assert_eq!((archive, [a, b, c, d]), (1, [7; 4]));
+        assert_eq!((plain, numbers), (1, [7; 4]));
+    }
 }

@@ -42,7 +42,8 @@ fn a_short_run_finds_no_difference() {
     let output = run(COMPARE, &["--calls", "2000", "--seed", "5"]);
     let told = String::from_utf8(output.stdout).unwrap();
     assert_eq!(output.status.code(), Some(0), "{told}");
-    for what in ["calls compared", "isolation pairs", "round trips", "exchanges"] {
+    for what in ["calls compared", "isolation pairs", "round trips", "exchanges", "built requests"]
+    {
         let line = |line: &&str| line.contains(what) && line.ends_with("no difference");
         assert_eq!(told.lines().filter(line).count(), 1, "{what}");
     }

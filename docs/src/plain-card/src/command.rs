@@ -1,4 +1,5 @@
-//! The twelve steps of the status table, one line each, in its order.
+//! The steps of the status table, one line each, in its order. Step 6, exact
+//! lengths of the data, went with request 2 of document 02.
 
 use crate::card::Card;
 use crate::effect::{put, Effect};
@@ -39,7 +40,6 @@ fn answer(card: &mut Card, request: &[u8], result: &mut [u8]) -> Result<usize, R
     frame.check_group_type()?; // step 3
     let opcode = frame.opcode_in_use(card.in_use)?; // step 4
     frame.check_member(opcode, &card.setup)?; // step 5
-    frame.check_data_length(opcode)?; // step 6
     let command = Command::read(opcode, frame.data, &card.setup)?; // step 7
     match command {
         Command::ListQuery => {

@@ -5,6 +5,8 @@
 
 use crate::bytes::{read, write, HEADER, RECORD};
 use crate::card::Card;
+use crate::host::{self, Answer, Request};
+use crate::opcode::Opcode;
 use crate::setup::{Setup, MEMBERS};
 use crate::status::{answer, EventError};
 
@@ -70,6 +72,23 @@ pub fn reset_card(card: &mut [u8]) -> u8 {
 /// Card store; `selector` is the eight bytes as a little-endian number.
 pub fn store(card: &mut [u8], member: u64, part_type: u16, selector: u64, value: &[u8]) -> u8 {
     event(card, |card| card.store(member, part_type, selector.to_le_bytes(), value))
+}
+
+/// Builds a request; tells its length, or 0 if it is refused.
+pub fn build(request: &Request, buffer: &mut [u8]) -> usize {
+    request.build(buffer).unwrap_or(0)
+}
+
+/// Reads a reply: 0, with the status and qualifier to act on and the two as
+/// they were sent in `numbers`; or 1, refused. An opcode that is none of the
+/// ten is refused.
+pub fn reply_read(opcode: u16, what: u8, reply: &[u8], numbers: &mut [u16; 4]) -> u8 {
+    let answer = Opcode::from_number(opcode).and_then(|opcode| host::read(opcode, what, reply));
+    let Some(Answer { status, qualifier, sent_status, sent_qualifier, .. }) = answer else {
+        return 1;
+    };
+    *numbers = [status, qualifier, sent_status, sent_qualifier];
+    0
 }
 
 fn event(bytes: &mut [u8], act: impl FnOnce(&mut Card) -> Result<(), EventError>) -> u8 {

@@ -1,6 +1,6 @@
-//! The frame of a request: steps 2 to 6 of the status table.
+//! The frame of a request: steps 2 to 5 of the status table.
 
-use crate::opcode::Opcode;
+use crate::opcode::{Opcode, FIXED_MAX};
 use crate::setup::Setup;
 use crate::status::Refusal;
 
@@ -53,11 +53,20 @@ impl<'a> Frame<'a> {
     pub fn check_member(&self, opcode: Opcode, setup: &Setup) -> Result<(), Refusal> {
         Refusal::Member.unless(!opcode.names_member() || setup.has_member(self.member))
     }
+}
 
-    /// Step 6: the data has a length that the command takes.
-    pub fn check_data_length(&self, opcode: Opcode) -> Result<(), Refusal> {
-        Refusal::DataLength.unless(opcode.takes(self.data.len()))
-    }
+/// The fixed fields at the start of the data. Bytes that are missing are zero,
+/// also those of a field of which some are there (document 02, request 2).
+pub fn fixed_fields(data: &[u8]) -> [u8; FIXED_MAX] {
+    let mut fields = [0; FIXED_MAX];
+    let given = data.len().min(FIXED_MAX);
+    fields[..given].copy_from_slice(&data[..given]);
+    fields
+}
+
+/// What follows so many bytes of the data; nothing if it is not longer.
+pub fn behind(data: &[u8], fixed: usize) -> &[u8] {
+    data.get(fixed..).unwrap_or_default()
 }
 
 /// The 2-byte number at `at`, which lies in `bytes`.

@@ -1,9 +1,10 @@
-//! An independent plain Rust card, written from document 01 alone.
+//! An independent plain Rust card and host, written from document 01 and
+//! requests 1 and 2 of document 02 alone.
 //!
-//! It is the readable, executable version of that document and the reference
-//! that the verified archive is compared with. It shares no code with the
-//! archive. Terms of document 01 (card, sound, fresh, list in use, card store)
-//! are used as they stand there.
+//! It is the readable, executable version of these and the reference that the
+//! verified archive is compared with. It shares no code with the archive. Terms
+//! of document 01 (card, sound, fresh, list in use, card store) are used as
+//! they stand there.
 //!
 //! Start with [`command`](mod@command): the status table is two functions, one line a step.
 //!
@@ -12,9 +13,10 @@
 //! | [`setup`], [`card`], [`member`], [`object`], [`part`], [`values`] | the card and what it is made of |
 //! | [`frame`], [`opcode`], [`operation`] | from request bytes to what is asked: steps 2 to 7 |
 //! | [`list`] | lists of parts, asked and given: step 10 |
-//! | [`command`](mod@command), [`effect`] | the twelve steps, and what a command does |
+//! | [`command`](mod@command), [`effect`] | the steps in order, and what a command does |
 //! | [`event`] | resets and card store |
 //! | [`status`] | the numbers of the answers |
+//! | [`host`] | requests built from their fields, replies read |
 //! | [`bytes`], [`exported`] | the card as bytes, and the archive's functions over them |
 
 #![forbid(unsafe_code)]
@@ -27,6 +29,7 @@ pub mod effect;
 pub mod event;
 pub mod exported;
 pub mod frame;
+pub mod host;
 pub mod list;
 pub mod member;
 pub mod object;

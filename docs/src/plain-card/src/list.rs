@@ -10,11 +10,13 @@ use crate::values::Values;
 /// The known parts of a given list, with their new values.
 pub type Given<'a> = Vec<(Part, &'a [u8])>;
 
-/// The parts that an asked list names. It is refused if a header names a part
-/// that the member has not got, or a part is named twice.
+/// The parts that an asked list names. It is refused if its last header is
+/// incomplete, a header names a part that the member has not got, or a part is
+/// named twice.
 pub fn asked(headers: &[u8], queues: u8) -> Result<BTreeSet<Part>, Refusal> {
     let mut parts = BTreeSet::new();
-    for bytes in headers.chunks_exact(HEADER) {
+    for bytes in headers.chunks(HEADER) {
+        Refusal::BadList.unless(bytes.len() == HEADER)?; // not incomplete
         let part = Header::read(bytes).part(queues).ok_or(Refusal::BadList)?;
         Refusal::BadList.unless(parts.insert(part))?; // not named twice
     }

@@ -1,11 +1,11 @@
 //! The ten commands and their rows of the command table.
 
-use crate::part::HEADER;
-
 /// The mask of the ten supported opcodes.
 pub const SUPPORTED: u64 = 0x3FC03;
 /// The list in use of a fresh card: list query and list use.
 pub const FRESH: u64 = 0b11;
+/// The longest fixed fields: those of create and modify.
+pub const FIXED_MAX: usize = 24;
 
 /// A supported opcode.
 #[derive(Clone, Copy, Debug, PartialEq, Eq)]
@@ -63,18 +63,19 @@ impl Opcode {
         !matches!(self, Opcode::ListQuery | Opcode::ListUse)
     }
 
-    /// Whether the command takes data of this length.
-    pub fn takes(self, length: usize) -> bool {
+    /// The length of the fixed fields at the start of the data. A list of
+    /// parts follows them in parts get and parts set.
+    pub fn fixed_length(self) -> usize {
         match self {
-            Opcode::ListQuery => length == 0,
-            Opcode::ListUse => length == 8,
-            Opcode::Create | Opcode::Modify => length == 24,
-            Opcode::Query => length == 16,
-            Opcode::Destroy => length == 8,
-            Opcode::Metadata => length == 16,
-            Opcode::PartsGet => length >= 16 && (length - 16) % HEADER == 0,
-            Opcode::PartsSet => length >= 8,
-            Opcode::ModeSet => length == 1,
+            Opcode::ListQuery => 0,
+            Opcode::ListUse => 8,
+            Opcode::Create | Opcode::Modify => 24,
+            Opcode::Query => 16,
+            Opcode::Destroy => 8,
+            Opcode::Metadata => 16,
+            Opcode::PartsGet => 16,
+            Opcode::PartsSet => 8,
+            Opcode::ModeSet => 1,
         }
     }
 }
@@ -94,17 +95,9 @@ mod tests {
     }
 
     #[test]
-    fn lengths_are_those_of_the_table() {
-        let taken = |opcode: Opcode| (0..50).filter(|n| opcode.takes(*n)).collect::<Vec<_>>();
-        assert_eq!(taken(Opcode::ListQuery), [0]);
-        assert_eq!(taken(Opcode::ListUse), [8]);
-        assert_eq!(taken(Opcode::Create), [24]);
-        assert_eq!(taken(Opcode::Modify), [24]);
-        assert_eq!(taken(Opcode::Query), [16]);
-        assert_eq!(taken(Opcode::Destroy), [8]);
-        assert_eq!(taken(Opcode::Metadata), [16]);
-        assert_eq!(taken(Opcode::PartsGet), [16, 32, 48]);
-        assert_eq!(taken(Opcode::PartsSet), (8..50).collect::<Vec<_>>());
-        assert_eq!(taken(Opcode::ModeSet), [1]);
+    fn fixed_lengths_are_those_of_the_table() {
+        let lengths = Opcode::ALL.map(Opcode::fixed_length);
+        assert_eq!(lengths, [0, 8, 24, 24, 16, 8, 16, 16, 8, 1]);
+        assert!(lengths.iter().all(|length| *length <= FIXED_MAX));
     }
 }

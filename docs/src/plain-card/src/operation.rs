@@ -1,6 +1,6 @@
 //! What a request asks: step 7 of the status table.
 
-use crate::frame::{u16_at, u32_at, u64_at};
+use crate::frame::{behind, fixed_fields, u16_at, u32_at, u64_at};
 use crate::member::Mode;
 use crate::object::Kind;
 use crate::opcode::{Opcode, SUPPORTED};
@@ -53,52 +53,57 @@ pub enum About {
 }
 
 impl<'a> Command<'a> {
-    /// Step 7: the fields, of data that has a length the command takes.
+    /// Step 7: the fields. Data may have any length; bytes past the fixed
+    /// fields are a list of parts, bits of a mask, or ignored.
     pub fn read(opcode: Opcode, data: &'a [u8], setup: &Setup) -> Result<Self, Refusal> {
+        let fields = &fixed_fields(data);
+        let more = behind(data, opcode.fixed_length());
         let operation = match opcode {
             Opcode::ListQuery => return Ok(Command::ListQuery),
-            Opcode::ListUse => return Ok(Command::ListUse(mask(data)?)),
-            Opcode::Create => Operation::Create(flagged_id(data, setup)?, kind(data)?),
-            Opcode::Modify => Operation::Modify(flagged_id(data, setup)?, kind(data)?),
-            Opcode::Query => Operation::Query(flagged_id(data, setup)?),
-            Opcode::Destroy => Operation::Destroy(id(data, setup)?),
-            Opcode::Metadata => Operation::Metadata(id(data, setup)?, about(data)?),
-            Opcode::PartsGet => get(id(data, setup)?, data)?,
-            Opcode::PartsSet => Operation::PartsSet(id(data, setup)?, &data[8..]),
-            Opcode::ModeSet => Operation::ModeSet(mode(data)?),
+            Opcode::ListUse => return Ok(Command::ListUse(mask(fields, more)?)),
+            Opcode::Create => Operation::Create(flagged_id(fields, setup)?, kind(fields)?),
+            Opcode::Modify => Operation::Modify(flagged_id(fields, setup)?, kind(fields)?),
+            Opcode::Query => Operation::Query(flagged_id(fields, setup)?),
+            Opcode::Destroy => Operation::Destroy(id(fields, setup)?),
+            Opcode::Metadata => Operation::Metadata(id(fields, setup)?, about(fields)?),
+            Opcode::PartsGet => get(id(fields, setup)?, fields, more)?,
+            Opcode::PartsSet => Operation::PartsSet(id(fields, setup)?, more),
+            Opcode::ModeSet => Operation::ModeSet(mode(fields)?),
         };
         Ok(Command::OnMember(operation))
     }
 }
 
-/// The mask of list use: supported bits only.
-fn mask(data: &[u8]) -> Result<u64, Refusal> {
-    let mask = u64_at(data, 0);
-    Refusal::Field.unless(mask & !SUPPORTED == 0)?;
+/// The mask of list use, of any length: supported bits only. None of them is
+/// past the first 64, so what follows these is zero.
+fn mask(fields: &[u8], more: &[u8]) -> Result<u64, Refusal> {
+    let mask = u64_at(fields, 0);
+    let supported = mask & !SUPPORTED == 0 && more.iter().all(|byte| *byte == 0);
+    Refusal::Field.unless(supported)?;
     Ok(mask)
 }
 
 /// The object header: type 0 and a valid id.
-fn id(data: &[u8], setup: &Setup) -> Result<u32, Refusal> {
-    let id = u32_at(data, 4);
-    Refusal::Field.unless(u16_at(data, 0) == 0 && setup.has_id(id))?;
+fn id(fields: &[u8], setup: &Setup) -> Result<u32, Refusal> {
+    let id = u32_at(fields, 4);
+    Refusal::Field.unless(u16_at(fields, 0) == 0 && setup.has_id(id))?;
     Ok(id)
 }
 
 /// The object header and flags that are zero.
-fn flagged_id(data: &[u8], setup: &Setup) -> Result<u32, Refusal> {
-    Refusal::Field.unless(u64_at(data, 8) == 0)?;
-    id(data, setup)
+fn flagged_id(fields: &[u8], setup: &Setup) -> Result<u32, Refusal> {
+    Refusal::Field.unless(u64_at(fields, 8) == 0)?;
+    id(fields, setup)
 }
 
 /// The kind of create and modify.
-fn kind(data: &[u8]) -> Result<Kind, Refusal> {
-    Kind::from_byte(data[16]).ok_or(Refusal::Field)
+fn kind(fields: &[u8]) -> Result<Kind, Refusal> {
+    Kind::from_byte(fields[16]).ok_or(Refusal::Field)
 }
 
 /// The type byte of metadata.
-fn about(data: &[u8]) -> Result<About, Refusal> {
-    match data[8] {
+fn about(fields: &[u8]) -> Result<About, Refusal> {
+    match fields[8] {
         0 => Ok(About::Size),
         1 => Ok(About::Count),
         2 => Ok(About::List),
@@ -106,10 +111,10 @@ fn about(data: &[u8]) -> Result<About, Refusal> {
     }
 }
 
-/// The type byte of parts get; get-all takes no headers.
-fn get(id: u32, data: &[u8]) -> Result<Operation<'_>, Refusal> {
-    let headers = &data[16..];
-    match data[8] {
+/// The type byte of parts get; with get-all any byte that follows counts as
+/// headers given.
+fn get<'a>(id: u32, fields: &[u8], headers: &'a [u8]) -> Result<Operation<'a>, Refusal> {
+    match fields[8] {
         0 => Ok(Operation::GetSelected(id, headers)),
         1 if headers.is_empty() => Ok(Operation::GetAll(id)),
         _ => Err(Refusal::Field),
@@ -117,8 +122,8 @@ fn get(id: u32, data: &[u8]) -> Result<Operation<'_>, Refusal> {
 }
 
 /// The mode byte: bit 0 set stops, clear resumes.
-fn mode(data: &[u8]) -> Result<Mode, Refusal> {
-    match data[0] {
+fn mode(fields: &[u8]) -> Result<Mode, Refusal> {
+    match fields[0] {
         0 => Ok(Mode::Running),
         1 => Ok(Mode::Stopped),
         _ => Err(Refusal::Field),

@@ -11,8 +11,6 @@ pub enum Refusal {
     Opcode,
     /// Step 5: member not 1 to N.
     Member,
-    /// Step 6: data length not as the command's row says.
-    DataLength,
     /// Step 7: a field has a value that is not allowed.
     Field,
     /// Step 8: create on a live id.
@@ -39,7 +37,6 @@ impl Refusal {
             Refusal::GroupType => (22, 4),
             Refusal::Opcode => (22, 2),
             Refusal::Member => (22, 5),
-            Refusal::DataLength => (22, 1),
             Refusal::Field => (22, 3),
             Refusal::IdLive => (17, 1),
             Refusal::IdNotLive => (6, 1),

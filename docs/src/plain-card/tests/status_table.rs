@@ -103,43 +103,10 @@ fn step_5_the_list_commands_do_not_read_it() {
 }
 
 #[test]
-fn step_5_before_6() {
+fn step_5_before_7() {
     let mut card = all_used(fresh());
-    assert_eq!(status(&mut card, &request(MODE_SET, 3, &[])), (22, 5));
-    assert_eq!(status(&mut card, &request(MODE_SET, 1, &[])), (22, 1));
-}
-
-#[test]
-fn step_6_lengths_are_exact() {
-    let rows: [(u16, &[usize]); 10] = [
-        (LIST_QUERY, &[0]),
-        (LIST_USE, &[8]),
-        (CREATE, &[24]),
-        (MODIFY, &[24]),
-        (QUERY, &[16]),
-        (DESTROY, &[8]),
-        (METADATA, &[16]),
-        (PARTS_GET, &[16, 32]),
-        (PARTS_SET, &[8]),
-        (MODE_SET, &[1]),
-    ];
-    for (opcode, lengths) in rows {
-        for length in 0..40 {
-            let mut card = with_objects(fresh());
-            let good = lengths.contains(&length) || (opcode == PARTS_SET && length > 8);
-            let status = status(&mut card, &request(opcode, 1, &vec![0; length]));
-            assert_eq!(status == (22, 1), !good, "opcode {opcode:#x}, {length} bytes");
-        }
-    }
-}
-
-#[test]
-fn step_6_before_7() {
-    let mut card = all_used(fresh());
-    let mut data = object_of_kind(9, 9);
-    assert_eq!(status(&mut card, &request(CREATE, 1, &data)), (22, 3));
-    data.push(0);
-    assert_eq!(status(&mut card, &request(CREATE, 1, &data)), (22, 1));
+    assert_eq!(status(&mut card, &request(MODE_SET, 3, &[2])), (22, 5));
+    assert_eq!(status(&mut card, &request(MODE_SET, 1, &[2])), (22, 3));
 }
 
 /// Whether every value of byte `at` of the data but the `good` ones gives 22/3.

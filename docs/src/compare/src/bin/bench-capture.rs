@@ -8,11 +8,11 @@ use std::time::Instant;
 use compare::arguments;
 use compare::fast;
 use compare::random::Random;
-use compare::request::{object_and_type, request};
 use kajurnat::raw;
+use plain_card::host::Request;
 use plain_card::member::{Member, Mode};
 use plain_card::object::Kind;
-use plain_card::opcode::{Opcode, SUPPORTED};
+use plain_card::opcode::SUPPORTED;
 use plain_card::part::{inventory, Part};
 use plain_card::{bytes, Card, Setup};
 
@@ -41,9 +41,8 @@ fn main() -> ExitCode {
 
 fn print_times() {
     let card = full_card();
-    let requests: Vec<Vec<u8>> = (1..=MEMBERS)
-        .map(|member| request(Opcode::PartsGet, member, &object_and_type(0, 1, &[])))
-        .collect();
+    let requests: Vec<Vec<u8>> =
+        (1..=MEMBERS).map(|member| Request::Get(member, 0, 1, &[]).bytes()).collect();
     let mut contestants = contestants(&card);
     check_replies(&mut contestants, &requests);
     let runs: Vec<[f64; 3]> =

@@ -1,6 +1,6 @@
-//! Compares the archive with the plain card on random sequences of calls, and
-//! tries isolation (demand 3), the round trip (demand 2) and exchanges of
-//! neighbouring calls on the archive.
+//! Compares the archive with the plain card and host on random sequences of
+//! calls, and tries isolation (demand 3), the round trip (demand 2), exchanges
+//! of neighbouring calls and the two halves together on the archive.
 
 use std::process::ExitCode;
 use std::time::{Duration, Instant};
@@ -9,6 +9,7 @@ use compare::arguments::{self, Options};
 use compare::device::{Archive, Device, Make};
 use compare::exchange::Exchange;
 use compare::faults::{self, Fault, Faulty, Plant, Property};
+use compare::halves::Halves;
 use compare::isolation::Pair;
 use compare::limit::Limit;
 use compare::round_trip::RoundTrip;
@@ -20,11 +21,12 @@ compare [--seed N] [--calls N] [--seconds N] [--planted-faults] [--help]
   --seed N          another seed (default 1)
   --calls N         calls to compare (default 1000000, at least 1); for every 250
                     calls one pair of sequences is tried for isolation, for every
-                    100 one round trip and one exchange of neighbouring calls
+                    100 one round trip, one exchange of neighbouring calls and
+                    one built request with its reply
   --seconds N       instead, as many as can be made in so many seconds (at least
-                    1), a quarter each
-  --planted-faults  instead, plant each fault in the plain card and tell how many
-                    calls, pairs, round trips or exchanges it takes to find it
+                    1), a fifth each
+  --planted-faults  instead, plant each fault in the plain card or host and tell
+                    how many calls or trials it takes to find it
   --help            print this";
 
 fn main() -> ExitCode {
@@ -51,28 +53,29 @@ impl Run {
     fn trials(&self, property: Property) -> Limit {
         match property {
             Property::Isolation => self.limit(250),
-            Property::RoundTrip | Property::Exchange => self.limit(100),
+            Property::RoundTrip | Property::Exchange | Property::Halves => self.limit(100),
         }
     }
 
-    /// The limit of one of the four checks, from now on: one for every so many
+    /// The limit of one of the five checks, from now on: one for every so many
     /// calls.
     fn limit(&self, calls_each: u64) -> Limit {
         let default = if self.options.seconds.is_some() { u64::MAX } else { 1_000_000 };
-        let quarter = |seconds| Instant::now() + Duration::from_secs(seconds) / 4;
+        let fifth = |seconds| Instant::now() + Duration::from_secs(seconds) / 5;
         Limit {
             count: self.options.calls.unwrap_or(default).div_ceil(calls_each),
-            until: self.options.seconds.map(quarter),
+            until: self.options.seconds.map(fifth),
         }
     }
 
-    /// Runs the four checks on the archive.
+    /// Runs the five checks on the archive.
     fn all_alike(&self) -> bool {
         let seed = self.options.seed;
         let comparison = compare(seed, self.calls(), None, &archive);
         print!("{}", comparison.coverage);
         let alike = report(seed, "calls compared", comparison.calls, comparison.difference);
-        let properties = [Property::Isolation, Property::RoundTrip, Property::Exchange];
+        let properties =
+            [Property::Isolation, Property::RoundTrip, Property::Exchange, Property::Halves];
         properties.map(|property| self.holds(property)).iter().all(|holds| *holds) && alike
     }
 
@@ -88,6 +91,7 @@ impl Run {
             Property::Isolation => self.check_trials::<Pair>(property, make),
             Property::RoundTrip => self.check_trials::<RoundTrip>(property, make),
             Property::Exchange => self.check_trials::<Exchange>(property, make),
+            Property::Halves => self.check_trials::<Halves>(property, make),
         }
     }
 
@@ -134,6 +138,7 @@ fn name(property: Property) -> &'static str {
         Property::Isolation => "isolation pairs",
         Property::RoundTrip => "round trips",
         Property::Exchange => "exchanges",
+        Property::Halves => "built requests and replies",
     }
 }
 

@@ -1,9 +1,11 @@
 //! The verified archive as a device.
 
 use kajurnat::raw;
+use plain_card::opcode::Opcode;
 
-use super::Device;
+use super::{read_into, Device};
 use crate::call::Call;
+use crate::fields::Fields;
 use crate::memory::{Buffer, Lent, Place};
 
 /// The verified archive, with a planted misuse or without.
@@ -21,9 +23,9 @@ pub type Misuse = fn(&Call, &mut Lending);
 pub struct Lending<'a> {
     /// The card.
     pub card: &'a mut Lent,
-    /// Request, features or value.
+    /// What the call only reads: request, features, value, list or reply.
     pub input: &'a mut Lent,
-    /// The reply buffer.
+    /// The buffer that is written besides the card.
     pub reply: &'a mut Lent,
 }
 
@@ -51,7 +53,29 @@ impl Archive {
             Call::Store { member, part_type, selector, .. } => {
                 raw::store(card, *member, *part_type, *selector, input).into()
             }
+            Call::Build { fields, .. } => build(fields, input, reply),
+            Call::Read { opcode, what, .. } => read_into(reply, |numbers| {
+                let [a, b, c, d] = numbers;
+                raw::reply_read(*opcode, *what, input, a, b, c, d)
+            }),
         }
+    }
+}
+
+/// A request by the archive's builders.
+fn build(fields: &Fields, list: &[u8], buffer: &mut [u8]) -> usize {
+    let Fields { opcode, member, id, byte, mask } = *fields;
+    match opcode {
+        Opcode::ListQuery => raw::request_list_query(buffer),
+        Opcode::ListUse => raw::request_list_use(buffer, mask),
+        Opcode::Create => raw::request_create(buffer, member, id, byte),
+        Opcode::Modify => raw::request_modify(buffer, member, id, byte),
+        Opcode::Query => raw::request_query(buffer, member, id),
+        Opcode::Destroy => raw::request_destroy(buffer, member, id),
+        Opcode::Metadata => raw::request_metadata(buffer, member, id, byte),
+        Opcode::PartsGet => raw::request_get(buffer, member, id, byte, list),
+        Opcode::PartsSet => raw::request_set(buffer, member, id, list),
+        Opcode::ModeSet => raw::request_mode(buffer, member, byte),
     }
 }
 
@@ -80,7 +104,7 @@ impl Device for Archive {
     }
 
     fn is_sound(&mut self) -> u8 {
-        is_sound(self.card.bytes())
+        raw::is_sound(self.card.bytes())
     }
 
     fn violations(&mut self) -> Vec<String> {
@@ -88,14 +112,4 @@ impl Device for Archive {
         violations.extend(self.card.violations("card"));
         violations
     }
-}
-
-/// What the archive answers if asked whether the bytes are a sound card.
-#[allow(unsafe_code)]
-pub fn is_sound(card: &[u8]) -> u8 {
-    extern "C" {
-        fn kajurnat_is_sound(card: *const u8, card_len: usize) -> u8;
-    }
-    // SAFETY: pointer and length are those of one slice, which is borrowed.
-    unsafe { kajurnat_is_sound(card.as_ptr(), card.len()) }
 }

@@ -3,15 +3,18 @@
 mod archive;
 mod plain;
 
-pub use archive::{is_sound, Archive, Lending, Misuse};
+pub use archive::{Archive, Lending, Misuse};
 pub use plain::Plain;
 
-use crate::call::Call;
+use plain_card::frame::u16_at;
+
+use crate::call::{Call, NUMBERS};
 use crate::memory::Lent;
 
 /// A card that hears calls.
 pub trait Device {
-    /// Hears a call and tells the bytes written, or the answer of an event.
+    /// Hears a call and tells the bytes written, or the answer of an event or
+    /// of the reader of replies.
     fn call(&mut self, call: &Call, reply: &mut Lent) -> usize;
 
     /// The card's bytes.
@@ -32,9 +35,9 @@ pub type Make<'a> = &'a dyn Fn() -> Box<dyn Device>;
 /// Everything that a call shows.
 #[derive(Clone, Debug, PartialEq, Eq)]
 pub struct Seen {
-    /// The bytes written, or the answer of an event.
+    /// The bytes written, or the answer of an event or of the reader of replies.
     pub answer: usize,
-    /// The whole reply buffer.
+    /// The whole buffer that is written besides the card.
     pub reply: Vec<u8>,
     /// The card after the call.
     pub card: Vec<u8>,
@@ -42,6 +45,16 @@ pub struct Seen {
     pub sound: u8,
     /// What was done to memory that may not be accessed or changed.
     pub violations: Vec<String>,
+}
+
+/// Reads a reply into the four numbers that stand in a buffer.
+fn read_into(buffer: &mut [u8], read: impl FnOnce(&mut [u16; 4]) -> u8) -> usize {
+    let mut numbers: [u16; 4] = std::array::from_fn(|index| u16_at(buffer, 2 * index));
+    let answer = read(&mut numbers);
+    for (place, number) in buffer[..NUMBERS].chunks_exact_mut(2).zip(numbers) {
+        place.copy_from_slice(&number.to_le_bytes());
+    }
+    answer.into()
 }
 
 /// Makes a call with a reply buffer that holds the pattern.

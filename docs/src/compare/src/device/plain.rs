@@ -5,7 +5,7 @@ use plain_card::exported;
 use plain_card::status::{answer, EventError};
 use plain_card::{command, Card, Setup};
 
-use super::Device;
+use super::{read_into, Device};
 use crate::call::Call;
 use crate::memory::Lent;
 
@@ -37,7 +37,8 @@ impl Plain {
         matches!(self, Plain::Card(card) if card.is_sound())
     }
 
-    /// Hears a call and tells the bytes written, or the answer of an event.
+    /// Hears a call and tells the bytes written, or the answer of an event or
+    /// of the reader of replies.
     pub fn hear(&mut self, call: &Call, reply: &mut [u8]) -> usize {
         match call {
             Call::CardBytes(members) => exported::card_bytes(*members),
@@ -58,6 +59,10 @@ impl Plain {
             Call::ResetCard => self.event(Card::reset),
             Call::Store { member, part_type, selector, value } => {
                 self.event(|card| card.store(*member, *part_type, selector.to_le_bytes(), value))
+            }
+            Call::Build { fields, list, .. } => exported::build(&fields.request(list), reply),
+            Call::Read { opcode, what, reply: read } => {
+                read_into(reply, |numbers| exported::reply_read(*opcode, *what, read, numbers))
             }
         }
     }

@@ -1,5 +1,6 @@
 //! Random commands.
 
+use plain_card::host::Request;
 use plain_card::member::Mode;
 use plain_card::object::{Kind, IDS};
 use plain_card::opcode::{Opcode, SUPPORTED};
@@ -9,19 +10,20 @@ use super::{length, list, member, place, placed, spoil, Favoured};
 use crate::call::Call;
 use crate::memory::Room;
 use crate::random::Random;
-use crate::request::{
-    object, object_and_flags, object_and_parts, object_and_type, object_of_kind, request,
-};
 
 /// Room for any reply.
 const LARGE: usize = 480;
 
-/// A command: a good request, spoiled at no, one or a few places.
+/// A command: a good request, its data of another length now and then, spoiled
+/// at no, one or a few places.
 pub fn command(random: &mut Random, card: &Card, favoured: Favoured) -> Call {
     let mut request = match random.chance(1) {
         true => any_request(random),
         false => good(random, card, favoured),
     };
+    if random.chance(15) {
+        length::other_data(random, &mut request);
+    }
     for _ in 0..random.weighted(&[66, 20, 9, 5]) {
         spoil::spoil(random, card, favoured, &mut request);
     }
@@ -54,14 +56,14 @@ fn room(random: &mut Random, card: &Card, request: &[u8]) -> usize {
 /// A request that is likely to succeed.
 fn good(random: &mut Random, card: &Card, favoured: Favoured) -> Vec<u8> {
     match opcode(random, card) {
-        opcode @ Opcode::ListQuery => request(opcode, member_unread(random), &[]),
-        opcode @ Opcode::ListUse => {
+        Opcode::ListQuery => with_member_unread(random, Request::ListQuery),
+        Opcode::ListUse => {
             let mask = mask(random);
-            request(opcode, member_unread(random), &mask.to_le_bytes())
+            with_member_unread(random, Request::ListUse(mask))
         }
-        opcode @ Opcode::ModeSet => {
+        Opcode::ModeSet => {
             let stop = u8::from(random.chance(65));
-            request(opcode, member(random, card, favoured), &[stop])
+            Request::Mode(member(random, card, favoured), stop).bytes()
         }
         opcode => on_object(random, card, favoured, opcode),
     }
@@ -78,16 +80,16 @@ fn on_object(random: &mut Random, card: &Card, favoured: Favoured, opcode: Opcod
     };
     let stopped = opcode == Opcode::PartsSet;
     let (member, id) = member_and_id(random, card, favoured, wanted, stopped);
-    let data = match opcode {
-        Opcode::Query => object_and_flags(id),
-        Opcode::Destroy => object(id),
-        Opcode::Metadata => object_and_type(id, random.below(3) as u8, &[]),
-        Opcode::PartsGet if random.chance(33) => object_and_type(id, 1, &[]),
-        Opcode::PartsGet => object_and_type(id, 0, &list::asked(random, card)),
-        Opcode::PartsSet => object_and_parts(id, &list::given(random, card)),
-        _ => object_of_kind(id, random.below(2) as u8),
-    };
-    request(opcode, member, &data)
+    match opcode {
+        Opcode::Create => Request::Create(member, id, random.below(2) as u8).bytes(),
+        Opcode::Query => Request::Query(member, id).bytes(),
+        Opcode::Destroy => Request::Destroy(member, id).bytes(),
+        Opcode::Metadata => Request::Metadata(member, id, random.below(3) as u8).bytes(),
+        Opcode::PartsGet if random.chance(33) => Request::Get(member, id, 1, &[]).bytes(),
+        Opcode::PartsGet => Request::Get(member, id, 0, &list::asked(random, card)).bytes(),
+        Opcode::PartsSet => Request::Set(member, id, &list::given(random, card)).bytes(),
+        _ => Request::Modify(member, id, random.below(2) as u8).bytes(),
+    }
 }
 
 /// An opcode; a list that lacks some is likely to be widened.
@@ -99,9 +101,12 @@ fn opcode(random: &mut Random, card: &Card) -> Opcode {
     Opcode::ALL[random.weighted(&WEIGHTS)]
 }
 
-/// A member field for the two commands that do not read it.
-fn member_unread(random: &mut Random) -> u64 {
-    random.pick(&[0, 0, 1, u64::MAX])
+/// One of the two commands that do not read the member field, with any there.
+fn with_member_unread(random: &mut Random, request: Request) -> Vec<u8> {
+    let member: u64 = random.pick(&[0, 0, 1, u64::MAX]);
+    let mut request = request.bytes();
+    request[16..24].copy_from_slice(&member.to_le_bytes());
+    request
 }
 
 /// A mask for list use, with supported bits only.

@@ -1,4 +1,8 @@
-//! Lengths that a card with too short a number for them would take for others.
+//! Lengths of the data of a request, and lengths that a card with too short a
+//! number for them would take for others.
+
+use plain_card::frame::{DATA, LONGEST};
+use plain_card::opcode::FIXED_MAX;
 
 use crate::random::Random;
 
@@ -31,6 +35,27 @@ pub fn long_room(random: &mut Random, need: usize) -> usize {
     }
 }
 
+/// Cuts the data of a request anywhere, more often in its fixed fields, or puts
+/// bytes behind it: zeros, any bytes, or zeros and one bit.
+pub fn other_data(random: &mut Random, request: &mut Vec<u8>) {
+    let data = request.len().saturating_sub(DATA);
+    if data > 0 && random.chance(55) {
+        let among = if random.chance(70) { data.min(FIXED_MAX) } else { data };
+        return request.truncate(DATA + random.below(among));
+    }
+    let room = LONGEST.saturating_sub(request.len());
+    let count = match random.weighted(&[40, 55, 5]) {
+        0 => random.pick(&[1, 7, 8, 15, 16, 17]).min(room),
+        1 => random.below(40).min(room),
+        _ => room,
+    };
+    let mut more = if random.chance(40) { random.bytes(count) } else { vec![0; count] };
+    if count > 0 && random.chance(30) {
+        more[random.below(count)] = 1 << random.below(8);
+    }
+    request.extend(more);
+}
+
 fn around(random: &mut Random, power: usize) -> usize {
     random.pick(&[power - 1, power, power + 1])
 }
@@ -46,6 +71,21 @@ fn multiple(random: &mut Random, power: usize) -> usize {
 mod tests {
     use super::*;
     use crate::memory;
+
+    #[test]
+    fn data_of_every_length_is_drawn_up_to_past_the_fixed_fields() {
+        let mut random = Random::new(1, 0);
+        for fixed in [0, 1, 8, 16, 24] {
+            let mut drawn = [false; 64];
+            for _ in 0..20_000 {
+                let mut request = vec![7; DATA + fixed];
+                other_data(&mut random, &mut request);
+                assert!(request.len() <= LONGEST);
+                drawn.iter_mut().skip(request.len() - DATA).take(1).for_each(|seen| *seen = true);
+            }
+            assert!(drawn[..fixed + 40].iter().all(|seen| *seen), "{fixed}: {drawn:?}");
+        }
+    }
 
     #[test]
     fn lengths_can_be_lent_and_differ_from_the_valid_one() {

@@ -1,16 +1,18 @@
 //! Random lists of parts, asked and given.
 
-use plain_card::frame::LONGEST;
-use plain_card::opcode::Opcode;
+use plain_card::frame::{DATA, LONGEST};
 use plain_card::part::{inventory, Part, HEADER, OPTIONAL};
 use plain_card::Card;
 
+use crate::part_bytes::{any_part, part, unread_selector};
 use crate::random::Random;
-use crate::request::{any_part, part, request, unread_selector};
 
 /// How many parts a long list has; the longest request takes 254 without
 /// values, or 253 headers.
 const LONG: [usize; 15] = [15, 16, 17, 18, 32, 33, 41, 64, 65, 127, 128, 129, 200, 253, 254];
+
+/// Where the list of a parts set starts.
+const SET_LIST: usize = DATA + 8;
 
 /// The headers of a parts get.
 pub fn asked(random: &mut Random, card: &Card) -> Vec<u8> {
@@ -194,7 +196,7 @@ fn make_bad(random: &mut Random, card: &Card, parts: &mut Vec<Vec<u8>>) {
 /// no room for them go.
 fn make_long(random: &mut Random, card: &Card, parts: &mut Vec<Vec<u8>>) {
     let count = random.pick(&LONG);
-    let room = LONGEST - request(Opcode::PartsSet, 0, &[0; 8]).len();
+    let room = LONGEST - SET_LIST;
     let fits = |parts: &[Vec<u8>]| {
         let skipped = HEADER * count.saturating_sub(parts.len());
         skipped + parts.concat().len() <= room
@@ -212,7 +214,7 @@ fn make_long(random: &mut Random, card: &Card, parts: &mut Vec<Vec<u8>>) {
 
 /// Brings the request to the longest length, or one byte beyond.
 fn fill_up(random: &mut Random, parts: &mut Vec<Vec<u8>>) {
-    let length = request(Opcode::PartsSet, 0, &[0; 8]).len() + parts.concat().len();
+    let length = SET_LIST + parts.concat().len();
     let target = random.pick(&[4095, 4096, 4097]);
     if length + 16 <= target {
         parts.push(any_part(0x5ff, OPTIONAL, 0, &vec![0; target - length - 16]));

@@ -2,11 +2,13 @@
 
 mod card;
 mod command;
+mod host;
 mod length;
 mod list;
 mod spoil;
 
 pub use card::{any_bytes, other_record, setup_numbers, sound_card};
+pub use list::{asked, given};
 
 use plain_card::opcode::Opcode;
 use plain_card::part::{inventory, Part, MAX_QUEUES};
@@ -84,12 +86,17 @@ pub fn next(random: &mut Random, card: Option<&Card>, favoured: Favoured) -> Cal
     if random.chance(1) {
         return Call::CardBytes(any_count(random));
     }
-    match card {
-        Some(card) => on_card(random, card, favoured),
+    let drawn;
+    let card = match card {
+        Some(card) => card,
         None => {
-            let other = sound_card(random);
-            on_card(random, &other, favoured)
+            drawn = sound_card(random);
+            &drawn
         }
+    };
+    match random.chance(10) {
+        true => host::call(random, card, favoured),
+        false => on_card(random, card, favoured),
     }
 }
 
@@ -143,7 +150,7 @@ fn store(random: &mut Random, card: &Card, favoured: Favoured) -> Call {
     let mut selector = part.selector();
     let mut value = random.bytes(part.length() as usize);
     if random.chance(20) {
-        for byte in crate::request::unread_selector(part_type) {
+        for byte in crate::part_bytes::unread_selector(part_type) {
             selector[byte] = random.byte();
         }
     }

@@ -147,7 +147,7 @@ fn store_features(outcome: &mut Outcome) {
 
 fn store_selector(outcome: &mut Outcome) {
     let Call::Store { part_type, selector, .. } = outcome.call else { return };
-    let unread = crate::request::unread_selector(*part_type);
+    let unread = crate::part_bytes::unread_selector(*part_type);
     if outcome.done() && selector.to_le_bytes()[unread].iter().any(|byte| *byte != 0) {
         *outcome.after = outcome.before.clone();
         *outcome.answer = 2;

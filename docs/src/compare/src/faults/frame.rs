@@ -16,7 +16,6 @@ pub const FAULTS: &[Fault] = &[
     fault("frame: list commands read the member", Plant::Refuse(list_member)),
     fault("frame: 4,096 bytes refused", Plant::Refuse(longest_refused)),
     fault("frame: reserved bytes read", Plant::Refuse(reserved_read)),
-    fault("frame: missing data taken as zero", Plant::Mishear(data_padded)),
     fault("list use: bits 0 and 1 always kept", Plant::Leave(list_kept)),
     fault("list query: tells the list in use", Plant::Leave(list_in_use)),
     fault("reply: reserved bytes not written", Plant::Leave(reserved_kept)),
@@ -56,13 +55,6 @@ fn longest_refused(_: &Card, request: &[u8], _: usize) -> Option<Refusal> {
 fn reserved_read(_: &Card, request: &[u8], _: usize) -> Option<Refusal> {
     let reserved = request.get(4..16)?;
     reserved.iter().any(|byte| *byte != 0).then_some(Refusal::Field)
-}
-
-/// The sources fill short requests with zeros; document 01 does not.
-fn data_padded(card: &Card, request: &mut Vec<u8>) {
-    let Some((_, opcode)) = opcode(card, request) else { return };
-    let wanted = (0..=24).find(|length| opcode.takes(*length)).unwrap_or(0);
-    request.resize(request.len().max(24 + wanted), 0);
 }
 
 fn list_kept(outcome: &mut Outcome) {

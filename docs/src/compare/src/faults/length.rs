@@ -150,10 +150,11 @@ fn stored_type_cut(call: &mut Call) {
     }
 }
 
-/// Clears four bytes of the data of a request that steps 2 to 6 let pass.
+/// Clears those of four bytes that are there of the data of a request that
+/// steps 2 to 5 let pass.
 fn clear(card: &Card, request: &mut [u8], of: &[Opcode], at: usize) {
     if framed(card, request).is_some_and(|(_, opcode)| of.contains(&opcode)) {
-        request[DATA + at..DATA + at + 4].fill(0);
+        request.iter_mut().skip(DATA + at).take(4).for_each(|byte| *byte = 0);
     }
 }
 

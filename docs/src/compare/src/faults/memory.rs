@@ -23,6 +23,11 @@ pub const FAULTS: &[Fault] = &[
     fault("memory: a request at an odd offset misread", Plant::Misuse(request_offset)),
     fault("memory: a reply at offset 13 miswritten", Plant::Misuse(reply_offset)),
     fault("memory: a card at offset 15 miswritten", Plant::Misuse(card_offset)),
+    fault("memory: byte behind a list read", Plant::Misuse(list_behind)),
+    fault("memory: list changed", Plant::Misuse(list_changed)),
+    fault("memory: byte behind a built request written", Plant::Misuse(built_behind)),
+    fault("memory: byte behind a reply to read read", Plant::Misuse(reply_read_behind)),
+    fault("memory: reply to read changed", Plant::Misuse(reply_read_changed)),
 ];
 
 /// The request of a command, the value of a store or the features of a setup,
@@ -31,9 +36,10 @@ fn input<'a>(name: &str, call: &Call, lending: &'a mut Lending) -> Option<&'a mu
     call.input().filter(|(input, _)| *input == name).map(|_| &mut *lending.input)
 }
 
-/// Whether the call is one that has a card before it.
+/// Whether the call is one that is lent the card.
 fn on_card(call: &Call) -> bool {
-    !matches!(call, Call::CardBytes(_) | Call::Card(_))
+    let event = matches!(call, Call::ResetMember(_) | Call::ResetCard | Call::Store { .. });
+    event || matches!(call, Call::Setup { .. } | Call::Command { .. })
 }
 
 fn read_behind(lent: &Lent) {
@@ -161,5 +167,35 @@ fn card_offset(call: &Call, lending: &mut Lending) {
 fn change_first(lent: &mut Lent) {
     if let Some(first) = lent.bytes_mut().first_mut() {
         *first ^= 1;
+    }
+}
+
+fn list_behind(call: &Call, lending: &mut Lending) {
+    if let Some(list) = input("list", call, lending) {
+        read_behind(list);
+    }
+}
+
+fn list_changed(call: &Call, lending: &mut Lending) {
+    if let Some(list) = input("list", call, lending) {
+        change(list);
+    }
+}
+
+fn built_behind(call: &Call, lending: &mut Lending) {
+    if let Call::Build { .. } = call {
+        write_behind(lending.reply);
+    }
+}
+
+fn reply_read_behind(call: &Call, lending: &mut Lending) {
+    if let Some(reply) = input("reply", call, lending) {
+        read_behind(reply);
+    }
+}
+
+fn reply_read_changed(call: &Call, lending: &mut Lending) {
+    if let Some(reply) = input("reply", call, lending) {
+        change(reply);
     }
 }

@@ -9,9 +9,11 @@
 // Changes of a request or card all have one type, whether they grow it or not.
 #![allow(clippy::ptr_arg)]
 
+mod data;
 mod events;
 mod exchange;
 mod frame;
+mod host;
 mod length;
 mod memory;
 mod objects;
@@ -49,6 +51,8 @@ pub enum Property {
     Isolation,
     /// Neighbouring calls for different members in either order.
     Exchange,
+    /// Built requests, sent, and their replies, read.
+    Halves,
 }
 
 /// How a fault is planted.
@@ -94,6 +98,8 @@ pub struct Memory {
     obeyed: bool,
     /// The member that was named last.
     named: Option<u64>,
+    /// Whether the last mode set with data stops.
+    stopped: bool,
 }
 
 /// The plain card, with a fault or without.
@@ -218,11 +224,13 @@ pub fn all() -> Vec<&'static Fault> {
         programs::FAULTS,
         order::FAULTS,
         frame::FAULTS,
+        data::FAULTS,
         length::FAULTS,
         objects::FAULTS,
         parts::FAULTS,
         events::FAULTS,
         exchange::FAULTS,
+        host::FAULTS,
         soundness::FAULTS,
         memory::FAULTS,
     ]

@@ -1,7 +1,7 @@
 //! Faults of resource objects.
 
 use plain_card::command;
-use plain_card::frame::u32_at;
+use plain_card::frame::{fixed_fields, u32_at};
 use plain_card::object::Kind;
 use plain_card::opcode::Opcode;
 use plain_card::operation::Operation;
@@ -94,7 +94,7 @@ fn query_tells_get(outcome: &mut Outcome) {
 fn ids_below_16(card: &Card, request: &[u8], _: usize) -> Option<Refusal> {
     let (frame, opcode) = framed(card, request)?;
     let valid = opcode == Opcode::Destroy || opcode == Opcode::Query;
-    let id = valid.then(|| u32_at(frame.data, 4))?;
+    let id = valid.then(|| u32_at(&fixed_fields(frame.data), 4))?;
     (id < 16 && !card.setup.has_id(id)).then_some(Refusal::IdNotLive)
 }
 
@@ -102,7 +102,7 @@ fn id_cut(card: &Card, request: &mut Vec<u8>) {
     let object = framed(card, request)
         .is_some_and(|(_, opcode)| opcode.names_member() && opcode != Opcode::ModeSet);
     if object {
-        request[29..32].fill(0);
+        request.iter_mut().take(32).skip(29).for_each(|byte| *byte = 0);
     }
 }
 

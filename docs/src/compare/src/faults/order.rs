@@ -1,7 +1,7 @@
 //! Steps of the status table in another order.
 
 use plain_card::command::check_objects;
-use plain_card::frame::{u32_at, Frame};
+use plain_card::frame::{fixed_fields, u32_at, Frame};
 use plain_card::list;
 use plain_card::member::Mode;
 use plain_card::object::{Kind, Objects};
@@ -10,13 +10,12 @@ use plain_card::operation::Operation;
 use plain_card::status::Refusal;
 use plain_card::{Card, Setup};
 
-use super::tools::{framed, opcode, operation};
+use super::tools::{framed, operation};
 use super::{fault, Fault, Plant};
 
 pub const FAULTS: &[Fault] = &[
     fault("trade: bad opcode ahead of bad group", Plant::Refuse(opcode_before_group)),
     fault("order: member before opcode", Plant::Refuse(member_before_opcode)),
-    fault("order: length before member", Plant::Refuse(length_before_member)),
     fault("order: objects before fields", Plant::Refuse(objects_before_fields)),
     fault("order: limit before live id", Plant::Refuse(limit_before_live)),
     fault("order: running before object", Plant::Refuse(running_before_object)),
@@ -34,15 +33,10 @@ fn member_before_opcode(card: &Card, request: &[u8], _: usize) -> Option<Refusal
     frame.check_member(Opcode::from_number(frame.opcode)?, &card.setup).err()
 }
 
-fn length_before_member(card: &Card, request: &[u8], _: usize) -> Option<Refusal> {
-    let (frame, opcode) = opcode(card, request)?;
-    frame.check_data_length(opcode).err()
-}
-
 /// A live id is found out before flags and kind are looked at.
 fn objects_before_fields(card: &Card, request: &[u8], _: usize) -> Option<Refusal> {
     let (frame, opcode) = framed(card, request)?;
-    let id = (opcode == Opcode::Create).then(|| u32_at(frame.data, 4))?;
+    let id = (opcode == Opcode::Create).then(|| u32_at(&fixed_fields(frame.data), 4))?;
     let live = card.setup.has_id(id) && card.member(frame.member).objects.find(id).is_some();
     live.then_some(Refusal::IdLive)
 }

@@ -15,7 +15,7 @@ use super::tools::{each_part, given, list_start, named, operation, parts};
 use super::{breaking, fault, Fault, Outcome, Plant, Property};
 use crate::call::Call;
 use crate::device::Plain;
-use crate::request::unread_selector;
+use crate::part_bytes::unread_selector;
 
 /// A type that no part has and that is not reserved.
 const UNKNOWN: u16 = 0x5ff;
@@ -37,7 +37,6 @@ pub const FAULTS: &[Fault] = &[
     fault("parts: short value filled up", Plant::Mishear(value_filled)),
     fault("parts: set while running", Plant::Leave(set_running)),
     fault("parts: asked order kept", Plant::Leave(asked_order)),
-    fault("parts: headers with get-all ignored", Plant::Mishear(headers_ignored)),
     fault("parts: queues beyond Q told", Plant::Leave(queues_beyond)),
     breaking(&[Property::RoundTrip], "parts: end of a queue not set", Plant::Leave(queue_cut)),
     breaking(&[Property::RoundTrip], "parts: features refused", Plant::Refuse(features_refused)),
@@ -200,16 +199,8 @@ fn asked_order(outcome: &mut Outcome) {
         let values = &before.member(member).values;
         let names = asked.chunks(HEADER).filter_map(|header| named(before, header));
         let parts: Vec<u8> =
-            names.flat_map(|name| crate::request::part(name, values.get(name))).collect();
+            names.flat_map(|name| crate::part_bytes::part(name, values.get(name))).collect();
         outcome.reply[8..8 + parts.len()].copy_from_slice(&parts);
-    }
-}
-
-fn headers_ignored(card: &Card, request: &mut Vec<u8>) {
-    let mut shorter = request.clone();
-    shorter.truncate(40);
-    if matches!(operation(card, &shorter), Some((_, Operation::GetAll(_)))) {
-        *request = shorter;
     }
 }
 
@@ -219,7 +210,7 @@ fn queues_beyond(outcome: &mut Outcome) {
     if let (true, Some((before, _))) = (outcome.succeeded(), outcome.cards()) {
         let values = &before.member(member).values;
         let parts: Vec<u8> =
-            inventory(4).flat_map(|name| crate::request::part(name, values.get(name))).collect();
+            inventory(4).flat_map(|name| crate::part_bytes::part(name, values.get(name))).collect();
         if let Some(result) = outcome.reply.get_mut(8..8 + parts.len()) {
             result.copy_from_slice(&parts);
             *outcome.answer = 8 + parts.len();

@@ -22,11 +22,10 @@ pub fn opcode<'a>(card: &Card, request: &'a [u8]) -> Option<(Frame<'a>, Opcode)>
     Some((frame, opcode))
 }
 
-/// Frame and opcode of a request that steps 2 to 6 let pass.
+/// Frame and opcode of a request that steps 2 to 5 let pass.
 pub fn framed<'a>(card: &Card, request: &'a [u8]) -> Option<(Frame<'a>, Opcode)> {
     let (frame, opcode) = opcode(card, request)?;
     frame.check_member(opcode, &card.setup).ok()?;
-    frame.check_data_length(opcode).ok()?;
     Some((frame, opcode))
 }
 
