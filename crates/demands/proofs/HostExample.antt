@@ -1,6 +1,6 @@
 -- The hypotheses of the host's claims can be met: by a request of each command, on 01's bench card with all commands in
 -- use. Assumes nothing.
-use mathlib.Core.Path.{_≡_, refl, ap, sym, _∙_}
+use mathlib.Core.Path.{_≡_, refl}
 use mathlib.Core.Bool.{Bool, true}
 use mathlib.Core.List.{List, [], _∷_, map}
 use Prim.Native.Nat.{ℕ, _+_}

@@ -36,7 +36,6 @@ use Rattle.member.specs.Objects.{lookupOf}
 use Rattle.reads.specs.declared.Reading.{Reading}
 use Rattle.reads.specs.Reads.{refuseRead, succeedRead, queryOf, throughGet, selectedOf, readOf}
 use Rattle.card.specs.Layout.{setupOf, inUseOf, isMember}
-use Rattle.card.specs.Sound.{isSound}
 use Rattle.card.proofs.SoundLaws.{Sound, sound-of, sound-member-in}
 use Rattle.frame.specs.declared.Ask.{Ask}
 use Rattle.frame.specs.declared.Ask.the-variants.{Refused, QueryList, UseList, Read, Change}
@@ -47,7 +46,7 @@ use Rattle.frame.proofs.Asked.{Facts, asked}
 use Rattle.reply.specs.Result.{numberBytes, resultOf}
 use Rattle.reply.proofs.Result.{number-long}
 use Rattle.reply.specs.Reply.{headSize, headOf, finalOf, replyOf}
-use Rattle.admin.specs.Command.{askIn, Effect, perform, respond}
+use Rattle.admin.specs.Command.{askIn, perform}
 use Rattle.host.specs.declared.Command.{Command}
 use Rattle.host.specs.declared.Command.the-variants as host
 use Rattle.host.specs.declared.ResultForm.{ResultForm}
@@ -56,7 +55,7 @@ use Rattle.host.specs.Request.{sentOf, requestOf}
 use Rattle.host.specs.Reply.{formOf, countFits, resultFits, lengthRight, knownStatus, handledStatus, handledQualifier, readReply}
 use Rattle.host.proofs.Request.{command-supported, opcode-small, opcode-request, data-request}
 use Rattle.demands.specs.Host.{effectIn, answerIn, told, ReadBack}
-use Rattle.admin.proofs.Respond.{ended, respond-is}
+use Rattle.admin.proofs.Respond.{respond-is}
 use Rattle.host.proofs.Asked.{dataFor, laid, request-is}
 
 -- ---- what is asked fixes the form of the result ----

@@ -73,9 +73,6 @@ module _ (c : List ℕ) (m : ℕ) (x : Reached c m) where
   member : SoundIn c (memberIn c m)
   member = sound-member-in c facts m (x .here)
 
-  few : setupOf c .members ≤ 16
-  few = facts .numbers .fewMembers
-
   ids : setupOf c .gets + setupOf c .sets ≤ 16
   ids = omega (arith, facts .numbers .fewGets, facts .numbers .fewSets)
 

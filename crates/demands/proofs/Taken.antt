@@ -13,7 +13,6 @@ use Rattle.wire.specs.Le.{le, bytes, number}
 use Rattle.wire.proofs.Le.{le-bytes}
 use Rattle.protocol.specs.Opcodes.{namesMember, supportedOnly}
 use Rattle.protocol.proofs.Masks.{mask-fits}
-use Rattle.inventory.specs.Header.{headerSize}
 use Rattle.card.specs.Layout.{setupOf, inUseOf}
 use Rattle.card.proofs.SoundLaws.{sound-of}
 use Rattle.frame.specs.Fields.{flagsValid, fieldsOf}
@@ -21,7 +20,7 @@ use Rattle.frame.specs.Ask.{usable, reaches, framedOf}
 use Rattle.admin.specs.Command.{askIn}
 use Rattle.host.specs.declared.Command.{Command}
 use Rattle.host.specs.declared.Command.the-variants as host
-use Rattle.host.specs.Request.{sentOf, requestOf}
+use Rattle.host.specs.Request.{sentOf}
 use Rattle.host.proofs.Request.{command-supported}
 use Rattle.demands.specs.Host.{askFor, inside, Taken}
 use Rattle.host.proofs.Asked.{dataFor, laid, asked-frame, headers-given, parts-given, create-read, modify-read, query-read, destroy-read, metadata-read, get-read, set-read, use-read, mode-read}

@@ -1,11 +1,11 @@
 -- What a built request asks: the fields that went into it come out again. Assumes nothing.
-use mathlib.Core.Path.{_≡_, refl, ap, _∙_}
-use mathlib.Core.Bool.{Bool, true}
-use mathlib.Core.List.{List, [], _∷_, _++_}
+use mathlib.Core.Path.{_≡_, refl, _∙_}
+use mathlib.Core.Bool.{true}
+use mathlib.Core.List.{List, _++_}
 use Prim.Native.Nat.{ℕ, _+_, _^_, _≤_, _<_}
 use native.Mathlib.Omega.{arith}
 use lib.Dec.{leb, ltb, eqb}
-use lib.ListN.{length, getD, drop, replicate}
+use lib.ListN.{length, getD}
 use Rattle.theory.specs.Logic.{if_then_else_, unless_answer_then_, _and_, _or_, within}
 use Rattle.theory.proofs.Tests as tests
 use Rattle.theory.proofs.Tests.{by-cases, within-high, tests}
@@ -16,7 +16,6 @@ use Rattle.protocol.specs.declared.ChangeOp.the-variants.{Create, Modify, Destr
 use Rattle.protocol.specs.declared.Answer.the-variants.{BadOpcode, BadField}
 use Rattle.protocol.specs.Answers.{modeOf}
 use Rattle.protocol.specs.Opcodes.{largest, opcodeRows, opcodeRow, supported, fixedSize, namesMember, bit, supportedOnly}
-use Rattle.frame.specs.declared.Ask.{Ask}
 use Rattle.frame.specs.declared.Ask.the-variants.{Refused, UseList, Read, Change}
 use Rattle.frame.specs.Frame.{dataAt, longest, kindAt, typeAt, headersAt, askedList, givenList}
 use Rattle.frame.specs.Fields.{idOf, kindIn, metadataIs, objectValid, flagsValid, kindValid, createIn, modifyIn, queryIn, destroyIn, metadataIn, getIn, setIn, modeIn, useIn, fieldsOf}
@@ -24,7 +23,7 @@ use Rattle.frame.specs.Ask.{usable, reaches, framedOf, askOf}
 use Rattle.host.specs.declared.Command.{Command}
 use Rattle.host.specs.declared.Command.the-variants as host
 use Rattle.host.specs.Request.{sentOf, objectHeader, before, fixedOf, listFor, request, startWith, requestOf, setParts}
-use Rattle.host.proofs.Request.{length-request, opcode-request, group-request, target-request, data-request, append-request, opcode-small, request-long, list-given}
+use Rattle.host.proofs.Request.{length-request, opcode-request, group-request, target-request, data-request, append-request, opcode-small, request-long}
 
 -- ---- the frame ----
 

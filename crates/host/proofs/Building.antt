@@ -1,8 +1,8 @@
 -- Laws of a request's bytes for the code that writes them. Assumes nothing.
 use mathlib.Core.Path.{_≡_, refl, ap, sym, _∙_}
-use mathlib.Core.Bool.{Bool, true, false}
-use mathlib.Core.List.{List, [], _∷_, _++_, append-nil}
-use Prim.Native.Nat.{ℕ, zero, suc, _+_, _*_, _-_, _^_, _≤_, _<_}
+use mathlib.Core.Bool.{true, false}
+use mathlib.Core.List.{List, [], _++_, append-nil}
+use Prim.Native.Nat.{ℕ, _+_, _*_, _-_, _^_, _≤_, _<_}
 use native.Mathlib.Omega.{arith}
 use mir.Val.{Fits}
 use mir.Syntax.{w64}
@@ -17,10 +17,10 @@ use Rattle.theory.proofs.Ladder.{pass, stop, and-left, and-right}
 use Rattle.wire.specs.Le.{bytes}
 use Rattle.wire.proofs.Le.{bytes-append, take-bytes, length-bytes}
 use Rattle.protocol.specs.Opcodes.{longestFixed, opcodeRow, supported, fixedSize}
-use Rattle.frame.specs.Frame.{memberAt, dataAt, longest, kindAt}
+use Rattle.frame.specs.Frame.{dataAt, longest, kindAt}
 use Rattle.host.specs.declared.Command.{Command}
 use Rattle.host.specs.declared.Sent.{Sent}
-use Rattle.host.specs.Request.{sentOf, objectHeader, before, fixedOf, listFor, request, startWith, startOf, requestOf, StartFits, begun, built}
+use Rattle.host.specs.Request.{sentOf, objectHeader, before, fixedOf, request, startWith, startOf, requestOf, StartFits, begun, built}
 use Rattle.host.proofs.Request.{command-supported, place-inside, place-low, fixed-most, start-long, list-none, list-given}
 
 -- ---- the start of a request, in four writes ----

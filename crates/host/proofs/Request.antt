@@ -1,13 +1,13 @@
 -- The bytes of a request: the opcode rows give their lengths, and what went into them comes out again. Assumes nothing.
-use mathlib.Core.Path.{_≡_, refl, ap, sym, _∙_}
+use mathlib.Core.Path.{_≡_, refl}
 use mathlib.Core.Bool.{Bool, true}
-use mathlib.Core.List.{List, [], _++_, append-assoc, append-nil}
-use Prim.Native.Nat.{ℕ, _+_, _-_, _^_, _≤_, _<_}
+use mathlib.Core.List.{List, [], _++_}
+use Prim.Native.Nat.{ℕ, _+_, _^_, _≤_, _<_}
 use native.Mathlib.Omega.{arith}
 use borrow.Author.Tests.{leb-true}
 use lib.Dec.{leb}
-use lib.ListN.{length, take, drop, replicate, length-append, length-take}
-use lib.Seq.{drop-at, length-take-le}
+use lib.ListN.{length, replicate, length-append}
+use lib.Seq.{length-take-le}
 use Rattle.theory.specs.Logic.{if_then_else_, _and_}
 use Rattle.theory.proofs.Tests.{by-cases, both}
 use Rattle.wire.specs.Le.{bytes, number}

@@ -10,7 +10,7 @@ use Rattle.reply.specs.Reply.{headSize}
 use Rattle.admin.specs.Command.{respond}
 use Rattle.staging.proofs.PartsSet.{respond-parts-set}
 use Rattle.staging.specs.Staging.{heldBytes, concluded, finishOf}
-use Rattle.staging.specs.Claims.{SetsParts, FinishIsPartsSet}
+use Rattle.staging.specs.Claims.{FinishIsPartsSet}
 use Rattle.staging.proofs.Refusals.{on-open}
 use Rattle.staging.proofs.Places.{held-short, has}
 

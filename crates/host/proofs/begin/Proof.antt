@@ -12,4 +12,7 @@ write-start-requires c κs =
 pub begin-spec : {M : Type 1} → statement M
 begin-spec =
     tie.close
-    (tie.spec (λ c κs. search needs) (λ c. search needs) (λ c κs. search (needs, sent-supported)) (λ c. search needs) (λ c. search (needs, fixed-within)) (λ c. search (needs, too-long)) (λ c. search (needs, start-sum)) (λ c. search (needs, request-sum)) (λ c. search (needs, no-room)) write-start-requires (λ c. search needs) (λ c. search (needs, begun-now)))
+    (tie.spec (λ c κs. search needs) (λ c. search needs) (λ c κs. search (needs, sent-supported)) (λ c. search needs)
+    (λ c. search (needs, fixed-within)) (λ c. search (needs, too-long)) (λ c. search (needs, start-sum))
+    (λ c. search (needs, request-sum)) (λ c. search (needs, no-room)) write-start-requires (λ c. search needs)
+    (λ c. search (needs, begun-now)))

@@ -6,5 +6,4 @@ use Rattle.host.proofs.create.Tie as tie
 
 pub create-spec : {M : Type 1} → statement M
 create-spec =
-    tie.close
-    (tie.spec (λ c κs. search needs) (λ c. search needs) (λ c. search (needs, alone)))
+    tie.close (tie.spec (λ c κs. search needs) (λ c. search needs) (λ c. search (needs, alone)))

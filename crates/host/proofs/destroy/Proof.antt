@@ -6,5 +6,4 @@ use Rattle.host.proofs.destroy.Tie as tie
 
 pub destroy-spec : {M : Type 1} → statement M
 destroy-spec =
-    tie.close
-    (tie.spec (λ c κs. search needs) (λ c. search needs) (λ c. search (needs, alone)))
+    tie.close (tie.spec (λ c κs. search needs) (λ c. search needs) (λ c. search (needs, alone)))

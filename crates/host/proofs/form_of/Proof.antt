@@ -8,4 +8,5 @@ pub form-of-spec : {M : Type 1} → statement M
 unfolding formOf
 form-of-spec =
     tie.close
-    (tie.spec (λ c. search ladder depth 9) (λ c. search ladder depth 9) (λ c. search ladder depth 9) (λ c. search ladder depth 9) (λ c. search ladder depth 9) (λ c. search ladder depth 9))
+    (tie.spec (λ c. search ladder depth 9) (λ c. search ladder depth 9) (λ c. search ladder depth 9)
+    (λ c. search ladder depth 9) (λ c. search ladder depth 9) (λ c. search ladder depth 9))

@@ -8,5 +8,4 @@ use Rattle.host.proofs.get.Tie as tie
 pub get-spec : {M : Type 1} → statement M
 unfolding opcodeRow opcodeRows sentOf
 get-spec =
-    tie.close
-    (tie.spec (λ c κs. search needs) (λ c. search needs) (λ c. search needs))
+    tie.close (tie.spec (λ c κs. search needs) (λ c. search needs) (λ c. search needs))

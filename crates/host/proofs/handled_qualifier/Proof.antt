@@ -7,5 +7,4 @@ use Rattle.host.proofs.handled_qualifier.Tie as tie
 pub handled-qualifier-spec : {M : Type 1} → statement M
 unfolding handledQualifier
 handled-qualifier-spec =
-    tie.close
-    (tie.spec (λ c. search ladder) (λ c. search ladder))
+    tie.close (tie.spec (λ c. search ladder) (λ c. search ladder))

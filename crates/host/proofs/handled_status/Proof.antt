@@ -8,5 +8,4 @@ use Rattle.host.proofs.handled_status.Tie as tie
 pub handled-status-spec : {M : Type 1} → statement M
 unfolding handledStatus
 handled-status-spec =
-    tie.close
-    (tie.spec (λ c κs. search needs) (λ c. search ladder) (λ c. search ladder))
+    tie.close (tie.spec (λ c κs. search needs) (λ c. search ladder) (λ c. search ladder))

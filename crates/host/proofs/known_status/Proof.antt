@@ -8,5 +8,4 @@ use Rattle.host.proofs.known_status.Tie as tie
 pub known-status-spec : {M : Type 1} → statement M
 unfolding knownStatus _or_
 known-status-spec =
-    tie.close
-    (tie.spec (λ c. search ladder))
+    tie.close (tie.spec (λ c. search ladder))

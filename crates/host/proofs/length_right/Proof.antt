@@ -9,5 +9,4 @@ use Rattle.host.proofs.length_right.Tie as tie
 pub length-right-spec : {M : Type 1} → statement M
 unfolding lengthRight
 length-right-spec =
-    tie.close
-    (tie.spec (λ c κs. search needs) (λ c κs. search needs) (λ c. search (ladder, fits-told)) (λ c. search ladder))
+    tie.close (tie.spec (λ c κs. search needs) (λ c κs. search needs) (λ c. search (ladder, fits-told)) (λ c. search ladder))

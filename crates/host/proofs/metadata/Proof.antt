@@ -6,5 +6,4 @@ use Rattle.host.proofs.metadata.Tie as tie
 
 pub metadata-spec : {M : Type 1} → statement M
 metadata-spec =
-    tie.close
-    (tie.spec (λ c κs. search needs) (λ c. search needs) (λ c. search (needs, alone)))
+    tie.close (tie.spec (λ c κs. search needs) (λ c. search needs) (λ c. search (needs, alone)))

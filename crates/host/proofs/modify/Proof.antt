@@ -6,5 +6,4 @@ use Rattle.host.proofs.modify.Tie as tie
 
 pub modify-spec : {M : Type 1} → statement M
 modify-spec =
-    tie.close
-    (tie.spec (λ c κs. search needs) (λ c. search needs) (λ c. search (needs, alone)))
+    tie.close (tie.spec (λ c κs. search needs) (λ c. search needs) (λ c. search (needs, alone)))

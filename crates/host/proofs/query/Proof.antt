@@ -6,5 +6,4 @@ use Rattle.host.proofs.query.Tie as tie
 
 pub query-spec : {M : Type 1} → statement M
 query-spec =
-    tie.close
-    (tie.spec (λ c κs. search needs) (λ c. search needs) (λ c. search (needs, alone)))
+    tie.close (tie.spec (λ c κs. search needs) (λ c. search needs) (λ c. search (needs, alone)))

@@ -17,4 +17,6 @@ returns-2 c = search ladder
 pub read-reply-spec : {M : Type 1} → statement M
 read-reply-spec =
     tie.close
-    (tie.spec (λ c κs. search needs) returns returns-2 (λ c κs. search needs) (λ c κs. search needs) (λ c κs. search needs) (λ c. search (needs, wrong-length)) (λ c κs. search needs) (λ c κs. search needs) (λ c κs. search needs) (λ c. search (needs, all-read)))
+    (tie.spec (λ c κs. search needs) returns returns-2 (λ c κs. search needs) (λ c κs. search needs)
+    (λ c κs. search needs) (λ c. search (needs, wrong-length)) (λ c κs. search needs) (λ c κs. search needs)
+    (λ c κs. search needs) (λ c. search (needs, all-read)))

@@ -6,5 +6,4 @@ use Rattle.host.proofs.result.Tie as tie
 
 pub result-spec : {M : Type 1} → statement M
 result-spec =
-    tie.close
-    (tie.spec (λ c. search needs) (λ c. search needs) (λ c. search needs) (λ c. search (needs, to-the-end)))
+    tie.close (tie.spec (λ c. search needs) (λ c. search needs) (λ c. search needs) (λ c. search (needs, to-the-end)))

@@ -8,4 +8,5 @@ pub result-fits-spec : {M : Type 1} → statement M
 unfolding resultFits
 result-fits-spec =
     tie.close
-    (tie.spec (λ c. search needs) (λ c. search needs) (λ c κs. search needs) (λ c. search needs) (λ c κs. search needs) (λ c. cc) (λ c. cc) (λ c. cc))
+    (tie.spec (λ c. search needs) (λ c. search needs) (λ c κs. search needs) (λ c. search needs) (λ c κs. search needs)
+    (λ c. cc) (λ c. cc) (λ c. cc))

@@ -8,5 +8,4 @@ use Rattle.host.proofs.set.Tie as tie
 pub set-spec : {M : Type 1} → statement M
 unfolding opcodeRow opcodeRows sentOf
 set-spec =
-    tie.close
-    (tie.spec (λ c κs. search needs) (λ c. search needs) (λ c. search needs))
+    tie.close (tie.spec (λ c κs. search needs) (λ c. search needs) (λ c. search needs))

@@ -6,5 +6,4 @@ use Rattle.host.proofs.set_mode.Tie as tie
 
 pub set-mode-spec : {M : Type 1} → statement M
 set-mode-spec =
-    tie.close
-    (tie.spec (λ c κs. search needs) (λ c. search needs) (λ c. search (needs, alone)))
+    tie.close (tie.spec (λ c κs. search needs) (λ c. search needs) (λ c. search (needs, alone)))
