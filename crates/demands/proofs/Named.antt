@@ -10,8 +10,6 @@ use lib.ListN.{length}
 use borrow.Author.Tests.{eqb-true, eq-eqb}
 use Rattle.theory.specs.Logic.{_and_, within}
 use Rattle.theory.proofs.Tests.{inside, within-high, unless-cases, true-and, false-and, and-false}
-use Rattle.wire.specs.Le.{le, bytes, number}
-use Rattle.wire.proofs.Le.{le-bytes}
 use Rattle.protocol.specs.declared.EventAnswer.{EventAnswer}
 use Rattle.protocol.specs.Opcodes.{namesMember}
 use Rattle.member.specs.declared.Member.{Member}
@@ -25,7 +23,10 @@ use Rattle.events.proofs.Cases.{if-done-cases, on-member-cases}
 use Rattle.frame.specs.declared.Ask.{Ask}
 use Rattle.frame.specs.declared.Ask.the-variants.{Refused, QueryList, UseList, Read, Change}
 use Rattle.frame.specs.Frame.{opcodeOf, groupOf, targetOf}
-use Rattle.host.specs.Request.{request, objectHeader, setParts}
+use Rattle.host.specs.declared.Command.the-variants.{Set}
+use Rattle.host.specs.Request.{sentOf, request, setParts}
+use Rattle.host.proofs.Request.{opcode-request, group-request, target-request, request-long}
+use Rattle.host.proofs.Asked.{dataFor, laid, request-is}
 use Rattle.frame.proofs.Asked.{Named, Facts, asked}
 use Rattle.reply.specs.Reply.{headSize}
 use Rattle.admin.specs.Command.{askIn, perform, respond}
@@ -104,21 +105,26 @@ module _ (m : ℕ) (c r : List ℕ) (room : ℕ) (e : names m (command r room) �
 -- ---- the command that a finish is ----
 
 module _ (m k id : ℕ) (list : List ℕ) (small : k < 256 ^ 8) (short : length list ≤ holdingSize) (room : ℕ) where
+  abbrev set-data : List ℕ
+  set-data = dataFor (Set k id) list
+
+  set-is : setParts k id list ≡ request 0x10 1 k set-data
+  unfolding sentOf
+  set-is = request-is (Set k id) list
+
   set-long : length (setParts k id list) ≡ 32 + length list
-  unfolding setParts request objectHeader bytes
-  set-long = omega arith
+  unfolding laid
+  set-long = request-long (Set k id) list
 
   set-target : targetOf (setParts k id list) ≡ k
-  unfolding setParts request bytes number
-  set-target = le-bytes 8 k small
+  set-target = rw set-is (target-request 0x10 1 k set-data small)
 
   set-group : groupOf (setParts k id list) ≡ 1
-  unfolding setParts request bytes number le
-  set-group = refl
+  set-group = rw set-is (group-request 0x10 1 k set-data (omega arith))
 
   set-opcode : namesMember (opcodeOf (setParts k id list)) ≡ true
-  unfolding setParts request bytes number le namesMember within _and_
-  set-opcode = refl
+  unfolding namesMember within _and_
+  set-opcode = rw (set-is, opcode-request 0x10 1 k set-data (omega arith))
 
   -- it names the member that it is for
   pub names-set : names m (command (setParts k id list) room) ≡ eqb k m
