@@ -70,7 +70,7 @@ fn tell(name: &[u8], request: Request, card: &mut [u8], reply: &mut [u8]) -> usi
 // How a call of a restore went: its answer is status + 65,536 x qualifier.
 fn tell_answer(answer: u32) {
     transcript::print(b" -> ");
-    name_status((answer % 256) as u8);
+    name_status((answer % 0x1_0000) as u16);
     transcript::print(b"\n");
 }
 
