@@ -21,7 +21,7 @@ pub data Call : Type 0 where
   memberReset : ℕ → Call
   cardReset : Call
   cardStore : ℕ → ℕ → ℕ → List ℕ → Call
-  -- document 02, request 6: "These calls join the sequences of demand 3, with their answer as reply"
+  -- restore in fragments, SPEC 13.6: the reply is the answer
   restoreBegin : ℕ → Call
   restoreFeed : ℕ → List ℕ → Call
   restoreFinish : ℕ → ℕ → Call

@@ -1,4 +1,4 @@
--- REQUEST 1 of document 02, the host's half: what is claimed of a built request and of the reply to it, over the
+-- The host's half, SPEC 13.1: what is claimed of a built request and of the reply to it, over the
 -- definitions that the contracts of both halves cite, requestOf and readReply at the host, askIn and respond at the card.
 -- So the two halves need no third author. Assumes nothing.
 use mathlib.Core.Path.{_≡_}
@@ -29,7 +29,7 @@ use Rattle.host.specs.declared.Outcome.{Outcome}
 use Rattle.host.specs.Request.{sentOf, requestOf}
 use Rattle.host.specs.Reply.{resultIn, answered, readReply}
 
--- ---- "A built request .. is taken by the card as that command with those fields" ----
+-- ---- the card takes a built request as the command and the fields it was built from ----
 
 -- that command with those fields
 abbrev pub askFor : Command → Ask
@@ -44,8 +44,8 @@ askFor (host.Get m id which) = Read m (if eqb which 0 then GetSelected id else G
 askFor (host.Set m id) = Change m (SetParts id)
 askFor (host.SetMode m mode) = Change m (SetMode (modeOf mode))
 
--- "its fields inside a setup's numbers and a get list of whole headers", where ids is G + S: ids, kinds, types, modes
--- and mask bits that step 7 takes. Get-all has no headers, since step 7 refuses them, and a mask is one word
+-- fields that step 7 takes, on a card of G + S = ids object ids: ids, kinds, types, modes and mask bits, and headers that
+-- are whole. Get-all has no headers, since step 7 refuses them, and a mask is one word
 unfoldable pub inside : ℕ → Command → List ℕ → Bool
 inside ids host.ListQuery list = true
 inside ids (host.ListUse mask) list = supportedOnly mask and eqb (length list) 0
@@ -76,7 +76,7 @@ pub record TakenAs (c : List ℕ) (x : Command) (list : List ℕ) : Type 0 where
 abbrev pub Taken : Type 0
 Taken = (c : List ℕ) (x : Command) (list : List ℕ) → Takeable c x list → TakenAs c x list
 
--- ---- "read a reply back as the answer to the command sent" ----
+-- ---- the host reads the reply as the answer to the command that it sent ----
 
 -- what the card makes of a request before step 11, and its answer in the end
 abbrev pub effectIn : List ℕ → List ℕ → Effect

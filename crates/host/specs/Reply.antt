@@ -1,5 +1,4 @@
--- A reply read as the answer to the command sent: document 01, "The frame" and "What each command does", and 02, request
--- 1. Assumes nothing.
+-- A reply read as the answer to the command sent: SPEC 3, 4 and 13.1. Assumes nothing.
 use mathlib.Core.Bool.{Bool}
 use mathlib.Core.List.{List}
 use Prim.Native.Nat.{ℕ, _+_, _*_}
@@ -39,11 +38,11 @@ formOf op what =
     if eqb op 0x0f then WholeParts else
     Exactly 0
 
--- "a metadata list going by the count it gives": the count 4 bytes, 4 more, and so many headers
+-- a metadata list: a count of 4 bytes, 4 bytes more, and as many headers as the count says
 unfoldable pub countFits : List ℕ → Bool
 countFits x = eqb (length x) (8 + headerSize * number 0 4 x)
 
--- "parts get by whole parts to the end"
+-- a result of parts ends where a part ends
 unfoldable pub resultFits : ResultForm → List ℕ → Bool
 resultFits (Exactly n) x = eqb (length x) n
 resultFits Counted x = countFits x
@@ -55,11 +54,11 @@ lengthRight form status r = if eqb status 0 then resultFits form (resultIn r) el
 
 -- ---- status and qualifier ----
 
--- the statuses of 001 and of 01's table
+-- the statuses of SPEC 6.2
 unfoldable pub knownStatus : ℕ → Bool
 knownStatus n = eqb n 0 or eqb n 6 or eqb n 11 or eqb n 12 or eqb n 17 or eqb n 22 or eqb n 28
 
--- "a status known neither to 001 nor to 01's table is handled as 22 and such a qualifier as 1"
+-- a status that is not known is handled as 22, and a qualifier that is not known as 1
 unfoldable pub handledStatus : ℕ → ℕ
 handledStatus n = if knownStatus n then n else 22
 
@@ -68,7 +67,7 @@ handledQualifier n = if leb n 7 then n else 1
 
 -- ---- what is read ----
 
--- status and qualifier to act on, "with the original number still shown"
+-- status and qualifier to act on, beside the numbers that were sent
 abbrev pub answered : ℕ → ℕ → ℕ → ℕ → Outcome
 answered status qualifier sentStatus sentQualifier = Answered (record {
   status = status;
@@ -77,8 +76,8 @@ answered status qualifier sentStatus sentQualifier = Answered (record {
   «sent_qualifier» = sentQualifier;
 })
 
--- "Refused by name is exactly a reply under 8 bytes or of the wrong length for its command and status"; an opcode that is
--- none of the ten is no command. The result is resultIn
+-- refused is a reply under 8 bytes or of the wrong length for its command and status; an opcode that is none of the ten
+-- is no command. The result is resultIn
 unfoldable pub readReply : ℕ → ℕ → List ℕ → Outcome
 readReply op what r =
     unless supported op answer Refused then

@@ -1,5 +1,4 @@
--- A command by its fields, and the bytes of its request: document 01, "The frame" and "What each command does", and 02,
--- request 1. Assumes nothing.
+-- A command by its fields, and the bytes of its request: SPEC 3, 4 and 13.1. Assumes nothing.
 use mathlib.Core.Path.{_≡_}
 use mathlib.Core.List.{List, [], _++_}
 use Prim.Native.Nat.{ℕ, _+_, _-_, _≤_}
@@ -20,7 +19,7 @@ use Rattle.host.specs.declared.Sent.{Sent}
 abbrev pub sent : ℕ → ℕ → ℕ → ℕ → ℕ → Sent
 sent op m id place x = record { opcode = op; member = m; id = id; place = place; value = x }
 
--- "The member field of these two is not read": zero. Kind, type and mode are the last field that is read, and so is the
+-- the two list commands name no member: 0. Kind, type and mode are the last field that is read, and so is the
 -- mask; a command that has none of them ends in the object header, or in the flags, which are 0
 unfoldable pub sentOf : Command → Sent
 sentOf ListQuery = sent 0x00 0 0 0 0

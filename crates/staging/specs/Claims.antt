@@ -1,4 +1,4 @@
--- WHAT IS CLAIMED of a restore in fragments: document 02, request 6. Assumes nothing.
+-- WHAT IS CLAIMED of a restore in fragments: SPEC 13.6. Assumes nothing.
 use mathlib.Core.Path.{_≡_}
 use mathlib.Core.Bool.{true}
 use mathlib.Core.List.{List, [], _∷_, _++_}

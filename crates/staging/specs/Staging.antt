@@ -1,4 +1,4 @@
--- Restore in fragments, document 02, request 6: begin, feed, finish and drop for one member. Each gives the first answer
+-- Restore in fragments, SPEC 13.6: begin, feed, finish and drop for one member. Each gives the first answer
 -- that applies, as a number, and the card after it. Assumes nothing.
 use mathlib.Core.Bool.{Bool}
 use mathlib.Core.List.{List}
@@ -50,14 +50,14 @@ answerNumber a = statusOf a + 65536 * qualifierOf a
 abbrev pub notSound : ℕ
 notSound = 9
 
--- "An unsound card answers 9 and a member not 1 to N answers 22/5, before all else"
+-- before all else: 9 on an unsound card, 22/5 where m is no member
 unfoldable pub memberRefusal : List ℕ → ℕ → ℕ
 memberRefusal c m =
     unless isSound c answer notSound then
     unless isMember c m answer answerNumber NoMember then
     answerNumber Done
 
--- "feed, finish or drop with nothing begun answers 6/1, whatever is fed"
+-- then, for feed, finish and drop: 6/1 where nothing is open, whatever is fed
 unfoldable pub openRefusal : List ℕ → ℕ → ℕ
 openRefusal c m =
     unless isSound c answer notSound then
@@ -77,7 +77,7 @@ onOpen c m next = ifNone (openRefusal c m) next c
 
 -- ---- the calls ----
 
--- "begin while one is open answers 17/1"; else an empty one is open
+-- 17/1 where one is open; else an empty one is open
 abbrev pub opened : List ℕ → ℕ → ℕ × List ℕ
 opened c m =
     unless eqb (heldIn c m) 0 answer (answerNumber Exists, c) then
@@ -86,7 +86,7 @@ opened c m =
 unfoldable pub beginOf : List ℕ → ℕ → ℕ × List ℕ
 beginOf c m = onMember c m (opened c m)
 
--- "A feed past 1,024 bytes in all answers 22/1 and drops the holding place"; else the fragment goes behind what is held
+-- over 1,024 bytes in all: 22/1, and the holding place is dropped; else the fragment goes behind what is held
 abbrev pub joinedTo : List ℕ → ℕ → List ℕ → ℕ × List ℕ
 joinedTo c m x =
     unless leb (heldIn c m - 1 + length x) holdingSize answer (answerNumber BadLength, withoutHeld c m) then

@@ -1,4 +1,4 @@
-// Restore in fragments, document 02, request 6: begin, feed, finish and drop of a member's holding place (02's term). Each
+// Restore in fragments, SPEC 13.6: begin, feed, finish and drop of a member's holding place (02's term). Each
 // answers status + 65,536 x qualifier, and 9 for an unsound card.
 ghost use mathlib.Core.Path.{_≡_};
 ghost use mathlib.Core.Bool.{true};
