@@ -74,8 +74,8 @@ setParts m id list = requestOf (Set m id) list
 
 -- ---- a request in a lent buffer ----
 
--- x at the front of a buffer, the start of a request of n bytes: "Only a request over 4,096 bytes, or too long for the
--- buffer, is refused, and nothing written". What is answered is n, or 0 where it is refused
+-- x at the front of a buffer, the start of a request of n bytes. Over 4,096 bytes, or too long for the buffer, it is refused
+-- and nothing is written. What is answered is n, or 0 where it is refused
 unfoldable pub begun : ℕ → List ℕ → List ℕ → ℕ × List ℕ
 begun n x buffer = unless leb n longest and leb n (length buffer) answer (0, buffer) then (n, put 0 x buffer)
 

@@ -46,8 +46,8 @@ HoldsJoined =
 abbrev pub restored : List ℕ → ℕ → ℕ → List (List ℕ) → ℕ × List ℕ
 restored c m id xs = finishOf (fed m (beginOf c m .1) xs) m id
 
--- "With nothing open at the start and no other call between, however at most 1,024 bytes are cut, answer of finish and card
--- are the same"
+-- With nothing open at the start and no other call between: however at most 1,024 bytes are cut, the answer of finish and
+-- the card are the same
 abbrev pub CutAnywhere : Type 0
 CutAnywhere =
     (c : List ℕ) (m id : ℕ) → isSound c ≡ true → isMember c m ≡ true → heldIn c m ≡ 0

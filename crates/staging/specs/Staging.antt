@@ -99,8 +99,8 @@ feedOf c m x = onOpen c m (joinedTo c m x)
 abbrev pub concluded : ℕ → List ℕ × List ℕ → ℕ × List ℕ
 concluded m x = (number 0 4 (x .1), withoutHeld (x .0) m)
 
--- "does what one parts set of the joined bytes would do at that moment, checks and statuses included, and then the holding
--- place is gone whatever the answer"; a reply to a parts set is the head alone
+-- what the card answers to one parts set of the joined bytes, and does for it; then the holding place is gone, whatever the
+-- answer. A reply to a parts set is the head alone
 unfoldable pub finishOf : List ℕ → ℕ → ℕ → ℕ × List ℕ
 finishOf c m id = onOpen c m (concluded m (respond c (setParts m id (heldBytes c m)) headSize))
 
