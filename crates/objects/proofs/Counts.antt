@@ -82,7 +82,7 @@ module _ (v : ℕ) (bs : List ℕ) (i n : ℕ) (e : count v bs ≡ n + count v (
       let z : count v (drop i bs) ≡ 0 = rw (drop-of-length-le bs a) in
       omega arith
 
--- of the bytes up to 2, the odd one is 1, and the one with a half is 2
+-- of 0, 1 and 2 the remainder by 2 is 1 for 1 alone, and the quotient for 2 alone
 pub odd-indicator : (b : ℕ) → b ≤ 2 → b % 2 ≡ indicator (eqb b 1)
 unfolding indicator
 odd-indicator zero h = refl

@@ -80,8 +80,8 @@ pub fn object_bytes(objects: [ObjectRecord; IDS]) -> [u8; IDS]
 
 // ---- counting object bytes, without branches, where they stand in the record ----
 
-// 1 if the byte is v, else 0: of the bytes up to 2, 1 is the odd one and 2 the one that has a half. A sum of these is a
-// few vector additions; of the answers to a test it would be many more steps.
+// 1 if the byte is v, else 0: of 0, 1 and 2 the remainder by 2 is 1 for 1 alone, and the quotient for 2 alone. A sum of
+// these is a few vector additions; of the answers to a test it would be many more steps.
 fn indicator_of(b: u8, v: u8) -> u8
     requires { ⌜ (b ≤ 2) × (1 ≤ v) × (v ≤ 2) ⌝ }
     ensures { λ r. ⌜ r ≡ indicator (eqb b v) ⌝ }
