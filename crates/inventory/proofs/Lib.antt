@@ -3,3 +3,4 @@ pub mod Rules
 pub mod Find
 pub mod Headers
 pub mod Places
+pub mod Worked

@@ -1,2 +1,3 @@
 pub mod Inventory
 pub mod Header
+pub mod Worked

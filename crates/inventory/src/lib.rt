@@ -6,7 +6,8 @@ ghost use lib.Dec.{eqb};
 ghost use lib.ListN.{length};
 ghost use Rattle.theory.specs.Logic.{indicator};
 ghost use Rattle.theory.specs.Bytes.{put};
-ghost use Rattle.inventory.specs.Inventory.{row, rowAt, rowCount, deviceFeatures, offsetOf, present, selectorOf, isRow, placeOf, partCount, partsSize};
+ghost use Rattle.inventory.specs.Inventory.{row, rowAt, rowCount, deviceFeatures, offsetOf, present, selectorOf, placeOf, partCount, partsSize};
+ghost use Rattle.inventory.specs.Worked.{nthOf, fieldAt, queueRows};
 ghost use Rattle.inventory.specs.Header.{headerOf, headerSize};
 
 // The types of parts.
@@ -36,8 +37,24 @@ const TWO_BYTES: u64 = 0x1_0000;
 
 const FOUR_BYTES: u64 = 0x1_0000_0000;
 
+// The most queues that a member has.
+const MOST_QUEUES: u8 = 4;
+
 // The table has a row for each part of a member with four queues.
 pub const ROWS: usize = 15;
+
+// The first row of each type.
+pub const FEATURES_ROW: usize = 0;
+
+const DRIVER_ROW: usize = 1;
+
+const FIRST_FIELD: usize = 2;
+
+const STATUS_ROW: usize = 6;
+
+const FIRST_QUEUE: usize = 7;
+
+const FIRST_NOTIFY: usize = 11;
 
 pub const TYPES: [u16; ROWS] = [
     DEVICE_FEATURES,
@@ -126,31 +143,67 @@ pub fn selector_of(t: u16, s: u64) -> u64
     0
 }
 
-// Whether the part of this type and selector is the row's, and there with so many queues.
-fn is_row(queues: u8, t: u16, selector: u64, row_type: u16, row_selector: u8) -> bool
-    ensures { λ r. ⌜ r ≡ isRow queues t selector (row «row_type» «row_selector» 0) ⌝ }
+// The row of a type's rows, which stand one after another from the first, by its number among them; none past their count.
+fn nth_of(first: usize, count: u8, n: u64) -> Place
+    requires { ⌜ first < rowCount ⌝ }
+    ensures { λ r. ⌜ r ≡ nthOf first count n ⌝ }
 {
-    if row_type != t {
-        return false;
+    if n < count as u64 {
+        return Place::At(first + n as usize);
     }
-    if row_selector as u64 != selector {
-        return false;
-    }
-    is_present(queues, row_type, row_selector)
+    Place::Absent
 }
 
-// The row of a type and selector that a member with so many queues has.
+// The row of a PCI common field, by its offset.
+fn field_at(offset: u64) -> Place
+    ensures { λ r. ⌜ r ≡ fieldAt offset ⌝ }
+{
+    if offset == 0 {
+        return Place::At(FIRST_FIELD);
+    }
+    if offset == 8 {
+        return Place::At(FIRST_FIELD + 1);
+    }
+    if offset == 16 {
+        return Place::At(FIRST_FIELD + 2);
+    }
+    if offset == 22 {
+        return Place::At(FIRST_FIELD + 3);
+    }
+    Place::Absent
+}
+
+// The queues that have rows, of a member with so many.
+fn queue_rows(queues: u8) -> u8
+    ensures { λ r. ⌜ r ≡ queueRows queues ⌝ }
+{
+    if queues < MOST_QUEUES {
+        return queues;
+    }
+    MOST_QUEUES
+}
+
+// The row of a type and selector that a member with so many queues has: worked out, with no search of the tables.
 pub fn place_of(queues: u8, t: u16, selector: u64) -> Place
     ensures { λ r. ⌜ r ≡ placeOf queues t selector ⌝ }
 {
-    let types = TYPES;
-    let selectors = SELECTORS;
-    let mut i = 0;
-    while i < ROWS {
-        if is_row(queues, t, selector, types[i], selectors[i]) {
-            return Place::At(i);
-        }
-        i += 1;
+    if t == QUEUE {
+        return nth_of(FIRST_QUEUE, queue_rows(queues), selector);
+    }
+    if t == QUEUE_NOTIFY {
+        return nth_of(FIRST_NOTIFY, queue_rows(queues), selector);
+    }
+    if t == PCI_COMMON {
+        return field_at(selector);
+    }
+    if t == DEVICE_STATUS {
+        return nth_of(STATUS_ROW, 1, selector);
+    }
+    if t == DRIVER_FEATURES {
+        return nth_of(DRIVER_ROW, 1, selector);
+    }
+    if t == DEVICE_FEATURES {
+        return nth_of(FEATURES_ROW, 1, selector);
     }
     Place::Absent
 }
