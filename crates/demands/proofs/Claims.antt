@@ -9,6 +9,7 @@ use Rattle.demands.proofs.LengthExamples.{length-examples-hold}
 use Rattle.demands.proofs.Taken.{taken}
 use Rattle.demands.proofs.ReadBack.{read-back}
 use Rattle.demands.proofs.AnyLength.{missing-is-zero, rest-is-ignored}
+use Rattle.demands.proofs.Places.{places-found}
 use Rattle.demands.proofs.WrongPrograms.{wrong-programs-rejected}
 use Rattle.demands.proofs.RoundTrip.{round-trip}
 use Rattle.demands.proofs.Isolation.{isolation}
@@ -36,6 +37,7 @@ claims = record {
   missingIsZero = missing-is-zero;
   restIsIgnored = rest-is-ignored;
   lengthExamples = length-examples-hold;
+  placesFound = places-found;
   commutation = commutation;
   commandsCommute = commands-commute;
   finishIsPartsSet = finish-is-parts-set;

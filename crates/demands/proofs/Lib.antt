@@ -24,5 +24,7 @@ pub mod RestoreExample
 pub mod HoldingKept
 pub mod Statuses
 pub mod StatusesExample
+pub mod Places
+pub mod PlacesExample
 pub mod Claims
 pub mod ClaimsExample

@@ -27,6 +27,7 @@ use Rattle.demands.specs.Lengths.{LengthExamplesHold}
 use Rattle.demands.specs.WrongPrograms.{WrongProgramsRejected}
 use Rattle.demands.specs.RoundTrip.{RoundTrip}
 use Rattle.demands.specs.Host.{Taken, ReadBack}
+use Rattle.demands.specs.Places.{PlacesFound}
 
 -- No call makes a sound card unsound: SPEC 2.4. Example: sound-card
 abbrev pub StaysSound : Type 0
@@ -144,6 +145,11 @@ RestIsIgnored =
 
 -- The worked examples L1 to L15: Lengths.antt
 
+-- ---- REQUEST 4, SPEC 13.4: the place of a part ----
+
+-- It is the p-th exactly if the p-th part of the member's inventory is the one asked for, and none exactly if no part is:
+-- Places.antt. Example: ../proofs/PlacesExample.antt
+
 -- ---- REQUEST 12, SPEC 13.12: calls for different members, in any order ----
 
 -- In any sequence of calls on any card, p, then x and y, then t, where x and y name different members: x and y can
@@ -201,6 +207,8 @@ pub record Claims : Type 1 where
   pub missingIsZero : MissingIsZero
   pub restIsIgnored : RestIsIgnored
   pub lengthExamples : LengthExamplesHold
+  -- request 4
+  pub placesFound : PlacesFound
   -- request 12
   pub commutation : Commutation
   pub commandsCommute : CommandsCommute

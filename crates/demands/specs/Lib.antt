@@ -5,4 +5,5 @@ pub mod Lengths
 pub mod WrongPrograms
 pub mod RoundTrip
 pub mod Host
+pub mod Places
 pub mod Claims

@@ -1,47 +1,20 @@
--- The search for a part's row: it goes row by row, what it finds is that part's row, and each row that is there is found.
--- Assumes nothing.
+-- The search for a part's row: what it finds is that part's row, and each row that is there is found. Assumes nothing.
 use mathlib.Core.Path.{_≡_, refl, ap, sym, _∙_}
 use mathlib.Core.Bool.{Bool, true, false}
 use mathlib.Core.List.{List, [], _∷_}
-use Prim.Native.Nat.{ℕ, suc, _+_, _<_, _≤_}
+use Prim.Native.Nat.{ℕ, suc, _+_, _<_}
 use native.Mathlib.Nat.{zero-add}
-use native.Mathlib.Numerals.{add-one}
 use native.Mathlib.Omega.{arith}
 use borrow.Author.Tests.{eqb-true}
 use lib.Dec.{eqb}
-use lib.ListN.{length, getD, drop, drop-of-length-le}
-use lib.Seq.{drop-cons}
+use lib.ListN.{length, getD}
 use Rattle.theory.specs.Logic.{if_then_else_}
 use Rattle.theory.proofs.Tests.{by-cases, both}
 use Rattle.theory.proofs.Table.{every}
 use Rattle.inventory.specs.Inventory.{Row, row, rows, rowAt, rowCount, present, isRow, seek, placeOf}
 use Rattle.inventory.specs.declared.Place.{Place}
 use Rattle.inventory.specs.declared.Place.the-variants.{At, Absent}
-use Rattle.inventory.proofs.Columns.{types, selectors, type-at, selector-at}
 use Rattle.inventory.proofs.Rules.{table, every-row, every-count}
-
--- ---- row by row, as the code goes ----
-
-module _ (q t s i : ℕ) (e : placeOf q t s ≡ seek q t s (drop i rows) i) where
-  -- the code tests the columns' entries
-  module _ (b : Bool) (h : i < rowCount) (r : b ≡ isRow q t s (row (getD types i 0) (getD selectors i 0) 0)) where
-    step : placeOf q t s ≡ if b then At i else seek q t s (drop (i + 1) rows) (i + 1)
-    unfolding rows rowAt seek isRow present
-    step =
-        let own : b ≡ isRow q t s (rowAt i) = r ∙ rw (type-at i, selector-at i) in
-        e ∙ rw (drop-cons rows i (row 0 0 0) h, add-one, own)
-
-    pub found-here : b ≡ true → At i ≡ placeOf q t s
-    unfolding if_then_else_
-    found-here y = sym (rw y at step)
-
-    pub next-row : b ≡ false → placeOf q t s ≡ seek q t s (drop (i + 1) rows) (i + 1)
-    unfolding if_then_else_
-    next-row n = rw n at step
-
-  pub none-left : rowCount ≤ i → Absent ≡ placeOf q t s
-  unfolding rows seek
-  none-left h = sym (e ∙ rw (drop-of-length-le rows h))
 
 -- ---- what is found ----
 
