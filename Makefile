@@ -1,6 +1,6 @@
 # Two targets for a newcomer: `make run` and `make test`.
 
-.PHONY: run test lib install uninstall compare compare-faults bench-capture clean
+.PHONY: run test lib install uninstall compare compare-faults bench-capture bench-restore clean
 
 # A guest moves from one card to another, and nothing of it stays behind. The first run proves the crates, in minutes.
 run:
@@ -58,6 +58,10 @@ compare-faults: $(ARCHIVE)
 # The time of a capture, as ratios in one run.
 bench-capture: $(ARCHIVE)
 	@$(COMPARE) --bin bench-capture
+
+# The time of a parts set of a full capture, as a ratio in one run.
+bench-restore: $(ARCHIVE)
+	@$(COMPARE) --bin bench-restore
 
 clean:
 	rm -rf target docs/src/target bindings/rust/target examples/c/target

@@ -14,12 +14,13 @@
 //! | [`halves`] | built requests, sent to a card, and its replies, read |
 //! | [`shrink`], [`show`] | the shortest sequence found that shows a difference, as text |
 //! | [`faults`] | planted faults that the above have to find |
-//! | [`fast`] | the fastest plain Rust over bytes, for the timing |
+//! | [`bench`], [`fast`] | the timing, and the fastest plain Rust over bytes for it |
 //! | [`arguments`] | the arguments of the programs |
 
 #![deny(unsafe_code)]
 
 pub mod arguments;
+pub mod bench;
 pub mod call;
 pub mod coverage;
 pub mod device;

@@ -4,6 +4,7 @@ use std::process::{Command, Output};
 
 const COMPARE: &str = env!("CARGO_BIN_EXE_compare");
 const BENCH_CAPTURE: &str = env!("CARGO_BIN_EXE_bench-capture");
+const BENCH_RESTORE: &str = env!("CARGO_BIN_EXE_bench-restore");
 
 fn run(program: &str, arguments: &[&str]) -> Output {
     Command::new(program).args(arguments).output().expect("the program starts")
@@ -25,11 +26,12 @@ fn bad_arguments_are_named() {
     refuses(COMPARE, &["--calls", "many"], "--calls does not take: many");
     refuses(COMPARE, &["--seconds"], "--seconds needs a number");
     refuses(BENCH_CAPTURE, &["--runs"], "unknown argument: --runs");
+    refuses(BENCH_RESTORE, &["4"], "unknown argument: 4");
 }
 
 #[test]
 fn help_is_given() {
-    for program in [COMPARE, BENCH_CAPTURE] {
+    for program in [COMPARE, BENCH_CAPTURE, BENCH_RESTORE] {
         let output = run(program, &["--help"]);
         assert_eq!(output.status.code(), Some(0));
         assert!(String::from_utf8(output.stdout).unwrap().contains("--help"));

@@ -2,32 +2,11 @@
 //! plain Rust over bytes, with the same input in the same process; and mode set,
 //! a command that changes a member, by the first two.
 
-use std::hint::black_box;
 use std::process::ExitCode;
-use std::time::Instant;
 
 use compare::arguments;
-use compare::fast;
-use compare::random::Random;
-use kajurnat::raw;
+use compare::bench::{contestants, full_card, print_times, GET_ID, MEMBERS, QUEUES, REPLY, TIMES};
 use plain_card::host::Request;
-use plain_card::member::{Member, Mode};
-use plain_card::object::Kind;
-use plain_card::opcode::SUPPORTED;
-use plain_card::part::{inventory, Part};
-use plain_card::{bytes, Card, Setup};
-
-const MEMBERS: u64 = 16;
-const QUEUES: u8 = 4;
-/// The contestants take turns; a run makes every request so many times.
-const RUNS: usize = 100;
-const TIMES: usize = 100;
-const REPLY: usize = 8 + 157 + 72 * QUEUES as usize;
-
-/// Hears a request and tells the bytes written.
-type Hear = Box<dyn FnMut(&[u8], &mut [u8]) -> usize>;
-/// A program with its name.
-type Contestant = (&'static str, Hear);
 
 const USAGE: &str = "\
 bench-capture [--help]
@@ -40,103 +19,13 @@ fn main() -> ExitCode {
     }
     let card = full_card();
     let captures: Vec<Vec<u8>> =
-        (1..=MEMBERS).map(|member| Request::Get(member, 0, 1, &[]).bytes()).collect();
-    println!("{MEMBERS} members of {QUEUES} queues, {} full captures of each", RUNS * TIMES);
+        (1..=MEMBERS).map(|member| Request::Get(member, GET_ID, 1, &[]).bytes()).collect();
+    println!("{MEMBERS} members of {QUEUES} queues, {TIMES} full captures of each");
     print_times("ns per capture", &mut contestants(&card), &captures, REPLY);
     let modes: Vec<Vec<u8>> = (1..=MEMBERS)
         .flat_map(|member| [0, 1].map(|mode| Request::Mode(member, mode).bytes()))
         .collect();
-    println!("each resumed and stopped {} times", RUNS * TIMES);
+    println!("each resumed and stopped {TIMES} times");
     print_times("ns per mode set", &mut contestants(&card)[..2], &modes, 8);
     ExitCode::SUCCESS
-}
-
-/// Times the requests, which all have replies of one length.
-fn print_times(unit: &str, contestants: &mut [Contestant], requests: &[Vec<u8>], reply: usize) {
-    check_replies(contestants, requests, reply);
-    let runs: Vec<Vec<f64>> = (0..RUNS)
-        .map(|_| contestants.iter_mut().map(|(_, hear)| time(hear, requests)).collect())
-        .collect();
-    println!("{:<34} {unit:>16} {:>16}", "", "archive / this");
-    for (index, (name, _)) in contestants.iter().enumerate() {
-        let nanoseconds = median(runs.iter().map(|run| run[index]));
-        let ratio = median(runs.iter().map(|run| run[0] / run[index]));
-        println!("{name:<34} {nanoseconds:>16.1} {ratio:>16.2}");
-    }
-}
-
-/// A card whose members have all objects they may have and random parts.
-fn full_card() -> Card {
-    let mut random = Random::new(1, 0);
-    let setup = Setup::new(MEMBERS, QUEUES.into(), 8, 8, [3; 16]).expect("it is in range");
-    let mut card = Card::fresh(setup);
-    card.in_use = SUPPORTED;
-    for member in &mut card.members {
-        fill(&mut random, member);
-    }
-    assert!(card.is_sound());
-    card
-}
-
-fn fill(random: &mut Random, member: &mut Member) {
-    member.mode = Mode::Stopped;
-    for id in 0..16 {
-        member.objects.put(id, if id < 8 { Kind::Get } else { Kind::Set });
-    }
-    for part in inventory(QUEUES).filter(|part| *part != Part::DeviceFeatures) {
-        let value = random.bytes(part.length() as usize);
-        member.values.get_mut(part).copy_from_slice(&value);
-    }
-}
-
-/// The archive first, then what it is timed against.
-fn contestants(card: &Card) -> [Contestant; 3] {
-    let mut plain = card.clone();
-    let mut lent = bytes::write(card);
-    let mut fast = lent.clone();
-    [
-        ("archive", Box::new(move |request, reply| raw::command(&mut lent, request, reply))),
-        (
-            "plain card, &mut Card",
-            Box::new(move |request, reply| plain_card::command(&mut plain, request, reply)),
-        ),
-        (
-            "fastest plain Rust, over bytes",
-            Box::new(move |request, reply| fast::command(&mut fast, request, reply)),
-        ),
-    ]
-}
-
-/// Every contestant gives the same bytes for every request.
-fn check_replies(contestants: &mut [Contestant], requests: &[Vec<u8>], length: usize) {
-    for request in requests {
-        let replies: Vec<[u8; REPLY]> = contestants
-            .iter_mut()
-            .map(|(name, hear)| {
-                let mut reply = [0xa5; REPLY];
-                assert_eq!(hear(request, &mut reply), length, "{name}");
-                reply
-            })
-            .collect();
-        assert!(replies.iter().all(|reply| *reply == replies[0]), "replies differ");
-    }
-}
-
-/// Nanoseconds per request in one run.
-fn time(hear: &mut Hear, requests: &[Vec<u8>]) -> f64 {
-    let mut reply = [0; REPLY];
-    let start = Instant::now();
-    for _ in 0..TIMES {
-        for request in requests {
-            black_box(hear(black_box(request), &mut reply));
-            black_box(&reply);
-        }
-    }
-    start.elapsed().as_nanos() as f64 / (TIMES * requests.len()) as f64
-}
-
-fn median(numbers: impl Iterator<Item = f64>) -> f64 {
-    let mut sorted: Vec<f64> = numbers.collect();
-    sorted.sort_by(f64::total_cmp);
-    sorted[sorted.len() / 2]
 }
