@@ -4,3 +4,5 @@ pub mod Find
 pub mod Headers
 pub mod Places
 pub mod Worked
+pub mod Powers
+pub mod Queue

@@ -1,3 +1,4 @@
 pub mod Inventory
 pub mod Header
 pub mod Worked
+pub mod Queue

@@ -5,10 +5,11 @@ ghost use Prim.Native.Nat.{_+_, _*_, _^_, _≤_, _<_};
 ghost use lib.Dec.{eqb};
 ghost use lib.ListN.{length};
 ghost use Rattle.theory.specs.Logic.{indicator};
-ghost use Rattle.theory.specs.Bytes.{put};
-ghost use Rattle.inventory.specs.Inventory.{row, rowAt, rowCount, deviceFeatures, offsetOf, present, selectorOf, placeOf, partCount, partsSize};
+ghost use Rattle.theory.specs.Bytes.{bytesAt, put};
+ghost use Rattle.inventory.specs.Inventory.{row, rowAt, rowCount, deviceFeatures, offsetOf, present, selectorOf, placeOf, partCount, partsSize, valuesSize};
 ghost use Rattle.inventory.specs.Worked.{nthOf, fieldAt, queueRows};
 ghost use Rattle.inventory.specs.Header.{headerOf, headerSize};
+ghost use Rattle.inventory.specs.Queue.{ringSize, queueSize, queueAllowed, valueAllowed, queuesAllowed};
 
 // The types of parts.
 pub const DEVICE_FEATURES: u16 = 0x100;
@@ -237,4 +238,53 @@ pub fn parts_size(queues: u8) -> u32
     ensures { λ r. ⌜ r ≡ partsSize queues ⌝ }
 {
     157 + 72 * (queues as u32)
+}
+
+// ---- queue sizes, SPEC 13.5 ----
+
+// The value of a queue part: its size is a number of two bytes, and so is its enabled field.
+const QUEUE_SIZE: usize = 32;
+
+const ENABLED_AT: usize = 4;
+
+// Whether a split ring has this size: a power of two, which has one bit, or 0 where the queue is not enabled. No branch.
+fn is_ring_size(size: u16, enabled: u16) -> bool
+    ensures { λ r. ⌜ r ≡ ringSize size enabled ⌝ }
+{
+    (u16::count_ones(size) == 1) | ((size == 0) & (enabled == 0))
+}
+
+// Whether the queue value at a place is allowed.
+fn is_queue_allowed(values: &[u8], at: usize) -> bool
+    requires { ⌜ at + queueSize ≤ length (now values) ⌝ }
+    ensures { λ r. ⌜ r ≡ queueAllowed (bytesAt at queueSize (now (values .entry))) ⌝ }
+{
+    is_ring_size(
+        wire::read_u16(values, at),
+        wire::read_u16(values, at + ENABLED_AT),
+    )
+}
+
+// Whether a part of this type may have this value.
+pub fn is_value_allowed(t: u16, value: &[u8]) -> bool
+    ensures { λ r. ⌜ r ≡ valueAllowed t (now (value .entry)) ⌝ }
+{
+    if t != QUEUE {
+        return true;
+    }
+    if value.len() != QUEUE_SIZE {
+        return true;
+    }
+    is_queue_allowed(value, 0)
+}
+
+// Whether the values of a member with so many queues have an allowed value for each. All four are tested, with no branch.
+pub fn are_queues_allowed(queues: u8, values: &[u8]) -> bool
+    requires { ⌜ length (now values) ≡ valuesSize ⌝ }
+    ensures { λ r. ⌜ r ≡ queuesAllowed queues (now (values .entry)) ⌝ }
+{
+    ((queues <= 0) | is_queue_allowed(values, 45))
+        & ((queues <= 1) | is_queue_allowed(values, 77))
+        & ((queues <= 2) | is_queue_allowed(values, 109))
+        & ((queues <= 3) | is_queue_allowed(values, 141))
 }

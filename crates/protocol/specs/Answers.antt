@@ -54,6 +54,7 @@ eventNumber event.NoMember = 1
 eventNumber event.NoPart = 2
 eventNumber event.WrongLength = 3
 eventNumber event.BadSetup = 4
+eventNumber event.BadQueueSize = 5
 
 abbrev pub isEventDone : EventAnswer → Bool
 isEventDone event.Done = true
@@ -62,6 +63,7 @@ isEventDone event.NoMember = false
 isEventDone event.NoPart = false
 isEventDone event.WrongLength = false
 isEventDone event.BadSetup = false
+isEventDone event.BadQueueSize = false
 
 -- tests of a member's mode and of an object's kind
 abbrev pub isStopped : Mode → Bool

@@ -30,6 +30,7 @@ pub enum EventAnswer {
     NoPart,
     WrongLength,
     BadSetup,
+    BadQueueSize,
 }
 
 pub enum Mode {
@@ -133,6 +134,7 @@ pub fn event_number(a: EventAnswer) -> u8
         EventAnswer::NoPart => 2,
         EventAnswer::WrongLength => 3,
         EventAnswer::BadSetup => 4,
+        EventAnswer::BadQueueSize => 5,
     }
 }
 
@@ -146,6 +148,7 @@ pub fn is_event_done(a: EventAnswer) -> bool
         EventAnswer::NoPart => false,
         EventAnswer::WrongLength => false,
         EventAnswer::BadSetup => false,
+        EventAnswer::BadQueueSize => false,
     }
 }
 
