@@ -278,7 +278,8 @@ pub fn is_value_allowed(t: u16, value: &[u8]) -> bool
     is_queue_allowed(value, 0)
 }
 
-// Whether the values of a member with so many queues have an allowed value for each. All four are tested, with no branch.
+// Whether the values of a member with so many queues have an allowed one for each: they start where OFFSETS says.
+// All four are tested, with no branch.
 pub fn are_queues_allowed(queues: u8, values: &[u8]) -> bool
     requires { ⌜ length (now values) ≡ valuesSize ⌝ }
     ensures { λ r. ⌜ r ≡ queuesAllowed queues (now (values .entry)) ⌝ }

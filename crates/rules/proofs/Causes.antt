@@ -4,9 +4,9 @@ use mathlib.Core.Bool.{Bool, true, false, not}
 use mathlib.Core.List.{List}
 use Prim.Native.Nat.{ℕ}
 use Rattle.theory.proofs.Ladder.{pass, stop, said-true, said-false, yes-not, no-not}
-use Rattle.rules.specs.declared.Cause.the-variants.{Accepted, Cut, Unknown, Length, Features, Twice}
+use Rattle.rules.specs.declared.Cause.the-variants.{Accepted, Cut, Unknown, Length, Size, Features, Twice}
 use Rattle.parts.specs.List.{PartList, whole}
-use Rattle.rules.specs.Rules.{knownOrSkipped, lengthRight, featuresSame, every, repeated, causeIn}
+use Rattle.rules.specs.Rules.{knownOrSkipped, lengthRight, sizeRight, featuresSame, every, repeated, causeIn}
 
 ruleset steps = (pass, stop, said-true, said-false)
 
@@ -25,16 +25,21 @@ module _ (q : ℕ) (features : List ℕ) (ps : PartList) (w : Bool) (ew : w ≡ 
       unfolding causeIn
       wrong-length h = search steps
 
-      module _ (hn : not n ≡ false) (f : Bool) (ef : f ≡ every (featuresSame features) ps) where
-        pub wrong-features : not f ≡ true → Features ≡ causeIn q features ps
+      module _ (hn : not n ≡ false) (z : Bool) (ez : z ≡ every (sizeRight q) ps) where
+        pub wrong-size : not z ≡ true → Size ≡ causeIn q features ps
         unfolding causeIn
-        wrong-features h = search steps depth 9
+        wrong-size h = search steps depth 9
 
-        module _ (hf : not f ≡ false) (d : Bool) (ed : d ≡ repeated q ps) where
-          pub twice : d ≡ true → Twice ≡ causeIn q features ps
+        module _ (hz : not z ≡ false) (f : Bool) (ef : f ≡ every (featuresSame features) ps) where
+          pub wrong-features : not f ≡ true → Features ≡ causeIn q features ps
           unfolding causeIn
-          twice h = search (steps, yes-not (repeated q ps) (sym ed ∙ h)) depth 9
+          wrong-features h = search steps depth 11
 
-          pub accepted : d ≡ false → Accepted ≡ causeIn q features ps
-          unfolding causeIn
-          accepted h = search (steps, no-not (repeated q ps) (sym ed ∙ h)) depth 9
+          module _ (hf : not f ≡ false) (d : Bool) (ed : d ≡ repeated q ps) where
+            pub twice : d ≡ true → Twice ≡ causeIn q features ps
+            unfolding causeIn
+            twice h = search (steps, yes-not (repeated q ps) (sym ed ∙ h)) depth 11
+
+            pub accepted : d ≡ false → Accepted ≡ causeIn q features ps
+            unfolding causeIn
+            accepted h = search (steps, no-not (repeated q ps) (sym ed ∙ h)) depth 11

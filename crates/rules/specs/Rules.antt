@@ -7,10 +7,11 @@ use lib.ListN.{length}
 use Rattle.theory.specs.Logic.{unless_answer_then_, _and_, _or_}
 use Rattle.theory.specs.Bytes.{same}
 use Rattle.inventory.specs.Inventory.{rowAt, deviceFeatures, placeOf, onPlace}
+use Rattle.inventory.specs.Queue.{valueAllowed}
 use Rattle.parts.specs.declared.ListForm.the-variants.{Parts, Headers}
 use Rattle.parts.specs.List.{Part, PartList, end, cut, part, partsOf, whole, among}
 use Rattle.rules.specs.declared.Cause.{Cause}
-use Rattle.rules.specs.declared.Cause.the-variants.{Accepted, Cut, Unknown, Length, Features, Twice}
+use Rattle.rules.specs.declared.Cause.the-variants.{Accepted, Cut, Unknown, Length, Size, Features, Twice}
 
 -- ---- rules of one part ----
 
@@ -35,6 +36,10 @@ knownOrSkipped queues p =
 unfoldable pub lengthRight : ℕ → Part → Bool
 lengthRight queues p =
     onPlace (placeOf queues (p .partType) (p .selector)) (λ i. eqb (length (p .value)) (rowAt i .size)) true
+
+-- a known queue part has a size that a ring has: SPEC 13.5
+unfoldable pub sizeRight : ℕ → Part → Bool
+sizeRight queues p = not (known queues (p .partType) (p .selector)) or valueAllowed (p .partType) (p .value)
 
 -- device features that are given are the member's
 unfoldable pub featuresSame : List ℕ → Part → Bool
@@ -65,6 +70,7 @@ causeIn queues features ps =
     unless whole ps answer Cut then
     unless every (knownOrSkipped queues) ps answer Unknown then
     unless every (lengthRight queues) ps answer Length then
+    unless every (sizeRight queues) ps answer Size then
     unless every (featuresSame features) ps answer Features then
     unless not (repeated queues ps) answer Twice then
     Accepted
@@ -77,6 +83,7 @@ isAccepted Accepted = true
 isAccepted Cut = false
 isAccepted Unknown = false
 isAccepted Length = false
+isAccepted Size = false
 isAccepted Features = false
 isAccepted Twice = false
 

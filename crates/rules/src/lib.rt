@@ -5,6 +5,7 @@ ghost use lib.Dec.{eqb, ltb};
 ghost use Rattle.theory.specs.Logic.{_and_, _or_};
 ghost use Rattle.theory.specs.Bytes.{same};
 ghost use Rattle.inventory.specs.Inventory.{rowAt, deviceFeatures, placeOf, onPlace};
+ghost use Rattle.inventory.specs.Queue.{valueAllowed};
 ghost use Rattle.parts.specs.List.{partsOf, partWith};
 ghost use Rattle.rules.specs.Rules.{isOptional, neverSkipped, known, asksKnown, every, repeated, causeOf, isAccepted, askedOf};
 ghost use Rattle.rules.specs.ByName.{obeys};
@@ -20,6 +21,7 @@ const NEVER_SKIPPED: u16 = 0x600;
 enum Rule {
     KnownOrSkipped,
     LengthRight,
+    SizeRight,
     FeaturesSame,
 }
 
@@ -29,6 +31,7 @@ pub enum Cause {
     Cut,
     Unknown,
     Length,
+    Size,
     Features,
     Twice,
 }
@@ -70,6 +73,16 @@ fn is_length_right(queues: u8, t: u16, selector: u64, n: usize) -> bool
     n == inventory::size_of(i)
 }
 
+// Whether a value may be that of a part of this type, where the member has got the part.
+fn is_size_right(queues: u8, t: u16, selector: u64, value: &[u8]) -> bool
+    ensures { λ r. ⌜ r ≡ not (known queues t selector) or valueAllowed t (now (value .entry)) ⌝ }
+{
+    if !is_known(queues, t, selector) {
+        return true;
+    }
+    inventory::is_value_allowed(t, value)
+}
+
 // Whether a value is the features, where the part is the device features.
 fn is_features(t: u16, value: &[u8], features: &[u8]) -> bool
     ensures { λ r. ⌜ r ≡ not (eqb t deviceFeatures) or same (now (value .entry)) (now (features .entry)) ⌝ }
@@ -95,6 +108,7 @@ fn obeys(
     match rule {
         Rule::KnownOrSkipped => is_known_or_skipped(queues, t, flags, selector),
         Rule::LengthRight => is_length_right(queues, t, selector, value.len()),
+        Rule::SizeRight => is_size_right(queues, t, selector, value),
         Rule::FeaturesSame => is_features(t, value, features),
     }
 }
@@ -210,6 +224,9 @@ pub fn check_list(queues: u8, features: &[u8], list: &[u8]) -> Cause
     if !every_obeys(Rule::LengthRight, list, queues, features) {
         return Cause::Length;
     }
+    if !every_obeys(Rule::SizeRight, list, queues, features) {
+        return Cause::Size;
+    }
     if !every_obeys(Rule::FeaturesSame, list, queues, features) {
         return Cause::Features;
     }
@@ -228,6 +245,7 @@ pub fn is_accepted(c: Cause) -> bool
         Cause::Cut => false,
         Cause::Unknown => false,
         Cause::Length => false,
+        Cause::Size => false,
         Cause::Features => false,
         Cause::Twice => false,
     }
