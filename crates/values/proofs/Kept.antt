@@ -1,20 +1,24 @@
--- What a card store and a list leave as it was: the length of the values, and the device features. Assumes nothing.
+-- What a card store and a list leave as it was: the length of the values, the device features, and that queues have allowed
+-- values. Assumes nothing.
 use mathlib.Core.Path.{_≡_, refl, _∙_}
+use mathlib.Core.Bool.{true}
 use mathlib.Core.List.{List}
 use Prim.Native.Nat.{ℕ, _<_}
 use native.Mathlib.Omega.{arith}
-use borrow.Author.Tests.{lt-ltb, ltb-true, eq-eqb, eqb-true}
+use borrow.Author.Tests.{lt-ltb, ltb-true, ltb-false, eq-eqb, eqb-true, eqb-false}
 use lib.Dec.{ltb, eqb}
 use lib.ListN.{length}
 use Rattle.theory.specs.Logic.{if_then_else_, _and_}
 use Rattle.theory.specs.Bytes.{bytesAt, put}
-use Rattle.theory.proofs.Tests.{if-cases, both, and-i}
-use Rattle.theory.proofs.Bytes.{length-put, bytesAt-before}
-use Rattle.inventory.specs.Inventory.{featuresSize, rowAt, offsetOf, placeOf, onPlace}
+use Rattle.theory.proofs.Tests.{by-cases, if-cases, both, and-i}
+use Rattle.theory.proofs.Bytes.{length-put, bytesAt-before, bytesAt-after, bytesAt-put-as}
+use Rattle.inventory.specs.Inventory.{featuresSize, rowAt, offsetOf, valuesSize, placeOf, onPlace}
+use Rattle.inventory.specs.Queue.{valueAllowed, queuesAllowed}
 use Rattle.inventory.specs.declared.Place.{Place}
 use Rattle.inventory.specs.declared.Place.the-variants.{At, Absent}
 use Rattle.inventory.proofs.Find.{Found, place-found}
-use Rattle.inventory.proofs.Rules.{rows-apart, row-zero, offset-zero}
+use Rattle.inventory.proofs.Rules.{row-within, rows-apart, row-zero, offset-zero}
+use Rattle.inventory.proofs.Queue.{row-allowed, rows-allowed}
 use Rattle.parts.specs.List.{PartList, end, cut, part}
 use Rattle.values.specs.Apply.{stored, applied}
 
@@ -46,6 +50,23 @@ module _ (q t s : ℕ) (x v : List ℕ) where
   stored-features =
       stored-cases (λ w. bytesAt 0 featuresSize w ≡ bytesAt 0 featuresSize v) refl
       (λ i f h l. bytesAt-before 0 featuresSize (offsetOf i) x v (rw (offset-zero, row-zero) at (rows-apart 0 (omega arith) i (f .below) h)))
+
+-- a value that is allowed, stored, leaves the queues with allowed ones
+pub stored-allowed : (q t s : ℕ) (x v : List ℕ) → length v ≡ valuesSize → queuesAllowed q v ≡ true
+    → ((i : ℕ) → Found q t s i → valueAllowed t x ≡ true) → queuesAllowed q (stored q t s x v) ≡ true
+stored-allowed q t s x v n a ok =
+    stored-cases q t s x v (λ w. queuesAllowed q w ≡ true) a λ i f h l.
+    rows-allowed q _ (length-put (offsetOf i) x v ∙ n) λ j b y.
+    let apart : valueAllowed (rowAt j .partType) (bytesAt (offsetOf j) (rowAt j .size) v) ≡ true = row-allowed q v a j b y in
+    by-cases (eqb j i)
+    (λ e.
+    rw (eqb-true j i e, bytesAt-put-as (offsetOf i) (rowAt i .size) x v l (omega (arith, row-within i (f .below))), f .type-is) (ok i f))
+    (λ e.
+    by-cases (ltb j i)
+    (λ u. rw (bytesAt-before (offsetOf j) (rowAt j .size) (offsetOf i) x v (rows-apart j b i (f .below) (ltb-true j i u))) apart)
+    (λ u.
+    let k : i < j = omega (arith, eqb-false j i e, ltb-false j i u) in
+    rw (bytesAt-after (offsetOf j) (rowAt j .size) (offsetOf i) x v (omega (arith, rows-apart i (f .below) j b k))) apart))
 
 -- what no store changes no list does
 applied-keeps : {A : Type 0} (look : List ℕ → A) (q : ℕ)

@@ -6,17 +6,19 @@ use lib.ListN.{length}
 use Rattle.theory.specs.Logic.{if_then_else_, unless_answer_then_, _and_}
 use Rattle.theory.specs.Bytes.{put}
 use Rattle.protocol.specs.declared.EventAnswer.{EventAnswer}
-use Rattle.protocol.specs.declared.EventAnswer.the-variants.{Done, NoPart, WrongLength}
+use Rattle.protocol.specs.declared.EventAnswer.the-variants.{Done, NoPart, WrongLength, BadQueueSize}
 use Rattle.inventory.specs.Inventory.{featuresRow, rowAt, offsetOf, placeOf, onPlace}
+use Rattle.inventory.specs.Queue.{valueAllowed}
 use Rattle.parts.specs.List.{PartList, end, cut, part}
 
--- whether a value of n bytes can be stored; device features are never set, so they count as no part
-unfoldable pub storable : ℕ → ℕ → ℕ → ℕ → EventAnswer
-storable queues t s n =
+-- whether a value can be stored; device features are never set, so they count as no part
+unfoldable pub storable : ℕ → ℕ → ℕ → List ℕ → EventAnswer
+storable queues t s value =
     onPlace (placeOf queues t s)
     (λ i.
     unless ltb featuresRow i answer NoPart then
-    unless eqb n (rowAt i .size) answer WrongLength then
+    unless eqb (length value) (rowAt i .size) answer WrongLength then
+    unless valueAllowed t value answer BadQueueSize then  -- SPEC 13.5
     Done)
     NoPart
 

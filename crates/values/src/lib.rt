@@ -13,9 +13,9 @@ use protocol::EventAnswer;
 // The row of the device features, which are never set.
 const FEATURES_ROW: usize = 0;
 
-// Whether a value of n bytes can be stored.
-pub fn store_answer(queues: u8, t: u16, selector: u64, n: usize) -> EventAnswer
-    ensures { λ r. ⌜ r ≡ storable queues t selector n ⌝ }
+// Whether a value can be stored.
+pub fn store_answer(queues: u8, t: u16, selector: u64, value: &[u8]) -> EventAnswer
+    ensures { λ r. ⌜ r ≡ storable queues t selector (now (value .entry)) ⌝ }
 {
     let Place::At(i) = inventory::place_of(queues, t, selector) else {
         return EventAnswer::NoPart;
@@ -23,8 +23,11 @@ pub fn store_answer(queues: u8, t: u16, selector: u64, n: usize) -> EventAnswer
     if i == FEATURES_ROW {
         return EventAnswer::NoPart;
     }
-    if n != inventory::size_of(i) {
+    if value.len() != inventory::size_of(i) {
         return EventAnswer::WrongLength;
+    }
+    if !inventory::is_value_allowed(t, value) {
+        return EventAnswer::BadQueueSize;
     }
     EventAnswer::Done
 }

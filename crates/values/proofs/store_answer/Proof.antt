@@ -21,10 +21,14 @@ returns-3 c = search (ladder, at-row, row-later, from-ne)
 
 returns-4 : tie.Need-returns-4
 unfolding storable
-returns-4 c = search (ladder, at-row, row-later, from-eq)
+returns-4 c = search (ladder, at-row, row-later, from-eq) depth 9
+
+returns-5 : tie.Need-returns-5
+unfolding storable
+returns-5 c = search (ladder, at-row, row-later, from-eq) depth 9
 
 pub store-answer-spec : {M : Type 1} → statement M
 store-answer-spec =
     tie.close
     (tie.spec (λ c κs. search needs) (λ c. search needs) (λ c. search needs) returns returns-2
-    (λ c κs. search row-in) returns-3 returns-4)
+    (λ c κs. search row-in) returns-3 (λ c κs. search needs) returns-4 returns-5)
