@@ -30,10 +30,10 @@ live-not-free Free k e z = let y : _≡_ {A = ℕ} 0 1 = cc in omega arith
 live-not-free Get k e z = omega arith
 live-not-free Set k e z = omega arith
 
-pub live-below : (gets sets : ℕ) (features : List ℕ) (m : Member) (id : ℕ) (k : ObjectKind)
-    → SoundMember gets sets features m → lookupOf m id ≡ Live k → id < gets + sets
+pub live-below : (queues gets sets : ℕ) (features : List ℕ) (m : Member) (id : ℕ) (k : ObjectKind)
+    → SoundMember queues gets sets features m → lookupOf m id ≡ Live k → id < gets + sets
 unfolding lookupOf
-live-below gets sets features m id k s e =
+live-below queues gets sets features m id k s e =
     let n = gets + sets in
     by-cases (leb n id)
     (λ t.

@@ -96,11 +96,13 @@ module _ (m : Member) (s : Shaped m) where
   pub record-values : (n : ℕ) → bytesAt valuesAt n (memberBytes m) ≡ take n (m .values)
   record-values n = ap (take n) (behind 2 ∙ drop-at (bytes 2 (m .held)) (m .values) 2 (length-bytes 2 (m .held)))
 
+  pub values-last : bytesAt valuesAt valuesSize (memberBytes m) ≡ m .values
+  values-last = record-values valuesSize ∙ take-all valuesSize (m .values) (omega (arith, s .long))
+
   pub member-back : memberOf (memberBytes m) ≡ m
   unfolding memberOf
   member-back =
-      let v : bytesAt valuesAt valuesSize (memberBytes m) ≡ m .values = record-values valuesSize ∙ take-all valuesSize (m .values) (omega (arith, s .long)) in
-      rw (record-mode, mode-back (m .mode), record-objects, objects-back (m .objects), record-held, v)
+      rw (record-mode, mode-back (m .mode), record-objects, objects-back (m .objects), record-held, values-last)
 
 -- ---- the member of a record ----
 

@@ -2,23 +2,25 @@
 -- member. Assumes nothing.
 use mathlib.Core.Path.{_≡_, refl, _∙_}
 use mathlib.Core.Bool.{Bool, true, false, not}
-use mathlib.Core.List.{List, map}
-use Prim.Native.Nat.{ℕ, _+_, _-_, _≤_, _<_}
+use mathlib.Core.List.{List, _++_, map}
+use Prim.Native.Nat.{ℕ, zero, suc, _+_, _-_, _≤_, _<_}
 use native.Mathlib.Omega.{arith}
 use lib.Dec.{leb}
 use lib.ListN.{length, getD, drop, replicate, length-append}
-use lib.Seq.{take-at, drop-set-lt}
+use lib.Seq.{take-at, drop-set-lt, drop-append-add}
 use borrow.Author.Tests.{not-true, not-false, leb-true, le-leb}
-use Rattle.theory.specs.Logic.{_and_}
+use Rattle.theory.specs.Logic.{_and_, _or_}
 use Rattle.theory.specs.Bytes.{bytesAt, same}
 use Rattle.theory.proofs.Tests.{both, and-i, and-assoc, and-false, false-and, same-true, eq-same}
 use Rattle.theory.proofs.Bytes.{bytesAt-bytesAt}
 use Rattle.theory.proofs.Ladder.{ladder}
-use Rattle.wire.specs.Le.{number}
-use Rattle.inventory.specs.Inventory.{valuesSize}
+use Rattle.wire.specs.Le.{le, number}
+use Rattle.inventory.specs.Inventory.{valuesSize, offsetOf, rows}
+use Rattle.inventory.specs.Queue.{powerBelow, ringSize, queueSize, queueAllowed, valueAllowed, queueValue, queuesAllowed}
+use Rattle.inventory.proofs.Queue.{all-allowed}
 use Rattle.parts.specs.List.{PartList}
 use Rattle.values.specs.Apply.{applied}
-use Rattle.values.proofs.Kept.{stored-length, stored-features, applied-length, applied-features}
+use Rattle.values.proofs.Kept.{stored-length, stored-features, stored-allowed, applied-length, applied-features}
 use Rattle.protocol.specs.declared.Mode.{Mode}
 use Rattle.objects.specs.declared.Slot.{Slot}
 use Rattle.objects.specs.declared.Slot.the-variants.{Free}
@@ -30,31 +32,49 @@ use Rattle.member.specs.Record.{modeAt, heldAt, valuesAt, memberSize, ho
 use Rattle.member.specs.Objects.{roomIn, withObject}
 use Rattle.member.specs.Member.{featuresSize, freshOf, featuresIn, withMode, withValues, withHeld, withPart}
 use Rattle.member.specs.Sound.{soundRecord}
-use Rattle.member.proofs.Record.{Shaped, mode-low, record-mode, record-held, record-objects, record-values, member-shaped, shaped-mode, shaped-values, shaped-held, shaped-object}
+use Rattle.member.proofs.Record.{Shaped, mode-low, record-mode, record-held, record-objects, record-values, values-last, member-shaped, shaped-mode, shaped-values, shaped-held, shaped-object}
 
-module _ (gets sets : ℕ) (features : List ℕ) where
+-- the queues of a fresh member are zeros
+module _ (features : List ℕ) (n : length features ≡ featuresSize) where
+  abbrev zeros : List ℕ
+  zeros = replicate (valuesSize - featuresSize) 0
+
+  behind : (at : ℕ) → queueAllowed (bytesAt at queueSize zeros) ≡ true → queueAllowed (bytesAt (featuresSize + at) queueSize (features ++ zeros)) ≡ true
+  behind at e = rw (← n, drop-append-add features zeros at) e
+
+  fresh-queue : (k : ℕ) → k < 4 → queueAllowed (queueValue k (features ++ zeros)) ≡ true
+  unfolding offsetOf rows queueAllowed ringSize powerBelow number le _and_ _or_
+  fresh-queue zero l = behind 29 refl
+  fresh-queue (suc zero) l = behind 61 refl
+  fresh-queue (suc (suc zero)) l = behind 93 refl
+  fresh-queue (suc (suc (suc zero))) l = behind 125 refl
+  fresh-queue (suc (suc (suc (suc k)))) l = absurd (omega arith)
+
+module _ (queues gets sets : ℕ) (features : List ℕ) where
   pub record SoundMember (m : Member) : Type 0 where
     pub shaped : Shaped m
     pub few : m .held ≤ 1 + holdingSize
     pub below : allUpTo 0 (drop (gets + sets) (map objectByte (m .objects))) ≡ true
     pub room : roomIn gets sets m ≡ true
     pub kept : featuresIn m ≡ features
+    pub allowed : queuesAllowed queues (m .values) ≡ true
 
   -- ---- the bytes of a sound member are sound, and back ----
 
-  pub sound-record : (m : Member) → SoundMember m → soundRecord gets sets features (memberBytes m) ≡ true
+  pub sound-record : (m : Member) → SoundMember m → soundRecord queues gets sets features (memberBytes m) ≡ true
   unfolding soundRecord
   sound-record m s =
       let h = s .shaped in
-      rw (record-mode m h, record-held m h, record-objects m h, record-values m h featuresSize)
-      (and-i _ _ (and-i _ _ (and-i _ _ (and-i _ _ (and-i _ _ (mode-low (m .mode)) (le-leb _ _ (s .few))) (objects-low (m .objects))) (s .below)) (s .room))
-      (eq-same _ _ (s .kept)))
+      rw (record-mode m h, record-held m h, record-objects m h, record-values m h featuresSize, values-last m h)
+      (and-i _ _ (and-i _ _ (and-i _ _ (and-i _ _ (and-i _ _ (and-i _ _ (mode-low (m .mode)) (le-leb _ _ (s .few))) (objects-low (m .objects))) (s .below)) (s .room))
+      (eq-same _ _ (s .kept))) (s .allowed))
 
   -- of bytes that are sound
-  pub sound-member : (r : List ℕ) → length r ≡ memberSize → soundRecord gets sets features r ≡ true → SoundMember (memberOf r)
+  pub sound-member : (r : List ℕ) → length r ≡ memberSize → soundRecord queues gets sets features r ≡ true → SoundMember (memberOf r)
   unfolding soundRecord memberOf
   sound-member r n e =
-      let p = both _ _ e in
+      let z = both _ _ e in
+      let p = both _ _ (z .0) in
       let q = both _ _ (p .0) in
       let w = both _ _ (q .0) in
       let v = both _ _ (w .0) in
@@ -66,6 +86,7 @@ module _ (gets sets : ℕ) (features : List ℕ) where
         below = rw os (w .1);
         room = rw os (q .1);
         kept = bytesAt-bytesAt 0 featuresSize valuesAt valuesSize r (omega arith) ∙ same-true _ _ (p .1);
+        allowed = z .1;
       }
 
   -- ---- what leaves a member sound ----
@@ -78,20 +99,23 @@ module _ (gets sets : ℕ) (features : List ℕ) where
     below = all-drop 0 (gets + sets) (replicate objectsSize 0) none-live;
     room = none-counted gets sets;
     kept = take-at features (replicate (valuesSize - featuresSize) 0) featuresSize n;
+    allowed = all-allowed queues _ λ k h l. fresh-queue features n k l;
   }
 
   module _ (m : Member) (s : SoundMember m) where
     pub sound-mode : (mode : Mode) → SoundMember (withMode m mode)
-    sound-mode mode = record { shaped = shaped-mode m (s .shaped) mode; few = s .few; below = s .below; room = s .room; kept = s .kept }
+    sound-mode mode = record { shaped = shaped-mode m (s .shaped) mode; few = s .few; below = s .below; room = s .room; kept = s .kept; allowed = s .allowed }
 
     -- other values, with the same device features
-    pub sound-values : (values : List ℕ) → length values ≡ valuesSize → bytesAt 0 featuresSize values ≡ featuresIn m → SoundMember (withValues m values)
-    sound-values values n e = record { shaped = shaped-values m (s .shaped) values n; few = s .few; below = s .below; room = s .room; kept = e ∙ s .kept }
+    sound-values : (values : List ℕ) → length values ≡ valuesSize → bytesAt 0 featuresSize values ≡ featuresIn m
+        → queuesAllowed queues values ≡ true → SoundMember (withValues m values)
+    sound-values values n e a =
+        record { shaped = shaped-values m (s .shaped) values n; few = s .few; below = s .below; room = s .room; kept = e ∙ s .kept; allowed = a }
 
     -- another number of bytes held
     pub sound-held : (held : ℕ) → held ≤ 1 + holdingSize → SoundMember (withHeld m held)
     sound-held held h =
-        record { shaped = shaped-held m (s .shaped) held (omega arith); few = h; below = s .below; room = s .room; kept = s .kept }
+        record { shaped = shaped-held m (s .shaped) held (omega arith); few = h; below = s .below; room = s .room; kept = s .kept; allowed = s .allowed }
 
     -- an object that the limits allow, at an id that is valid
     pub sound-object : (id : ℕ) (slot : Slot) → id < gets + sets → roomIn gets sets (withObject m id slot) ≡ true → SoundMember (withObject m id slot)
@@ -102,6 +126,7 @@ module _ (gets sets : ℕ) (features : List ℕ) where
       below = rw (map-set, drop-set-lt) (s .below);
       room = e;
       kept = s .kept;
+      allowed = s .allowed;
     }
 
     -- an object destroyed
@@ -114,36 +139,45 @@ module _ (gets sets : ℕ) (features : List ℕ) where
           below = rw map-set (all-drop-set (gets + sets) _ id (s .below));
           room = rw map-set (limits-set gets sets _ id (s .room));
           kept = s .kept;
+          allowed = s .allowed;
         }
 
-    -- one part stored, and the parts of a list: the device features are never set
-    pub sound-part : (queues t selector : ℕ) (value : List ℕ) → SoundMember (withPart queues m t selector value)
-    sound-part queues t selector value =
+    -- one part stored, and the parts of a list: the device features are never set, and what is set is allowed
+    pub sound-part : (t selector : ℕ) (value : List ℕ) → valueAllowed t value ≡ true → SoundMember (withPart queues m t selector value)
+    sound-part t selector value a =
         sound-values _ (stored-length queues t selector value (m .values) ∙ s .shaped .long) (stored-features queues t selector value (m .values))
+        (stored-allowed queues t selector value (m .values) (s .shaped .long) (s .allowed) (λ i p. a))
 
-    pub sound-applied : (queues : ℕ) (ps : PartList) → SoundMember (withValues m (applied queues ps (m .values)))
-    sound-applied queues ps = sound-values _ (applied-length queues ps (m .values) ∙ s .shaped .long) (applied-features queues ps (m .values))
+    pub sound-applied : (ps : PartList) → queuesAllowed queues (applied queues ps (m .values)) ≡ true
+        → SoundMember (withValues m (applied queues ps (m .values)))
+    sound-applied ps = sound-values _ (applied-length queues ps (m .values) ∙ s .shaped .long) (applied-features queues ps (m .values))
 
 -- ---- the test, one step after the other ----
 
-module _ (gets sets : ℕ) (features r : List ℕ) where
-  pub bad-mode : 1 < getD r modeAt 0 → false ≡ soundRecord gets sets features r
+module _ (queues gets sets : ℕ) (features r : List ℕ) where
+  pub bad-mode : 1 < getD r modeAt 0 → false ≡ soundRecord queues gets sets features r
   unfolding soundRecord
   bad-mode h = search ladder
 
   module _ (held : ℕ) (g : held ≡ number heldAt 2 r) where
-    pub bad-held : getD r modeAt 0 ≤ 1 → 1 + holdingSize < held → false ≡ soundRecord gets sets features r
+    pub bad-held : getD r modeAt 0 ≤ 1 → 1 + holdingSize < held → false ≡ soundRecord queues gets sets features r
     unfolding soundRecord
     bad-held l h = rw (← g) (search ladder)
 
     module _ (bs : List ℕ) (b : Bool) (p : bs ≡ objectBytes r) (q : b ≡ allUpTo 2 bs and allUpTo 0 (drop (gets + sets) bs) and withinLimits gets sets bs) where
-      steps : leb (getD r modeAt 0) 1 and (leb held (1 + holdingSize) and (b and same (bytesAt valuesAt featuresSize r) features)) ≡ soundRecord gets sets features r
+      steps : leb (getD r modeAt 0) 1
+          and (leb held (1 + holdingSize)
+          and (b and (same (bytesAt valuesAt featuresSize r) features and queuesAllowed queues (bytesAt valuesAt valuesSize r))))
+          ≡ soundRecord queues gets sets features r
       unfolding soundRecord
       steps = rw (q, p, g) (simp and-assoc)
 
-      pub bad-objects : not b ≡ true → false ≡ soundRecord gets sets features r
+      pub bad-objects : not b ≡ true → false ≡ soundRecord queues gets sets features r
       bad-objects h = rw (← steps, not-true b h) (simp (false-and, and-false))
 
-      pub sound-rest : getD r modeAt 0 ≤ 1 → held ≤ 1 + holdingSize → not b ≡ false → (x : Bool) → x ≡ same (bytesAt valuesAt featuresSize r) features
-          → x ≡ soundRecord gets sets features r
-      sound-rest l k h x e = rw (← steps, not-false b h) (search ladder)
+      module _ (l : getD r modeAt 0 ≤ 1) (k : held ≤ 1 + holdingSize) (h : not b ≡ false) (f : Bool) (ef : f ≡ same (bytesAt valuesAt featuresSize r) features) where
+        pub bad-features : not f ≡ true → false ≡ soundRecord queues gets sets features r
+        bad-features n = rw (← steps, not-false b h) (search ladder)
+
+        pub sound-rest : not f ≡ false → (x : Bool) → x ≡ queuesAllowed queues (bytesAt valuesAt valuesSize r) → x ≡ soundRecord queues gets sets features r
+        sound-rest n x e = rw (← steps, not-false b h) (search ladder)

@@ -7,17 +7,21 @@ use lib.ListN.{getD, drop}
 use Rattle.theory.specs.Logic.{_and_}
 use Rattle.theory.specs.Bytes.{bytesAt, same}
 use Rattle.wire.specs.Le.{number}
+use Rattle.inventory.specs.Inventory.{valuesSize}
+use Rattle.inventory.specs.Queue.{queuesAllowed}
 use Rattle.objects.specs.Objects.{allUpTo, withinLimits}
 use Rattle.member.specs.Record.{modeAt, objectBytes, heldAt, valuesAt, holdingSize}
 use Rattle.member.specs.Member.{featuresSize}
 
 -- its mode and its objects are bytes that have a meaning; its holding place holds at most 1,024 bytes; live ids are below
--- G + S; it has at most G get and S set objects, and the setup's device features
-unfoldable pub soundRecord : ℕ → ℕ → List ℕ → List ℕ → Bool
-soundRecord gets sets features r =
+-- G + S; it has at most G get and S set objects, and the setup's device features; none of its Q queues has a size that no
+-- ring has: SPEC 13.5
+unfoldable pub soundRecord : ℕ → ℕ → ℕ → List ℕ → List ℕ → Bool
+soundRecord queues gets sets features r =
     leb (getD r modeAt 0) 1
     and leb (number heldAt 2 r) (1 + holdingSize)
     and allUpTo 2 (objectBytes r)
     and allUpTo 0 (drop (gets + sets) (objectBytes r))
     and withinLimits gets sets (objectBytes r)
     and same (bytesAt valuesAt featuresSize r) features
+    and queuesAllowed queues (bytesAt valuesAt valuesSize r)

@@ -198,9 +198,9 @@ pub fn values_of(bytes: &[u8]) -> &[u8]
     &bytes[VALUES_AT..MEMBER_SIZE]
 }
 
-pub fn is_sound_record(bytes: &[u8], gets: u8, sets: u8, features: &[u8]) -> bool
+pub fn is_sound_record(bytes: &[u8], queues: u8, gets: u8, sets: u8, features: &[u8]) -> bool
     requires { ⌜ length (now bytes) ≡ memberSize ⌝ }
-    ensures { λ r. ⌜ r ≡ soundRecord gets sets (now (features .entry)) (now (bytes .entry)) ⌝ }
+    ensures { λ r. ⌜ r ≡ soundRecord queues gets sets (now (features .entry)) (now (bytes .entry)) ⌝ }
 {
     if 1 < bytes[MODE_AT] {
         return false;
@@ -211,7 +211,10 @@ pub fn is_sound_record(bytes: &[u8], gets: u8, sets: u8, features: &[u8]) -> boo
     if !objects::are_objects_sound(&bytes[OBJECTS_AT..HELD_AT], gets, sets) {
         return false;
     }
-    wire::equal(&bytes[VALUES_AT..FEATURES_END], features)
+    if !wire::equal(&bytes[VALUES_AT..FEATURES_END], features) {
+        return false;
+    }
+    inventory::are_queues_allowed(queues, &bytes[VALUES_AT..MEMBER_SIZE])
 }
 
 // ---- from a member's bytes to the member ----
