@@ -229,7 +229,7 @@ no-bytes-long = length-replicate {A = ℕ} holdingSize 0
 -- f is the device features
 module _ (f : List ℕ) (e : length f ≡ featuresSize) where
   pub fresh-shaped : Shaped (freshOf f)
-  fresh-shaped = sound-fresh 0 0 f e .shaped
+  fresh-shaped = sound-fresh 0 0 0 f e .shaped
 
   pub fresh-record-long : length (freshRecord f) ≡ recordSize
   unfolding freshRecord

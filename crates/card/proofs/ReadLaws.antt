@@ -73,8 +73,8 @@ module _ (c : List ℕ) (at : ℕ) where
   place-long h = rw add-sub-cancel-left (length-bytesAt at memberSize c h)
 
   pub place-tested : (t : Bool) → cardHeaderSize ≤ length c
-      → t ≡ soundRecord (getD c 2 0) (getD c 3 0) (bytesAt featuresAt featuresSize c) (bytesAt at (at + memberSize - at) c) → t ≡ soundFor (setupOf c) (bytesAt at memberSize c)
-  place-tested t h q = q ∙ rw (add-sub-cancel-left at memberSize, gets-read c, sets-read c, features-read c (omega arith))
+      → t ≡ soundRecord (getD c 1 0) (getD c 2 0) (getD c 3 0) (bytesAt featuresAt featuresSize c) (bytesAt at (at + memberSize - at) c) → t ≡ soundFor (setupOf c) (bytesAt at memberSize c)
+  place-tested t h q = q ∙ rw (add-sub-cancel-left at memberSize, queues-read c, gets-read c, sets-read c, features-read c (omega arith))
 
 -- ---- the pass over the members ----
 

@@ -87,7 +87,7 @@ is-sound c s =
 
 -- member x is sound in card c
 abbrev pub SoundIn : List ℕ → Member → Type 0
-SoundIn c x = SoundMember (setupOf c .gets) (setupOf c .sets) (setupOf c .features) x
+SoundIn c x = SoundMember (setupOf c .queues) (setupOf c .gets) (setupOf c .sets) (setupOf c .features) x
 
 module _ (c : List ℕ) (s : Sound c) where
   pub sound-long : cardHeaderSize ≤ length c
@@ -101,7 +101,7 @@ module _ (c : List ℕ) (s : Sound c) where
 
   pub sound-member-in : (m : ℕ) → isMember c m ≡ true → SoundIn c (memberIn c m)
   unfolding memberIn
-  sound-member-in m e = sound-member _ _ _ (memberBytesIn c m) (bytes-long c m memberBytesAt memberSize (sound-has m e) (omega arith)) (sound-at m e)
+  sound-member-in m e = sound-member _ _ _ _ (memberBytesIn c m) (bytes-long c m memberBytesAt memberSize (sound-has m e) (omega arith)) (sound-at m e)
 
 -- ---- what keeps a card sound ----
 
@@ -122,7 +122,7 @@ with-bytes c m at n x s low i g =
 pub sound-with-member : (c : List ℕ) (m : ℕ) (x : Member) → Sound c → 1 ≤ m → SoundIn c x → Sound (withMember c m x)
 unfolding withMember
 sound-with-member c m x s low y = with-bytes c m memberBytesAt memberSize (memberBytes x) s low (omega arith) λ h.
-    rw (bytes-same c m memberBytesAt memberSize (memberBytes x) h (omega arith) (length-member x (y .shaped))) (sound-record _ _ _ x y)
+    rw (bytes-same c m memberBytesAt memberSize (memberBytes x) h (omega arith) (length-member x (y .shaped))) (sound-record _ _ _ _ x y)
 
 -- a fresh member
 pub sound-with-fresh : (c : List ℕ) (m : ℕ) → Sound c → 1 ≤ m → Sound (withFresh c m (setupOf c .features))
@@ -130,7 +130,7 @@ sound-with-fresh c m s low =
     let f = setupOf c .features in
     let e = features-long c (omega (arith, sound-long c s)) in
     rw (fresh-bytes c m f) (with-bytes c m 0 recordSize (freshRecord f) s low (omega arith) λ h.
-    rw (← fresh-bytes c m f, member-bytes-with-fresh c m f e h) (sound-record _ _ _ _ (sound-fresh _ _ f e)))
+    rw (← fresh-bytes c m f, member-bytes-with-fresh c m f e h) (sound-record _ _ _ _ _ (sound-fresh _ _ _ f e)))
 
 -- the bytes of a holding place, whatever they are
 pub sound-with-holding : (c : List ℕ) (m : ℕ) (x : List ℕ) → Sound c → 1 ≤ m → Sound (withHolding c m x)
@@ -148,7 +148,7 @@ sound-with-use c mask s u =
 pub sound-fresh-card : (s : Setup) → soundSetup s ≡ true → length (s .features) ≡ featuresSize → Sound (freshCard s)
 sound-fresh-card s e n =
     let f = setup-fresh s n in
-    let g = sound-record (s .gets) (s .sets) (s .features) _ (sound-fresh (s .gets) (s .sets) (s .features) n) in
+    let g = sound-record (s .queues) (s .gets) (s .sets) (s .features) _ (sound-fresh (s .queues) (s .gets) (s .sets) (s .features) n) in
     record {
       long = rw f (length-fresh s n);
       numbers = rw f (numbers-of s e);

@@ -19,7 +19,7 @@ soundSetup s = inNumbers (s .members) (s .queues) (s .gets) (s .sets)
 
 -- a member's record is sound in a card with this setup
 abbrev pub soundFor : Setup → List ℕ → Bool
-soundFor s r = soundRecord (s .gets) (s .sets) (s .features) r
+soundFor s r = soundRecord (s .queues) (s .gets) (s .sets) (s .features) r
 
 -- members 1 to k
 unfoldable pub soundUpTo : Setup → List ℕ → ℕ → Bool

@@ -222,6 +222,7 @@ fn is_sound_at(card: &[u8], at: usize) -> bool
 {
     member::is_sound_record(
         &card[at..at + MEMBER_SIZE],
+        card[QUEUES_AT],
         card[GETS_AT],
         card[SETS_AT],
         &card[FEATURES_AT..IN_USE_AT],

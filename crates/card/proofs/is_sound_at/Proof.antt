@@ -7,5 +7,5 @@ use Rattle.card.proofs.is_sound_at.Tie as tie
 pub is-sound-at-spec : {M : Type 1} → statement M
 is-sound-at-spec =
     tie.close
-    (tie.spec (λ c. search needs) (λ c. search needs) (λ c. search needs) (λ c. search needs) (λ c. search needs) (λ c. search needs)
+    (tie.spec (λ c. search needs) (λ c. search needs) (λ c. search needs) (λ c. search needs) (λ c. search needs) (λ c. search needs) (λ c. search needs)
     (λ c. search needs) (λ c. search needs) (λ c. search needs) (λ c κs. search (needs, place-long)) (λ c. search (needs, place-tested)))
