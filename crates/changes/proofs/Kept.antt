@@ -12,7 +12,9 @@ use Rattle.protocol.specs.declared.ChangeOp.{ChangeOp}
 use Rattle.protocol.specs.declared.ChangeOp.the-variants.{Create, Modify, Destroy, SetParts, SetMode}
 use Rattle.protocol.specs.Answers.{isDone}
 use Rattle.protocol.proofs.Operations.{IdBelow}
-use Rattle.parts.specs.List.{PartList}
+use Rattle.parts.specs.declared.ListForm.the-variants.{Parts}
+use Rattle.parts.specs.List.{partsOf}
+use Rattle.rules.specs.Rules.{causeOf, isAccepted}
 use Rattle.values.specs.Apply.{applied}
 use Rattle.objects.specs.declared.Slot.{Slot}
 use Rattle.objects.specs.declared.Slot.the-variants.{Free}
@@ -21,9 +23,10 @@ use Rattle.objects.specs.declared.Found.the-variants.{Live, Nothing}
 use Rattle.objects.specs.Objects.{slotFor, onFound}
 use Rattle.member.specs.declared.Member.{Member}
 use Rattle.member.specs.Objects.{lookupOf, withObject, roomIn}
-use Rattle.member.specs.Member.{withMode, withValues}
+use Rattle.member.specs.Member.{featuresIn, withMode, withValues}
 use Rattle.member.proofs.Sound.{SoundMember, sound-mode, sound-object, sound-free, sound-applied}
 use Rattle.changes.specs.declared.Changed.{Changed}
+use Rattle.changes.proofs.Allowed.{accepted-allowed}
 use Rattle.changes.specs.Changes.{refuse, done, limited, createOf, modifyOf, destroyOf, setPartsOf, changeOf}
 
 -- the commands that put an object, and its id
@@ -49,7 +52,7 @@ module _ (queues gets sets : ℕ) (m : Member) (P : Changed → Type 0) (refused
       → ((id : ℕ) (slot : Slot) → Puts op id → roomIn gets sets (withObject m id slot) ≡ true → P (done (withObject m id slot)))
       → ((id : ℕ) → P (done (withObject m id Free)))
       → ((mode : Mode) → P (done (withMode m mode)))
-      → ((ps : PartList) → P (done (withValues m (applied queues ps (m .values)))))
+      → (isAccepted (causeOf queues (featuresIn m) list) ≡ true → P (done (withValues m (applied queues (partsOf Parts list) (m .values)))))
       → P (changeOf queues gets sets list op m)
   unfolding createOf modifyOf destroyOf setPartsOf
   change-cases list (Create id kind) put free mode set =
@@ -62,7 +65,7 @@ module _ (queues gets sets : ℕ) (m : Member) (P : Changed → Type 0) (refused
       (λ k.
       unless-cases P _ _ _ (λ t. refused _ refl) (λ t.
       unless-cases P _ _ _ (λ t. refused _ refl) (λ t.
-      unless-cases P _ _ _ (λ t. refused _ refl) (λ t. set _))))
+      unless-cases P _ _ _ (λ t. refused _ refl) set)))
       (refused _ refl)
   change-cases list (SetMode x) put free mode set = mode x
 
@@ -71,11 +74,12 @@ module _ (queues gets sets : ℕ) (list : List ℕ) (op : ChangeOp) (m : Member)
   pub change-refused : isDone (changeOf queues gets sets list op m .answer) ≡ false → changeOf queues gets sets list op m .member ≡ m
   change-refused =
       change-cases queues gets sets m (λ x. isDone (x .answer) ≡ false → x .member ≡ m) (λ a e f. refl) list op
-      (λ id slot p e f. cc) (λ id f. cc) (λ mode f. cc) (λ ps f. cc)
+      (λ id slot p e f. cc) (λ id f. cc) (λ mode f. cc) (λ e f. cc)
 
-  pub change-sound : (features : List ℕ) → IdBelow (gets + sets) op → SoundMember gets sets features m
-      → SoundMember gets sets features (changeOf queues gets sets list op m .member)
+  pub change-sound : (features : List ℕ) → IdBelow (gets + sets) op → SoundMember queues gets sets features m
+      → SoundMember queues gets sets features (changeOf queues gets sets list op m .member)
   change-sound f h s =
-      change-cases queues gets sets m (λ x. SoundMember gets sets f (x .member)) (λ a e. s) list op
-      (λ id slot p e. sound-object gets sets f m s id slot (put-below (gets + sets) h p) e) (λ id. sound-free gets sets f m s id)
-      (λ mode. sound-mode gets sets f m s mode) (λ ps. sound-applied gets sets f m s queues ps)
+      change-cases queues gets sets m (λ x. SoundMember queues gets sets f (x .member)) (λ a e. s) list op
+      (λ id slot p e. sound-object queues gets sets f m s id slot (put-below (gets + sets) h p) e) (λ id. sound-free queues gets sets f m s id)
+      (λ mode. sound-mode queues gets sets f m s mode)
+      (λ e. sound-applied queues gets sets f m s (partsOf Parts list) (accepted-allowed queues (featuresIn m) _ (m .values) e (s .shaped .long) (s .allowed)))

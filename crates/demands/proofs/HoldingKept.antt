@@ -13,6 +13,7 @@ use Rattle.protocol.specs.declared.EventAnswer.{EventAnswer}
 use Rattle.member.specs.declared.Member.{Member}
 use Rattle.member.specs.Record.{memberSize, holdingSize, memberOf, memberBytes}
 use Rattle.member.specs.Objects.{withObject}
+use Rattle.values.proofs.Kept.{done-allowed}
 use Rattle.member.proofs.Sound.{sound-part}
 use Rattle.changes.specs.Changes.{changeOf}
 use Rattle.changes.proofs.Kept.{change-cases, change-sound}
@@ -35,7 +36,7 @@ change-held : (queues gets sets : ℕ) (list : List ℕ) (op : ChangeOp) (m : Me
 unfolding withObject
 change-held queues gets sets list op m =
     change-cases queues gets sets m (λ x. x .member .held ≡ m .held) (λ a e. refl) list op
-    (λ id slot p e. refl) (λ id. refl) (λ mode. refl) (λ ps. refl)
+    (λ id slot p e. refl) (λ id. refl) (λ mode. refl) (λ e. refl)
 
 -- m is any member of the card
 module _ (c : List ℕ) (m : ℕ) (h : isMember c m ≡ true) where
@@ -88,7 +89,7 @@ module _ (c : List ℕ) (m : ℕ) (h : isMember c m ≡ true) where
   unfolding storeIn
   store-kept s k t n value i =
       if-done-cases (λ (y : EventAnswer × List ℕ). SameHolding c (y .1) m) _ _ c (λ d. kept)
-      (member-kept s k i _ (sound-part _ _ _ _ (sound-member-in c s k i) (setupOf c .queues) t n value) refl)
+      (λ d. member-kept s k i _ (sound-part _ _ _ _ _ (sound-member-in c s k i) t n value (done-allowed _ t n value d)) refl)
 
 pub holding-kept : HoldingKept
 unfolding step store

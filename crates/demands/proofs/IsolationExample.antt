@@ -27,7 +27,7 @@ card₂ = step (step card₁ (create 0 0) .0) (setMode 1 1) .0
 
 -- a queue address of member 1 is stored; member 2 is stopped in both; then member 1 is reset and asked again
 calls₁ : List Call
-calls₁ = cardStore 1 0x104 0 (replicate 32 0xaa) ∷ setMode 2 1 ∷ []
+calls₁ = cardStore 1 0x104 0 (0 ∷ 1 ∷ replicate 30 0xaa) ∷ setMode 2 1 ∷ []
 
 calls₂ : List Call
 calls₂ = setMode 2 1 ∷ create 1 1 ∷ send (getAll 1 0) ∷ []

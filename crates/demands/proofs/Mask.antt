@@ -152,6 +152,6 @@ pub store-answers : (m : ℕ) (low : 1 ≤ m) (c : List ℕ) (long : inUseAt ≤
 unfolding storeIn ifDone unless_answer_then_
 store-answers m low c long k t s value l n =
     rw (setup-with-fresh, fresh-other c m (setupOf c .features) k low l n)
-    (by-cases (isEventDone (storable (setupOf c .queues) t s (length value)))
+    (by-cases (isEventDone (storable (setupOf c .queues) t s value))
     (λ d. rw d (refl, mask-member m low c long k _ l n))
     (λ d. rw d (refl, mask-mask m c long)))

@@ -7,8 +7,9 @@ use Rattle.wire.specs.Le.{le, bytes, number}
 use Rattle.protocol.specs.Opcodes.{opcodeRows, opcodeRow, supported, fixedSize, namesMember, bit, supportedOnly}
 use Rattle.inventory.specs.Inventory.{rows as inventoryRows, rowAt, present, offsetOf, selectorOf, isRow, seek, placeOf}
 use Rattle.inventory.specs.Header.{headerOf}
+use Rattle.inventory.specs.Queue.{powerBelow, ringSize, queueAllowed, valueAllowed, queuesAllowed}
 use Rattle.parts.specs.List.{headerAt, stepAt, atMost, partsFrom, whole, among}
-use Rattle.rules.specs.Rules.{known, knownOrSkipped, lengthRight, featuresSame, asksKnown, every, repeated, causeIn, askedIn}
+use Rattle.rules.specs.Rules.{known, knownOrSkipped, lengthRight, sizeRight, featuresSame, asksKnown, every, repeated, causeIn, askedIn}
 use Rattle.values.specs.Apply.{storable, stored, applied}
 use Rattle.capture.specs.Capture.{headerItem, headersOf, partAt, asks, partItem, partsWritten}
 use Rattle.objects.specs.Objects.{count, allUpTo, withinLimits}
@@ -36,8 +37,8 @@ use Rattle.demands.specs.Examples.{exampleCard, headersListed, joined, n
 unfoldable pub model : Unit {0}
 unfolding if_then_else_ unless_answer_then_ _and_ _or_ within indicator put repeat same itemsFrom trace replies run seen visible le bytes number
     opcodeRows opcodeRow supported fixedSize namesMember bit supportedOnly
-    inventoryRows rowAt present offsetOf selectorOf isRow seek placeOf headerOf headerAt stepAt atMost partsFrom
-    known knownOrSkipped lengthRight featuresSame asksKnown whole every among repeated causeIn askedIn storable stored applied
+    inventoryRows rowAt present offsetOf selectorOf isRow seek placeOf powerBelow ringSize queueAllowed valueAllowed queuesAllowed headerOf headerAt stepAt atMost partsFrom
+    known knownOrSkipped lengthRight sizeRight featuresSame asksKnown whole every among repeated causeIn askedIn storable stored applied
     headerItem headersOf partAt asks partItem partsWritten memberOf memberBytes lookupOf withObject count allUpTo withinLimits
     freshOf soundRecord limited createOf modifyOf destroyOf setPartsOf queryOf throughGet selectedOf
     setupIn setupOf inUseOf withInUse recordBytes withRecordBytes memberIn withMember holdingIn withHolding noBytes freshRecord withFresh freshHeader freshCard inNumbers soundSetup soundUpTo isSound

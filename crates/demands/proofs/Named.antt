@@ -158,7 +158,7 @@ named-leaves m c cardReset e = never e
 named-leaves m c (cardStore k t s value) e =
     rw (eqb-true k m e)
     (on-member-cases c m _ (EventLeaves m c) (λ a d. unchanged) λ i h.
-    if-done-cases (EventLeaves m c) _ _ c (λ d. unchanged) (leaves-member m c c unchanged h _))
+    if-done-cases (EventLeaves m c) _ _ c (λ d. unchanged) (λ d. leaves-member m c c unchanged h _))
 named-leaves m c (restoreBegin k) e =
     rw (eqb-true k m e)
     (restore-cases c m _ (RestoreLeaves m c) (λ a. unchanged) λ s h.

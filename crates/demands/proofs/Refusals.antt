@@ -122,7 +122,7 @@ refusals-change-nothing c cardReset =
     unless-cases (KeepsEvent c) _ _ _ (λ t e. refl) (λ t e. cc)
 refusals-change-nothing c (cardStore m t s value) =
     on-member-cases c m _ (KeepsEvent c) (λ a d e. refl) λ u h.
-    if-done-cases (KeepsEvent c) _ _ c (λ d e. refl) (λ e. cc)
+    if-done-cases (KeepsEvent c) _ _ c (λ d e. refl) (λ d e. cc)
 refusals-change-nothing c (restoreBegin m) = begin-keeps c m
 refusals-change-nothing c (restoreFeed m x) = feed-drops c m x
 refusals-change-nothing c (restoreFinish m id) = finish-drops c m id

@@ -18,10 +18,11 @@ use Rattle.protocol.specs.declared.ObjectKind.the-variants.{Get, Set}
 use Rattle.protocol.specs.declared.ReadOp.the-variants.{GetAll}
 use Rattle.protocol.specs.Opcodes.{bit}
 use Rattle.inventory.specs.Inventory.{valuesSize, partsSize}
+use Rattle.inventory.specs.Queue.{queuesAllowed}
 use Rattle.parts.specs.declared.ListForm.the-variants.{Parts}
 use Rattle.parts.specs.List.{partsOf}
 use Rattle.rules.specs.declared.Cause.the-variants.{Accepted}
-use Rattle.rules.specs.Rules.{causeOf}
+use Rattle.rules.specs.Rules.{causeOf, isAccepted}
 use Rattle.values.specs.Apply.{applied}
 use Rattle.capture.specs.Capture.{captureOf}
 use Rattle.capture.proofs.Sizes.{capture-length}
@@ -33,6 +34,7 @@ use Rattle.member.specs.Member.{featuresIn, withValues}
 use Rattle.member.proofs.Sound.{sound-applied}
 use Rattle.member.proofs.Live.{live-below}
 use Rattle.changes.specs.Changes.{setPartsOf}
+use Rattle.changes.proofs.Allowed.{accepted-allowed}
 use Rattle.reads.specs.Reads.{throughGet}
 use Rattle.card.specs.declared.Setup.{Setup}
 use Rattle.card.specs.Layout.{setupOf, inUseOf, isMember, memberIn, withMember}
@@ -78,7 +80,7 @@ module _ (c : List ℕ) (m : ℕ) (x : Reached c m) where
 
   -- an id of a live object is valid
   valid : (i : ℕ) (k : ObjectKind) → lookupOf (memberIn c m) i ≡ Live k → i < setupOf c .gets + setupOf c .sets
-  valid i k e = live-below _ _ _ (memberIn c m) i k member e
+  valid i k e = live-below _ _ _ _ (memberIn c m) i k member e
 
   small : (i : ℕ) → i < setupOf c .gets + setupOf c .sets → i < 256 ^ 4
   small i h = omega (arith, ids)
@@ -155,6 +157,9 @@ module _ (c : List ℕ) (m i : ℕ) (d : List ℕ) (k j l : ℕ) (x : Restorable
   long-target : length w ≡ valuesSize
   long-target = member d k target .shaped .long
 
+  allowed-source : queuesAllowed q v ≡ true
+  allowed-source = rw (x .sameSetup) at (member c m source .allowed)
+
   -- both have the setup's device features
   features-same : bytesAt 0 16 v ≡ bytesAt 0 16 w
   features-same = member c m source .kept ∙ ap (λ (y : Setup). y .features) (x .sameSetup) ∙ sym (member d k target .kept)
@@ -169,7 +174,7 @@ module _ (c : List ℕ) (m i : ℕ) (d : List ℕ) (k j l : ℕ) (x : Restorable
 
   list-accepted : causeOf q (bytesAt 0 16 w) list ≡ Accepted
   unfolding list
-  list-accepted = capture-accepted q v few-queues long-source w features-same
+  list-accepted = capture-accepted q v few-queues long-source allowed-source w features-same
 
   captured-is : (r : ℕ) → 8 + partsSize q ≤ r → capture c m i r ≡ headOf Done ++ list
   unfolding list
@@ -194,7 +199,9 @@ module _ (c : List ℕ) (m i : ℕ) (d : List ℕ) (k j l : ℕ) (x : Restorable
   -- the target's card after it, and a capture there
   restored-in : SoundIn d restored
   unfolding restored
-  restored-in = sound-applied _ _ _ (memberIn d k) (member d k target) q (partsOf Parts list)
+  restored-in =
+      sound-applied _ _ _ _ (memberIn d k) (member d k target) (partsOf Parts list)
+      (accepted-allowed q (featuresIn (memberIn d k)) _ w (ap isAccepted list-accepted) long-target (member d k target .allowed))
 
   reached-after : Reached after k
   unfolding after

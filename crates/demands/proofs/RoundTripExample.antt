@@ -2,7 +2,7 @@
 use mathlib.Core.Path.{_≡_, refl, sym, _∙_}
 use mathlib.Core.Logic.{_≢_}
 use mathlib.Core.Bool.{true}
-use mathlib.Core.List.{List}
+use mathlib.Core.List.{List, _∷_}
 use Prim.Native.Nat.{ℕ}
 use native.Mathlib.Omega.{arith}
 use lib.ListN.{getD, replicate}
@@ -24,9 +24,9 @@ use Rattle.demands.proofs.RoundTrip.{round-trip}
 reading : List ℕ
 reading = step (step exampleCard (useList 0x3fc03) .0) (create 0 0) .0
 
--- the source has a queue address; the target has a set object too and is stopped
+-- the source has a queue of 256 with its addresses; the target has a set object too and is stopped
 source : List ℕ
-source = step reading (cardStore 1 0x104 0 (replicate 32 0xaa)) .0
+source = step reading (cardStore 1 0x104 0 (0 ∷ 1 ∷ replicate 30 0xaa)) .0
 
 target : List ℕ
 target = step (step reading (create 1 1) .0) (setMode 1 1) .0

@@ -6,6 +6,7 @@ use Prim.Native.Nat.{ℕ, _+_}
 use native.Mathlib.Omega.{arith}
 use Rattle.theory.proofs.Tests.{inside, within-low, unless-cases}
 use Rattle.protocol.specs.declared.EventAnswer.{EventAnswer}
+use Rattle.values.proofs.Kept.{done-allowed}
 use Rattle.member.proofs.Sound.{sound-part}
 use Rattle.changes.proofs.Kept.{change-sound}
 use Rattle.card.specs.Layout.{setupOf, isMember, memberIn}
@@ -41,7 +42,7 @@ module _ (c : List ℕ) (s : Sound c) where
   unfolding storeIn
   store-sound m t k value h =
       if-done-cases (λ (y : EventAnswer × List ℕ). Sound (y .1)) _ _ c (λ d. s)
-      (sound-with-member c m _ s (within-low _ _ m h) (sound-part _ _ _ _ (sound-member-in c s m h) (setupOf c .queues) _ k value))
+      (λ d. sound-with-member c m _ s (within-low _ _ m h) (sound-part _ _ _ _ _ (sound-member-in c s m h) t k value (done-allowed _ t k value d)))
 
 -- the card after an event is sound
 abbrev Leaves : EventAnswer × List ℕ → Type 0

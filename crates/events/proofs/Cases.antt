@@ -14,9 +14,9 @@ use Rattle.events.specs.Events.{memberAnswer, ifDone, onMember}
 
 -- what holds of a refusal, which leaves the card, and of what is done holds of both
 pub if-done-cases : (P : EventAnswer × List ℕ → Type 0) (a : EventAnswer) (next : EventAnswer × List ℕ) (c : List ℕ)
-    → (isEventDone a ≡ false → P (a, c)) → P next → P (ifDone a next c)
+    → (isEventDone a ≡ false → P (a, c)) → (isEventDone a ≡ true → P next) → P (ifDone a next c)
 unfolding ifDone
-if-done-cases P a next c f g = unless-cases P (isEventDone a) (a, c) next f (λ t. g)
+if-done-cases P a next c f g = unless-cases P (isEventDone a) (a, c) next f g
 
 module _ (c : List ℕ) (m : ℕ) (next : EventAnswer × List ℕ) where
   pub on-unsound : isSound c ≡ false → onMember c m next ≡ (NotSound, c)

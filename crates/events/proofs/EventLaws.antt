@@ -122,7 +122,7 @@ card-reset c d s e f = rw (f, e)
 
 -- a card store: a is its answer, u whether it is done
 module _ (c : List ℕ) (m t s : ℕ) (value : List ℕ) (w : Setup) (a : EventAnswer) (u : Bool)
-    (g : w ≡ setupOf c) (e : a ≡ storable (w .queues) t s (length value)) (f : u ≡ isEventDone a) where
+    (g : w ≡ setupOf c) (e : a ≡ storable (w .queues) t s value) (f : u ≡ isEventDone a) where
   pub store-refused : not u ≡ true → (a, c) ≡ storeIn c m t s value
   unfolding storeIn ifDone
   store-refused n = rw (← g, ← e) (stop _ _ _ _ (sym f ∙ not-true u n) refl)

@@ -61,7 +61,7 @@ resetCard c =
 -- `store` the 8 selector bytes as a number
 unfoldable pub storeIn : List ℕ → ℕ → ℕ → ℕ → List ℕ → EventAnswer × List ℕ
 storeIn c m t s value =
-    ifDone (storable (setupOf c .queues) t s (length value))
+    ifDone (storable (setupOf c .queues) t s value)
     (Done, withMember c m (withPart (setupOf c .queues) (memberIn c m) t s value)) c
 
 unfoldable pub store : List ℕ → ℕ → ℕ → ℕ → List ℕ → EventAnswer × List ℕ

@@ -149,7 +149,7 @@ fn store_in(card: &mut [u8], m: u64, t: u16, selector: u64, value: &[u8]) -> Eve
 {
     let s = card::setup_of(card);
     let queues = s.queues;
-    let a = values::store_answer(queues, t, selector, value.len());
+    let a = values::store_answer(queues, t, selector, value);
     if !protocol::is_event_done(a) {
         return a;
     }

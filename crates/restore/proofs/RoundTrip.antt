@@ -1,4 +1,4 @@
--- A full capture is accepted by a member with as many queues and the same device features; once it is set there, a capture
+-- A full capture of queues with allowed values is accepted by a member with as many and the same device features; once it is set there, a capture
 -- there gives the same bytes: demand 2, on the values. Assumes nothing.
 use mathlib.Core.Path.{_≡_, refl, ap, sym, _∙_}
 use mathlib.Core.Bool.{Bool, true, false}
@@ -13,13 +13,15 @@ use Rattle.theory.specs.Bytes.{bytesAt, put}
 use Rattle.theory.proofs.Tests.{by-cases, both, and-false, and-i, true-or, or-true, or-i, eq-same}
 use Rattle.theory.proofs.Bytes.{bytesAt-before, bytesAt-put-as, length-bytesAt}
 use Rattle.inventory.specs.Inventory.{rowAt, rowCount, deviceFeatures, featuresSize, present, offsetOf, valuesSize, placeOf}
+use Rattle.inventory.specs.Queue.{queuesAllowed}
+use Rattle.inventory.proofs.Queue.{row-allowed}
 use Rattle.inventory.proofs.Rules.{row-within, rows-apart, features-row, row-zero, offset-zero}
 use Rattle.inventory.proofs.Find.{own-place, rows-distinct}
 use Rattle.inventory.specs.declared.Place.the-variants.{At}
 use Rattle.parts.specs.declared.ListForm.the-variants.{Parts}
 use Rattle.parts.specs.List.{Part, PartList, partsOf, whole, among}
 use Rattle.rules.specs.declared.Cause.the-variants.{Accepted}
-use Rattle.rules.specs.Rules.{known, knownOrSkipped, lengthRight, featuresSame, every, repeated, causeIn, causeOf}
+use Rattle.rules.specs.Rules.{known, knownOrSkipped, lengthRight, sizeRight, featuresSame, every, repeated, causeIn, causeOf}
 use Rattle.values.specs.Apply.{stored, applied}
 use Rattle.values.proofs.Kept.{stored-at, stored-length, applied-features}
 use Rattle.capture.specs.Capture.{All, partItem, partsWritten, captureOf}
@@ -53,6 +55,10 @@ module _ (q : ℕ) (v : List ℕ) (few : q < 5) (long : length v ≡ valuesSize)
     row-long : lengthRight q (rowPart v i) ≡ true
     unfolding lengthRight
     row-long = rw place (eq-eqb _ _ (value-long i h))
+
+    row-size : queuesAllowed q v ≡ true → sizeRight q (rowPart v i) ≡ true
+    unfolding sizeRight
+    row-size a = rw (row-allowed q v a i h y) (or-true _)
 
     row-features : (features : List ℕ) → featuresOf v ≡ features → featuresSame features (rowPart v i) ≡ true
     unfolding featuresSame
@@ -104,14 +110,15 @@ module _ (q : ℕ) (v : List ℕ) (few : q < 5) (long : length v ≡ valuesSize)
 
   -- ---- the capture is accepted ----
 
-  pub accepted : (w : List ℕ) → bytesAt 0 featuresSize v ≡ bytesAt 0 featuresSize w → causeOf q (bytesAt 0 featuresSize w) (captureOf q v) ≡ Accepted
+  pub accepted : queuesAllowed q v ≡ true → (w : List ℕ) → bytesAt 0 featuresSize v ≡ bytesAt 0 featuresSize w → causeOf q (bytesAt 0 featuresSize w) (captureOf q v) ≡ Accepted
   unfolding causeIn unless_answer_then_
-  accepted w f =
+  accepted a w f =
       rw (
         capture-parts q v long,
         whole-rows,
         every-rows (knownOrSkipped q) row-known,
         every-rows (lengthRight q) row-long,
+        every-rows (sizeRight q) (λ i h y. row-size i h y a),
         every-rows (featuresSame (featuresOf w)) (λ i h y. row-features i h y (featuresOf w) f),
         once-rows .once,
       )

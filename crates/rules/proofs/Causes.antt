@@ -1,12 +1,14 @@
--- Why a list is refused, return by return of check_list. Assumes nothing.
+-- Why a list is refused, return by return of check_list, and what holds of one that is not. Assumes nothing.
 use mathlib.Core.Path.{_≡_, sym, _∙_}
 use mathlib.Core.Bool.{Bool, true, false, not}
 use mathlib.Core.List.{List}
 use Prim.Native.Nat.{ℕ}
+use Rattle.theory.proofs.Tests.{unless-cases}
 use Rattle.theory.proofs.Ladder.{pass, stop, said-true, said-false, yes-not, no-not}
+use Rattle.rules.specs.declared.Cause.{Cause}
 use Rattle.rules.specs.declared.Cause.the-variants.{Accepted, Cut, Unknown, Length, Size, Features, Twice}
 use Rattle.parts.specs.List.{PartList, whole}
-use Rattle.rules.specs.Rules.{knownOrSkipped, lengthRight, sizeRight, featuresSame, every, repeated, causeIn}
+use Rattle.rules.specs.Rules.{knownOrSkipped, lengthRight, sizeRight, featuresSame, every, repeated, causeIn, isAccepted}
 
 ruleset steps = (pass, stop, said-true, said-false)
 
@@ -43,3 +45,15 @@ module _ (q : ℕ) (features : List ℕ) (ps : PartList) (w : Bool) (ew : w ≡ 
             pub accepted : d ≡ false → Accepted ≡ causeIn q features ps
             unfolding causeIn
             accepted h = search (steps, no-not (repeated q ps) (sym ed ∙ h)) depth 11
+
+-- an accepted list has no queue size that no ring has
+pub accepted-sizes : (q : ℕ) (features : List ℕ) (ps : PartList) → isAccepted (causeIn q features ps) ≡ true → every (sizeRight q) ps ≡ true
+unfolding causeIn
+accepted-sizes q features ps =
+    unless-cases Says _ _ _ (λ t e. cc) λ t.
+    unless-cases Says _ _ _ (λ t e. cc) λ t.
+    unless-cases Says _ _ _ (λ t e. cc) λ t.
+    unless-cases Says _ _ _ (λ t e. cc) (λ t e. t)
+  where
+    Says : Cause → Type 0
+    Says c = isAccepted c ≡ true → every (sizeRight q) ps ≡ true

@@ -66,7 +66,7 @@ module _ (c : List ℕ) (m : ℕ) (e : isSound c ≡ true) (h : isMember c m ≡
   gone-with : (y : Member) → SoundIn c y → withoutHeld (withMember c m y) m ≡ withHolding (withMember c m (withHeld y 0)) m noBytes
   unfolding withoutHeld withHeldBytes
   gone-with y f =
-      let g = sound-held _ _ _ y f 0 (omega arith) in
+      let g = sound-held _ _ _ _ y f 0 (omega arith) in
       rw (member-same c m y (sound-has c s m h) (f .shaped))
       (ap (λ d. withHolding d m noBytes) (member-over c m y (withHeld y 0) (g .shaped)))
 
