@@ -1,33 +1,26 @@
--- A number has one bit set exactly where it is a power of two. Assumes nothing.
+-- A number is a power of two exactly where it has no bit in common with the one before it, and the code's test of a queue's
+-- size and enabled field in one number. Assumes nothing.
 use mathlib.Core.Path.{_≡_, refl, sym, _∙_, ap}
 use mathlib.Core.Bool.{true}
-use Prim.Native.Nat.{ℕ, zero, suc, _+_, _*_, _/_, _%_, _^_, _<_}
+use Prim.Native.Nat.{ℕ, zero, suc, _+_, _-_, _*_, _/_, _%_, _^_, _<_}
 use native.Mathlib.Nat.{pow-suc}
 use native.Mathlib.Omega.{arith}
-use lib.Pow.{pow-pos}
+use lib.Pow.{ones-lt}
+use lib.Bits.{bitAnd, and-step, and-self, and-shifted, and-mask, and-comm, and-block}
 use lib.Dec.{eqb}
-use lib.Count.{ones, ones-step, ones-cat, ones-le}
 use borrow.Author.Tests.{eqb-true, eqb-false, eq-eqb, ne-eqb}
-use Rattle.theory.proofs.Tests.{by-cases, either}
+use Rattle.theory.specs.Logic.{_and_, _or_}
+use Rattle.theory.proofs.Tests.{by-cases, either, or-false, false-and}
 use Rattle.theory.proofs.Ladder.{or-left, or-right}
-use Rattle.inventory.specs.Queue.{powerBelow}
+use Rattle.inventory.specs.Queue.{powerBelow, ringSize}
 
-power-one : (k : ℕ) → ones (2 ^ k) ≡ 1
-unfolding ones
-power-one k = let e : 1 * 2 ^ k + 0 ≡ 2 ^ k = omega arith in ap ones (sym e) ∙ ones-cat k 1 0 (pow-pos k)
+power-alone : (k : ℕ) → bitAnd (2 ^ k) (2 ^ k - 1) ≡ 0
+power-alone k = let e : 1 * 2 ^ k ≡ 2 ^ k = omega arith in rw e at (and-shifted 1 k (2 ^ k - 1) (ones-lt k))
 
-no-bit : (k n : ℕ) → n < 2 ^ k → ones n ≡ 0 → n ≡ 0
-no-bit zero n h e = omega arith
-no-bit (suc k) n h e =
-    let s = ones-step n in
-    let p = pow-suc 2 k in
-    let z : n / 2 ≡ 0 = no-bit k (n / 2) (omega arith) (omega arith) in
-    omega arith
-
-power-has-one : (k n : ℕ) → powerBelow k n ≡ true → ones n ≡ 1
+power-shares-none : (k n : ℕ) → powerBelow k n ≡ true → bitAnd n (n - 1) ≡ 0
 unfolding powerBelow
-power-has-one zero n e = cc
-power-has-one (suc k) n e = either _ _ e (λ q. ap ones (eqb-true _ _ q) ∙ power-one k) (power-has-one k n)
+power-shares-none zero n e = cc
+power-shares-none (suc k) n e = either _ _ e (λ q. let d : n ≡ 2 ^ k = eqb-true _ _ q in rw d (power-alone k)) (power-shares-none k n)
 
 one-is-power : (k : ℕ) → powerBelow (suc k) 1 ≡ true
 unfolding powerBelow
@@ -43,23 +36,53 @@ doubled (suc k) n e =
     (λ q. let d : n ≡ 2 ^ k = eqb-true _ _ q in or-left _ _ (eq-eqb (2 * n) (2 ^ suc k) (omega arith)))
     (λ q. or-right _ _ (doubled k n q))
 
-one-bit : (k n : ℕ) → n < 2 ^ k → ones n ≡ 1 → powerBelow k n ≡ true
-one-bit zero n h e = let z = ones-le 0 n h in absurd (omega arith)
-one-bit (suc k) n h e =
-    let s = ones-step n in
+-- an even number and the one before it share what their halves do; an odd number shares its other bits
+shares-none : (k n : ℕ) → 0 < n → n < 2 ^ k → bitAnd n (n - 1) ≡ 0 → powerBelow k n ≡ true
+shares-none zero n z h e = absurd (omega arith)
+shares-none (suc k) n z h e =
+    let s : bitAnd n (n - 1) ≡ bitAnd (n / 2) ((n - 1) / 2) * 2 + _ = and-step n (n - 1) in
+    let halves : bitAnd (n / 2) ((n - 1) / 2) ≡ 0 = omega arith in
     let p = pow-suc 2 k in
     by-cases (eqb (n % 2) 0)
     (λ q.
-    let z : n % 2 ≡ 0 = eqb-true _ _ q in
+    let even : n % 2 ≡ 0 = eqb-true _ _ q in
     let d : 2 * (n / 2) ≡ n = omega arith in
-    rw d at (doubled k (n / 2) (one-bit k (n / 2) (omega arith) (omega arith))))
+    let before : (n - 1) / 2 ≡ n / 2 - 1 = omega arith in
+    rw d at (doubled k (n / 2) (shares-none k (n / 2) (omega arith) (omega arith) (rw before at halves))))
     (λ q.
-    let z : n % 2 ≡ 0 → ⊥ = eqb-false _ _ q in
-    let o = no-bit k (n / 2) (omega arith) (omega arith) in
+    let odd : n % 2 ≡ 0 → ⊥ = eqb-false _ _ q in
+    let before : (n - 1) / 2 ≡ n / 2 = omega arith in
+    let none : n / 2 ≡ 0 = sym (and-self (n / 2)) ∙ rw before at halves in
     let d : n ≡ 1 = omega arith in
     rw d (one-is-power k))
 
-pub power-counted : (k n : ℕ) → n < 2 ^ k → eqb (ones n) 1 ≡ powerBelow k n
-power-counted k n h =
-    by-cases (powerBelow k n) (λ e. eq-eqb _ _ (power-has-one k n e) ∙ sym e)
-    (λ e. ne-eqb _ _ (λ q. let z = sym (one-bit k n h q) ∙ e in let y : _≡_ {A = ℕ} 0 1 = cc in omega arith) ∙ sym e)
+power-tested : (k n : ℕ) → 0 < n → n < 2 ^ k → eqb (bitAnd n (n - 1)) 0 ≡ powerBelow k n
+power-tested k n z h =
+    by-cases (powerBelow k n) (λ e. eq-eqb _ _ (power-shares-none k n e) ∙ sym e)
+    (λ e. ne-eqb _ _ (λ q. let c = sym (shares-none k n z h q) ∙ e in let y : _≡_ {A = ℕ} 0 1 = cc in omega arith) ∙ sym e)
+
+-- ---- the enabled field stands from bit 32 on ----
+
+-- size 0 shares with the enabled field whatever that has
+no-size : (e : ℕ) → e < 2 ^ 16 → eqb (bitAnd (e * 2 ^ 32 + 0) (2 ^ 48 - 1)) 0 ≡ ringSize 0 e
+unfolding ringSize powerBelow _or_ _and_
+no-size e h =
+    let d : (e * 2 ^ 32 + 0) % 2 ^ 48 ≡ e * 2 ^ 32 = omega arith in
+    ap (λ x. eqb x 0) (and-mask (e * 2 ^ 32 + 0) 48 ∙ d)
+    ∙ by-cases (eqb e 0)
+    (λ q. let z : e ≡ 0 = eqb-true e 0 q in eq-eqb (e * 2 ^ 32) 0 (omega arith) ∙ sym q)
+    (λ q. ne-eqb (e * 2 ^ 32) 0 (λ y. eqb-false e 0 q (omega arith)) ∙ sym q)
+
+-- any other with itself alone
+some-size : (s e : ℕ) → (s ≡ 0 → ⊥) → s < 2 ^ 16 → e < 2 ^ 16 → eqb (bitAnd (e * 2 ^ 32 + s) (s + (2 ^ 48 - 1))) 0 ≡ ringSize s e
+unfolding ringSize
+some-size s e n h g =
+    let t : s + (2 ^ 48 - 1) ≡ 2 ^ 16 * 2 ^ 32 + (s - 1) = omega arith in
+    let c : bitAnd e (2 ^ 16) ≡ 0 = and-comm e (2 ^ 16) ∙ and-shifted 1 16 e g in
+    let b : bitAnd (e * 2 ^ 32 + s) (s + (2 ^ 48 - 1)) ≡ bitAnd s (s - 1) =
+    ap (bitAnd (e * 2 ^ 32 + s)) t ∙ and-block 32 e (2 ^ 16) s (s - 1) (omega arith) (omega arith) ∙ rw c (omega arith) in
+    ap (λ x. eqb x 0) b ∙ power-tested 16 s (omega arith) h ∙ sym (rw (ne-eqb s 0 n, false-and (eqb e 0)) (or-false _))
+
+pub ring-tested : (s e : ℕ) → s < 2 ^ 16 → e < 2 ^ 16 → eqb (bitAnd (e * 2 ^ 32 + s) (s + (2 ^ 48 - 1))) 0 ≡ ringSize s e
+ring-tested s e h g =
+    by-cases (eqb s 0) (λ q. rw (eqb-true s 0 q) (no-size e g)) (λ q. some-size s e (eqb-false s 0 q) h g)

@@ -1,49 +1,112 @@
 -- What the values of queues may be: as the code tests it, queue by queue, and as rows of the table. Assumes nothing.
-use mathlib.Core.Path.{_≡_, refl, _∙_, ap}
-use mathlib.Core.Bool.{Bool, true, not, _||_, _&&_}
+use mathlib.Core.Path.{_≡_, refl, sym, _∙_, ap}
+use mathlib.Core.Bool.{true, false, not}
 use mathlib.Core.List.{List}
-use Prim.Native.Nat.{ℕ, zero, suc, _+_, _^_, _<_}
+use Prim.Native.Nat.{ℕ, zero, suc, _+_, _-_, _*_, _%_, _^_, _<_}
 use native.Mathlib.Nat.{add-zero}
 use native.Mathlib.Omega.{arith}
 use lib.Dec.{leb, ltb, eqb}
-use lib.ListN.{length}
+use lib.ListN.{length, getD}
 use lib.Seq.{take-all}
-use lib.Count.{ones}
-use borrow.Author.Tests.{eqb-true, eqb-false, eq-eqb, ltb-true, lt-ltb, leb-false, lt-leb}
-use Rattle.theory.specs.Logic.{unless_answer_then_, _and_, _or_}
+use lib.Bits.{bitAnd, bitOr, and-mask, and-block, and-zero-r, and-le-l, and-le-r, or-add-and}
+use borrow.Author.Tests.{eqb-true, eqb-false, eq-eqb, ne-eqb, ltb-true, ltb-false, lt-ltb, leb-false, lt-leb, le-leb}
+use Rattle.theory.specs.Logic.{if_then_else_, unless_answer_then_, _and_, _or_}
 use Rattle.theory.specs.Bytes.{bytesAt}
-use Rattle.theory.proofs.Tests.{by-cases, unless-cases, both, and-i, false-or, or-true, true-or, and-bits, or-bits}
+use Rattle.theory.proofs.Tests.{by-cases, unless-cases, both, and-i, true-and, false-and, false-or, or-true, true-or}
 use Rattle.theory.proofs.Bytes.{length-bytesAt, bytesAt-bytesAt}
 use Rattle.wire.specs.Le.{number}
+use Rattle.wire.proofs.Le.{number-below, number-append}
 use Rattle.inventory.specs.Inventory.{queue, row, rows, rowAt, rowCount, present, offsetOf, valuesSize}
 use Rattle.inventory.specs.Queue.{ringSize, queueSize, enabledAt, queueAllowed, valueAllowed, queueRow, queueValue, queuesAllowed}
 use Rattle.inventory.proofs.Rules.{table, every-row, row-within}
-use Rattle.inventory.proofs.Powers.{power-counted}
+use Rattle.inventory.proofs.Powers.{ring-tested}
 
 -- ---- as the code tests it ----
 
-pub ring-counted : (n e : ℕ) → n < 2 ^ 16 → (eqb (ones n) 1 || (eqb n 0 && eqb e 0)) ≡ ringSize n e
-unfolding ringSize
-ring-counted n e h = rw (or-bits, and-bits, power-counted 16 n h)
+-- the first eight bytes of a value, as a number, hold its size and its enabled field
+module _ (l : List ℕ) (small : (i : ℕ) → getD l i 0 < 256) (at : ℕ) where
+  abbrev size : ℕ
+  size = number at 2 l
 
-module _ (at : ℕ) (l : List ℕ) where
-  pub queue-read : (size enabled : ℕ) (r : Bool) → size ≡ number at 2 l → enabled ≡ number (at + enabledAt) 2 l → r ≡ ringSize size enabled
-      → r ≡ queueAllowed (bytesAt at queueSize l)
+  abbrev enabled : ℕ
+  enabled = number (at + enabledAt) 2 l
+
+  abbrev between : ℕ
+  between = number (at + 2) 2 l
+
+  abbrev rest : ℕ
+  rest = number (at + 6) 2 l
+
+  word-is : number at 8 l ≡ (rest * 2 ^ 16 + enabled) * 2 ^ 32 + (between * 2 ^ 16 + size)
+  word-is =
+      let a : at + 2 + 2 ≡ at + enabledAt = omega arith in
+      let b : at + enabledAt + 2 ≡ at + 6 = omega arith in
+      rw (number-append at 2 6 l, number-append (at + 2) 2 4 l, a, number-append (at + enabledAt) 2 2 l, b) (omega arith)
+
+  fields : bitAnd (number at 8 l) 0xffff0000ffff ≡ enabled * 2 ^ 32 + size
+  fields =
+      let s = number-below l small 2 at in
+      let v = number-below l small 2 (at + 2) in
+      let f = number-below l small 2 (at + enabledAt) in
+      let x : (rest * 2 ^ 16 + enabled) % 2 ^ 16 ≡ enabled = omega arith in
+      let y : (between * 2 ^ 16 + size) % 2 ^ 16 ≡ size = omega arith in
+      ap (λ n. bitAnd n 0xffff0000ffff) word-is
+      ∙ and-block 32 (rest * 2 ^ 16 + enabled) (2 ^ 16 - 1) (between * 2 ^ 16 + size) (2 ^ 16 - 1) (omega arith) (omega arith)
+      ∙ rw (and-mask (rest * 2 ^ 16 + enabled) 16, and-mask (between * 2 ^ 16 + size) 16, x, y)
+
+  low : number at 8 l % 65536 ≡ size
+  low = omega (arith, word-is, number-below l small 2 at)
+
+  allowed-is : ringSize size enabled ≡ queueAllowed (bytesAt at queueSize l)
   unfolding queueAllowed number
-  queue-read size enabled r e f g =
-      g ∙ rw (e, f, bytesAt-bytesAt 0 2 at queueSize l (omega arith), bytesAt-bytesAt enabledAt 2 at queueSize l (omega arith), add-zero)
+  allowed-is =
+      rw (bytesAt-bytesAt 0 2 at queueSize l (omega arith), bytesAt-bytesAt enabledAt 2 at queueSize l (omega arith), add-zero)
 
--- a whole value
-pub value-read : (l : List ℕ) (r : Bool) → length l ≡ queueSize → r ≡ queueAllowed (bytesAt 0 queueSize l) → r ≡ queueAllowed l
-value-read l r n e = e ∙ ap queueAllowed (take-all queueSize l (omega arith))
+  pub fault-read : (q k w m r : ℕ) → w ≡ number at 8 l → m ≡ (if ltb k q then 0xffff0000ffff else 0)
+      → r ≡ bitAnd (bitAnd w m) (w % 65536 + 0xffffffffffff) → eqb r 0 ≡ leb q k or queueAllowed (bytesAt at queueSize l)
+  unfolding if_then_else_
+  fault-read q k w m r e f g =
+      by-cases (ltb k q)
+      (λ t.
+      let h : m ≡ 0xffff0000ffff = f ∙ rw t in
+      let n : leb q k ≡ false = lt-leb q k (ltb-true k q t) in
+      let z : r ≡ bitAnd (enabled * 2 ^ 32 + size) (size + (2 ^ 48 - 1)) = g ∙ rw (h, e, fields, low) in
+      ap (λ x. eqb x 0) z
+      ∙ ring-tested size enabled (number-below l small 2 at) (number-below l small 2 (at + enabledAt))
+      ∙ allowed-is ∙ rw n (sym (false-or _)))
+      (λ t.
+      let h : m ≡ 0 = f ∙ rw t in
+      let n : leb q k ≡ true = le-leb q k (ltb-false k q t) in
+      let z : r ≡ 0 = g ∙ rw (h, and-zero-r w) in
+      ap (λ x. eqb x 0) z ∙ rw n (sym (true-or _)))
+
+-- a whole value, which is that of the only queue
+pub value-read : (l : List ℕ) (r : ℕ) → length l ≡ queueSize → eqb r 0 ≡ leb 1 0 or queueAllowed (bytesAt 0 queueSize l)
+    → eqb r 0 ≡ queueAllowed l
+value-read l r n e = e ∙ false-or _ ∙ ap queueAllowed (take-all queueSize l (omega arith))
 
 -- the four queues
-pub queues-read : (q : ℕ) (l : List ℕ) (a b c d : Bool)
-    → a ≡ queueAllowed (bytesAt 45 queueSize l) → b ≡ queueAllowed (bytesAt 77 queueSize l)
-    → c ≡ queueAllowed (bytesAt 109 queueSize l) → d ≡ queueAllowed (bytesAt 141 queueSize l)
-    → ((((leb q 0 || a) && (leb q 1 || b)) && (leb q 2 || c)) && (leb q 3 || d)) ≡ queuesAllowed q l
+none-both : (a b : ℕ) → eqb (bitOr a b) 0 ≡ eqb a 0 and eqb b 0
+none-both a b =
+    let s = or-add-and a b in
+    let x = and-le-l a b in
+    let y = and-le-r a b in
+    by-cases (eqb (bitOr a b) 0)
+    (λ t.
+    let z : bitOr a b ≡ 0 = eqb-true _ _ t in
+    rw t (sym (and-i _ _ (eq-eqb a 0 (omega arith)) (eq-eqb b 0 (omega arith)))))
+    (λ t.
+    let z : bitOr a b ≡ 0 → ⊥ = eqb-false _ _ t in
+    by-cases (eqb a 0)
+    (λ u. let v : a ≡ 0 = eqb-true a 0 u in rw (t, u, ne-eqb b 0 (λ w. z (omega arith))) (sym (true-and _)))
+    (λ u. rw (t, u) (sym (false-and _))))
+
+pub queues-read : (q : ℕ) (l : List ℕ) (a b c d : ℕ)
+    → eqb a 0 ≡ leb q 0 or queueAllowed (bytesAt 45 queueSize l) → eqb b 0 ≡ leb q 1 or queueAllowed (bytesAt 77 queueSize l)
+    → eqb c 0 ≡ leb q 2 or queueAllowed (bytesAt 109 queueSize l) → eqb d 0 ≡ leb q 3 or queueAllowed (bytesAt 141 queueSize l)
+    → eqb (bitOr (bitOr (bitOr a b) c) d) 0 ≡ queuesAllowed q l
 unfolding queuesAllowed offsetOf rows
-queues-read q l a b c d e f g h = rw (← e, ← f, ← g, ← h) (simp (and-bits, or-bits))
+queues-read q l a b c d e f g h = rw (none-both (bitOr (bitOr a b) c) d, none-both (bitOr a b) c, none-both a b, e, f, g, h)
 
 -- ---- the four queues, one by one ----
 

@@ -2,14 +2,14 @@
 // binds the tables first, since each read of a constant table builds it anew.
 ghost use mathlib.Core.Path.{_≡_};
 ghost use Prim.Native.Nat.{_+_, _*_, _^_, _≤_, _<_};
-ghost use lib.Dec.{eqb};
+ghost use lib.Dec.{leb, ltb, eqb};
 ghost use lib.ListN.{length};
-ghost use Rattle.theory.specs.Logic.{indicator};
+ghost use Rattle.theory.specs.Logic.{if_then_else_, _or_, indicator};
 ghost use Rattle.theory.specs.Bytes.{bytesAt, put};
 ghost use Rattle.inventory.specs.Inventory.{row, rowAt, rowCount, deviceFeatures, offsetOf, present, selectorOf, placeOf, partCount, partsSize, valuesSize};
 ghost use Rattle.inventory.specs.Worked.{nthOf, fieldAt, queueRows};
 ghost use Rattle.inventory.specs.Header.{headerOf, headerSize};
-ghost use Rattle.inventory.specs.Queue.{ringSize, queueSize, queueAllowed, valueAllowed, queuesAllowed};
+ghost use Rattle.inventory.specs.Queue.{queueSize, queueAllowed, valueAllowed, queuesAllowed};
 
 // The types of parts.
 pub const DEVICE_FEATURES: u16 = 0x100;
@@ -242,27 +242,30 @@ pub fn parts_size(queues: u8) -> u32
 
 // ---- queue sizes, SPEC 13.5 ----
 
-// The value of a queue part: its size is a number of two bytes, and so is its enabled field.
 const QUEUE_SIZE: usize = 32;
 
-const ENABLED_AT: usize = 4;
+// The first eight bytes of a queue's value, as a number: the bits of its size and of its enabled field, and all up to the
+// last of them.
+const QUEUE_FIELDS: u64 = 0xffff_0000_ffff;
 
-// Whether a split ring has this size: a power of two, which has one bit, or 0 where the queue is not enabled. No branch.
-fn is_ring_size(size: u16, enabled: u16) -> bool
-    ensures { λ r. ⌜ r ≡ ringSize size enabled ⌝ }
+const UP_TO_ENABLED: u64 = 0xffff_ffff_ffff;
+
+// The fields of queue k that count: none, where a member with so many queues has not got it.
+fn fields_of(queues: u8, k: u8) -> u64
+    ensures { λ r. ⌜ r ≡ (if ltb k queues then 0xffff0000ffff else 0) ⌝ }
 {
-    (u16::count_ones(size) == 1) | ((size == 0) & (enabled == 0))
+    if k < queues { QUEUE_FIELDS } else { 0 }
 }
 
-// Whether the queue value at a place is allowed.
-fn is_queue_allowed(values: &[u8], at: usize) -> bool
+// What speaks against the value at a place as that of queue k: 0 where nothing does. A size has no bit in common with the
+// number before it exactly if it is a power of two. The number before 0 is taken as one with all bits up to those of the
+// enabled field, and that before any other size has none of these. No branch, and fewer instructions than a count of bits.
+fn fault(queues: u8, k: u8, values: &[u8], at: usize) -> u64
     requires { ⌜ at + queueSize ≤ length (now values) ⌝ }
-    ensures { λ r. ⌜ r ≡ queueAllowed (bytesAt at queueSize (now (values .entry))) ⌝ }
+    ensures { λ r. ⌜ eqb r 0 ≡ leb queues k or queueAllowed (bytesAt at queueSize (now (values .entry))) ⌝ }
 {
-    is_ring_size(
-        wire::read_u16(values, at),
-        wire::read_u16(values, at + ENABLED_AT),
-    )
+    let word = wire::read_u64(values, at);
+    word & fields_of(queues, k) & (word % TWO_BYTES + UP_TO_ENABLED)
 }
 
 // Whether a part of this type may have this value.
@@ -275,17 +278,18 @@ pub fn is_value_allowed(t: u16, value: &[u8]) -> bool
     if value.len() != QUEUE_SIZE {
         return true;
     }
-    is_queue_allowed(value, 0)
+    fault(1, 0, value, 0) == 0
 }
 
-// Whether the values of a member with so many queues have an allowed one for each: they start where OFFSETS says.
-// All four are tested, with no branch.
+// Whether the values of a member with so many queues have an allowed one for each: they start where OFFSETS says. All four
+// are tested, with no branch.
 pub fn are_queues_allowed(queues: u8, values: &[u8]) -> bool
     requires { ⌜ length (now values) ≡ valuesSize ⌝ }
     ensures { λ r. ⌜ r ≡ queuesAllowed queues (now (values .entry)) ⌝ }
 {
-    ((queues <= 0) | is_queue_allowed(values, 45))
-        & ((queues <= 1) | is_queue_allowed(values, 77))
-        & ((queues <= 2) | is_queue_allowed(values, 109))
-        & ((queues <= 3) | is_queue_allowed(values, 141))
+    let faults = fault(queues, 0, values, 45)
+        | fault(queues, 1, values, 77)
+        | fault(queues, 2, values, 109)
+        | fault(queues, 3, values, 141);
+    faults == 0
 }

@@ -1,6 +1,6 @@
 -- Case analysis on a test, and the laws of the choices and tests of specs/Logic.antt and of `same`. Assumes nothing.
 use mathlib.Core.Path.{_≡_, refl, ap}
-use mathlib.Core.Bool.{Bool, true, false, _&&_, _||_}
+use mathlib.Core.Bool.{Bool, true, false}
 use mathlib.Core.List.{List, [], _∷_}
 use Prim.Native.Nat.{ℕ, _+_, _≤_, _<_}
 use native.Mathlib.Numerals.{add-one}
@@ -75,17 +75,6 @@ pub or-false : (a : Bool) → a or false ≡ a
 unfolding _or_
 or-false true = refl
 or-false false = refl
-
--- the code's `&` and `|` of two tests, which have no branch
-pub and-bits : (a b : Bool) → (a && b) ≡ a and b
-unfolding _and_
-and-bits true b = refl
-and-bits false b = refl
-
-pub or-bits : (a b : Bool) → (a || b) ≡ a or b
-unfolding _or_
-or-bits true b = refl
-or-bits false b = refl
 
 -- both hold
 pub both : (a b : Bool) → a and b ≡ true → (a ≡ true) × (b ≡ true)
