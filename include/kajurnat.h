@@ -103,6 +103,7 @@ enum {
     KAJURNAT_NO_SUCH_PART = 2, /* device features count so */
     KAJURNAT_WRONG_LENGTH = 3,
     KAJURNAT_BAD_SETUP = 4,
+    KAJURNAT_BAD_QUEUE_SIZE = 5, /* a size that no ring has; see Parts */
     KAJURNAT_NOT_SOUND = 9 /* the buffer is not a sound card; no status */
 };
 
@@ -308,17 +309,22 @@ enum {
  *   16  driver area         8
  *   24  device area         8
  *
- * A value is kept and given back whole, its reserved bytes too.
+ * A value is kept and given back whole, its reserved bytes too. Rings are split
+ * rings: a queue size is a power of two up to KAJURNAT_QUEUE_SIZE_MAX, or 0
+ * while the enabled field is 0. No list and no store sets another, and a sound
+ * card holds none.
  *
  * A list of parts is taken whole or not at all. It is bad if
  *   - a header or a value runs past its end, also a header that is asked for;
  *   - it has a part that the member does not have. Parts set skips such a part
  *     if it has KAJURNAT_PART_F_OPTIONAL and a type below 0x600;
  *   - a value to set is not of the part's length;
+ *   - a queue to set has a size that no ring has;
  *   - device features to set differ from the member's, which never change;
  *   - it has a part of the member twice.
  * Of a header that is asked for only type and selector are read.
  */
+enum { KAJURNAT_QUEUE_SIZE_MAX = 32768 };
 
 /* ---- Functions -------------------------------------------------------- */
 
@@ -384,7 +390,8 @@ uint32_t kajurnat_version(void);
  * part header as a little-endian number. It is not read for other parts.
  *
  * Returns KAJURNAT_DONE, or the first that applies of KAJURNAT_NOT_SOUND,
- * KAJURNAT_NO_SUCH_MEMBER, KAJURNAT_NO_SUCH_PART and KAJURNAT_WRONG_LENGTH.
+ * KAJURNAT_NO_SUCH_MEMBER, KAJURNAT_NO_SUCH_PART, KAJURNAT_WRONG_LENGTH and
+ * KAJURNAT_BAD_QUEUE_SIZE.
  */
 uint8_t kajurnat_store(uint8_t *card, size_t card_len, uint64_t member,
                        uint16_t part_type, uint64_t selector,

@@ -383,6 +383,18 @@ static void try_stores(void)
                               value, fields[i].length) == KAJURNAT_DONE,
                "a PCI common field");
     }
+
+    uint8_t queue[32] = {0};
+    put_number(queue, 2, KAJURNAT_QUEUE_SIZE_MAX);
+    expect(kajurnat_store(card, sizeof card, 2, KAJURNAT_PART_VQ_CFG, 0, queue,
+                          sizeof queue) == KAJURNAT_DONE,
+           "the largest queue size");
+    put_number(queue, 2, 100);
+    expect(kajurnat_store(card, sizeof card, 2, KAJURNAT_PART_VQ_CFG, 0, queue,
+                          sizeof queue) == KAJURNAT_BAD_QUEUE_SIZE &&
+               kajurnat_store(card, sizeof card, 2, KAJURNAT_PART_VQ_CFG, 0,
+                              queue, 31) == KAJURNAT_WRONG_LENGTH,
+           "a queue size that no ring has");
     expect(kajurnat_reset_member(card, sizeof card, 2) == KAJURNAT_DONE &&
                kajurnat_reset_card(card, sizeof card) == KAJURNAT_DONE,
            "the resets");

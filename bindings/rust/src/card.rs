@@ -26,12 +26,12 @@ use core::fmt;
 ///
 /// // A card that owns its memory.
 /// let mut card = Card::new(&SETUP)?;
-/// card.store(1, PartType::VQ_CFG, 1, &[7; 32])?;
+/// card.store(1, PartType::VQ_NOTIFY_CFG, 1, &[7; 8])?;
 ///
 /// // A card that is lent an array, for as long as `lent` is used.
 /// let mut memory = [0; SETUP.card_bytes()];
 /// let mut lent = Card::new_in(&SETUP, &mut memory)?;
-/// lent.store(1, PartType::VQ_CFG, 1, &[7; 32])?;
+/// lent.store(1, PartType::VQ_NOTIFY_CFG, 1, &[7; 8])?;
 /// assert_eq!(lent, card);
 ///
 /// // The bytes are the whole card. They may be kept, and taken up again.
@@ -259,7 +259,8 @@ impl<B: AsMut<[u8]>> Card<B> {
     /// # Errors
     ///
     /// The first that applies of [`EventError::NoSuchMember`],
-    /// [`EventError::NoSuchPart`] and [`EventError::WrongLength`].
+    /// [`EventError::NoSuchPart`], [`EventError::WrongLength`] and
+    /// [`EventError::BadQueueSize`].
     pub fn store(
         &mut self,
         member: u64,

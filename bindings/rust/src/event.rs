@@ -13,6 +13,9 @@ pub enum EventError {
     NoSuchPart,
     /// The part's value has another length.
     WrongLength,
+    /// The value is that of a queue, and no ring has its size: neither a power
+    /// of two, nor 0 while the queue is not enabled.
+    BadQueueSize,
 }
 
 impl EventError {
@@ -23,6 +26,7 @@ impl EventError {
             1 => Err(Self::NoSuchMember),
             2 => Err(Self::NoSuchPart),
             3 => Err(Self::WrongLength),
+            5 => Err(Self::BadQueueSize),
             other => panic!("the archive answered {other} to an event of a sound card"),
         }
     }
@@ -34,6 +38,7 @@ impl fmt::Display for EventError {
             Self::NoSuchMember => "the card has no such member",
             Self::NoSuchPart => "the member has no such part to store",
             Self::WrongLength => "the part's value has another length",
+            Self::BadQueueSize => "the queue has a size that no ring has",
         })
     }
 }

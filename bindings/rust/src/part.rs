@@ -16,7 +16,7 @@ wire_number! {
     /// Device status: 1 byte.
     DEVICE_STATUS = 0x103,
     /// The configuration of a queue: 32 bytes. The selector is the queue's
-    /// index.
+    /// index. Its size is a power of two, or 0 while it is not enabled.
     VQ_CFG = 0x104,
     /// The notification configuration of a queue: 8 bytes. The selector is
     /// the queue's index.

@@ -246,7 +246,8 @@ pub fn reset_card(card: &mut [u8]) -> u8 {
 ///
 /// `selector` is the eight selector bytes as a little-endian number. Answers
 /// 0 done, 9 card not sound, 1 no such member, 2 no such part (device
-/// features count so), 3 wrong length; refused, nothing is changed.
+/// features count so), 3 wrong length, 5 a queue size that no ring has;
+/// refused, nothing is changed.
 #[must_use]
 pub fn store(card: &mut [u8], member: u64, part_type: u16, selector: u64, value: &[u8]) -> u8 {
     // SAFETY: each pointer and length are those of one slice, which is

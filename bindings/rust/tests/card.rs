@@ -2,7 +2,7 @@
 
 mod common;
 
-use common::{capture, fresh_card, ready_card, restore, stop, use_all, GET, SET, SETUP};
+use common::{capture, fresh_card, ready_card, restore, stop, use_all, GET, QUEUE, SET, SETUP};
 use kajurnat::{
     Card, EventError, Kind, NotSound, Opcode, PartType, Qualifier, Refusal, Reply, ReplyTooShort,
     Request, Setup, SetupError, Status,
@@ -165,7 +165,7 @@ fn no_address_of_a_guest_is_shown() {
         format!("{reply:?} {restore:?} {card:?}")
     };
     let fresh = shown(&mut card, &mut buffer);
-    card.store(1, PartType::VQ_CFG, 0, &[0xa5; 32]).unwrap();
+    card.store(1, PartType::VQ_CFG, 0, &QUEUE).unwrap();
     assert_eq!(shown(&mut card, &mut buffer), fresh);
 }
 
@@ -173,7 +173,7 @@ fn no_address_of_a_guest_is_shown() {
 fn a_member_moves_to_another_card() {
     let mut source = ready_card();
     source.store(1, PartType::DRV_FEATURES, 0, &[0x5a; 16]).unwrap();
-    source.store(1, PartType::VQ_CFG, 0, &[0xa5; 32]).unwrap();
+    source.store(1, PartType::VQ_CFG, 0, &QUEUE).unwrap();
     stop(&mut source, 1).unwrap();
     let parts = capture(&mut source, 1).unwrap();
 
@@ -187,7 +187,7 @@ fn a_member_moves_to_another_card() {
 fn a_reset_leaves_nothing_of_a_member() {
     let mut card = ready_card();
     let fresh = capture(&mut card, 1).unwrap();
-    card.store(1, PartType::VQ_CFG, 0, &[0xa5; 32]).unwrap();
+    card.store(1, PartType::VQ_CFG, 0, &QUEUE).unwrap();
     assert_ne!(capture(&mut card, 1).unwrap(), fresh);
 
     card.reset_member(1).unwrap();
@@ -222,6 +222,10 @@ fn a_bad_event_is_named_and_changes_nothing() {
     assert_eq!(card.store(1, PartType::VQ_CFG, 0, &[0; 31]), wrong);
     assert_eq!(card.store(1, PartType::VQ_CFG, 0, &[0; 33]), wrong);
     assert_eq!(card.store(1, PartType::DEVICE_STATUS, 0, &[]), wrong);
+    let bad_size = Err(EventError::BadQueueSize);
+    assert_eq!(card.store(1, PartType::VQ_CFG, 0, &[0xa5; 32]), bad_size);
+    let enabled: [u8; 32] = core::array::from_fn(|at| u8::from(at == 5));
+    assert_eq!(card.store(1, PartType::VQ_CFG, 0, &enabled), bad_size);
     assert_eq!(card, before);
 }
 

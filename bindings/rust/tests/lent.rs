@@ -2,14 +2,14 @@
 
 mod common;
 
-use common::{capture, fresh_card, make_ready, ready_card, restore, stop, GET, SETUP};
+use common::{capture, fresh_card, make_ready, ready_card, restore, stop, GET, QUEUE, SETUP};
 use kajurnat::{Card, NotSound, PartType, Reply, Request, Setup, SetupError};
 use std::error::Error;
 
 /// Every call that changes a card, on a fresh one.
 fn use_card<B: AsMut<[u8]>>(card: &mut Card<B>) -> Result<(), Box<dyn Error>> {
     make_ready(card)?;
-    card.store(1, PartType::VQ_CFG, 0, &[0xa5; 32])?;
+    card.store(1, PartType::VQ_CFG, 0, &QUEUE)?;
     stop(card, 1)?;
     stop(card, 2)?;
     let parts = capture(card, 1)?;

@@ -86,6 +86,8 @@ fn the_first_cause_is_the_answer() {
     assert_eq!(raw::store(&mut card, 3, 0x106, 0, &[]), 1);
     assert_eq!(raw::store(&mut card, 1, 0x106, 0, &[]), 2);
     assert_eq!(raw::store(&mut card, 1, 0x103, 0, &[]), 3);
+    assert_eq!(raw::store(&mut card, 1, 0x104, 0, &[100; 31]), 3);
+    assert_eq!(raw::store(&mut card, 1, 0x104, 0, &[100; 32]), 5);
     assert_eq!(raw::store(&mut card, 1, 0x103, 0, &[1]), 0);
     assert_eq!(raw::reset_member(&mut card, 3), 1);
     assert_eq!(raw::reset_member(&mut card, 1), 0);

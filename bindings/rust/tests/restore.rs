@@ -2,7 +2,7 @@
 
 mod common;
 
-use common::{capture, fresh_card, ready_card, restore, stop, GET, SET};
+use common::{capture, fresh_card, ready_card, restore, stop, GET, QUEUE, SET};
 use kajurnat::{Card, PartType, Qualifier, Refusal, Request, Restore, Status};
 use std::io::{self, Read, Write};
 
@@ -23,7 +23,7 @@ const TOO_LONG: (Status, Qualifier) = (Status::EINVAL, Qualifier::INVALID_COMMAN
 fn card_and_parts() -> (Card, Vec<u8>) {
     let mut card = ready_card();
     card.store(1, PartType::DRV_FEATURES, 0, &[0x5a; 16]).unwrap();
-    card.store(1, PartType::VQ_CFG, 0, &[0xa5; 32]).unwrap();
+    card.store(1, PartType::VQ_CFG, 0, &QUEUE).unwrap();
     stop(&mut card, 2).unwrap();
     let parts = capture(&mut card, 1).unwrap();
     (card, parts)

@@ -12,6 +12,14 @@ pub const SET: u32 = 1;
 /// Two members, one queue, one get and one set object, no device features.
 pub const SETUP: Setup = Setup { members: 2, queues: 1, gets: 1, sets: 1, features: [0; 16] };
 
+/// The value of a queue of size 128.
+pub const QUEUE: [u8; 32] = {
+    let mut value = [0xa5; 32];
+    value[0] = 128;
+    value[1] = 0;
+    value
+};
+
 pub fn fresh_card() -> Card {
     Card::new(&SETUP).expect("the setup is in range")
 }

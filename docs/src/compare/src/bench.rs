@@ -11,6 +11,7 @@ use plain_card::opcode::SUPPORTED;
 use plain_card::part::{inventory, Part};
 use plain_card::{bytes, Card, Setup};
 
+use crate::draw::good_value;
 use crate::fast;
 use crate::random::Random;
 
@@ -74,7 +75,7 @@ fn fill(random: &mut Random, member: &mut Member) {
         member.objects.put(id, if id < SET_ID { Kind::Get } else { Kind::Set });
     }
     for part in inventory(QUEUES).filter(|part| *part != Part::DeviceFeatures) {
-        let value = random.bytes(part.length() as usize);
+        let value = good_value(random, part);
         member.values.get_mut(part).copy_from_slice(&value);
     }
 }

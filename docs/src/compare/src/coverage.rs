@@ -13,7 +13,7 @@ use crate::device::Seen;
 const STATUSES: [&str; 12] =
     ["none", "22/1", "22/4", "22/2", "22/5", "22/3", "17/1", "6/1", "28/1", "11/7", "12/6", "0/0"];
 /// Answers of events in their order.
-const ANSWERS: [&str; 6] = ["9", "1", "2", "3", "4", "0"];
+const ANSWERS: [&str; 7] = ["9", "1", "2", "3", "5", "4", "0"];
 /// What becomes of a request to build and of a reply to read.
 const OUTCOMES: [&str; 2] = ["refused", "done"];
 

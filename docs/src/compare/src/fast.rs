@@ -66,6 +66,15 @@ fn sound(header: &[u8; HEADER], records: &[u8]) -> bool {
     if !setup || records.len() != RECORD * usize::from(members) {
         return false;
     }
+    let no_rings = match queues {
+        1 => no_rings::<1>(records),
+        2 => no_rings::<2>(records),
+        3 => no_rings::<3>(records),
+        _ => no_rings::<4>(records),
+    };
+    if no_rings {
+        return false;
+    }
     let features: [u8; 16] = array_at(header, 4);
     let ids = usize::from(gets + sets);
     records.chunks_exact(RECORD).all(|record| {
@@ -76,6 +85,25 @@ fn sound(header: &[u8; HEADER], records: &[u8]) -> bool {
             && sum(&objects, |byte| byte % 2) <= gets
             && sum(&objects, |byte| byte / 2) <= sets
     })
+}
+
+/// Where size and enabled field stand in the first eight bytes of a queue.
+const SIZE_AND_ENABLED: u64 = 0xffff_0000_ffff;
+
+/// Whether one of the Q queues of a record has a size that no ring has. This
+/// pass of its own has no exit before its end.
+fn no_rings<const Q: usize>(records: &[u8]) -> bool {
+    let bad = records.chunks_exact(RECORD).fold(0, |bad, record| {
+        (0..Q).fold(bad, |bad, queue| bad | no_ring(u64_at(record, 64 + 32 * queue)))
+    });
+    bad & SIZE_AND_ENABLED != 0
+}
+
+/// Of these two fields, bits that are set if the size has two bits or more, or
+/// is 0 with an enabled field: 0 less one, and no other size less one, has all
+/// upper bits.
+fn no_ring(queue: u64) -> u64 {
+    queue & (queue & 0xffff).wrapping_sub(1)
 }
 
 /// A sum over the object bytes, which the compiler makes vector additions.

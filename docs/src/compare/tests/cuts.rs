@@ -25,6 +25,8 @@ fn card() -> Card {
 fn full_list() -> Vec<u8> {
     let values = inventory(4).zip(7..).map(|(name, byte)| match name.part_type() {
         0x100 => part(name, &[3; 16]),
+        // Size 2048, and all bytes behind it the same.
+        0x104 => part(name, &[&[0, 8], &[byte; 30][..]].concat()),
         _ => part(name, &vec![byte; name.length() as usize]),
     });
     values.flatten().collect()

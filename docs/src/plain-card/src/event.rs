@@ -33,6 +33,7 @@ impl Card {
         EventError::NoMember.unless(self.setup.has_member(member))?;
         let part = self.stored_part(part_type, selector)?;
         EventError::WrongLength.unless(value.len() == part.length() as usize)?;
+        EventError::BadQueueSize.unless(part.allows(value))?;
         self.member_mut(member).values.get_mut(part).copy_from_slice(value);
         Ok(())
     }

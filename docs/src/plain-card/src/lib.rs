@@ -1,5 +1,5 @@
 //! An independent plain Rust card and host, written from document 01 and
-//! requests 1, 2 and 6 of document 02 alone.
+//! requests 1, 2, 5 and 6 of document 02 alone.
 //!
 //! It is the readable, executable version of these and the reference that the
 //! verified archive is compared with. It shares no code with the archive. Terms
@@ -10,7 +10,7 @@
 //!
 //! | module | holds |
 //! |---|---|
-//! | [`setup`], [`card`], [`member`], [`object`], [`part`], [`values`], [`holding`] | the card and what it is made of |
+//! | [`setup`], [`card`], [`member`], [`object`], [`part`], [`queue`], [`values`], [`holding`] | the card and what it is made of |
 //! | [`frame`], [`opcode`], [`operation`] | from request bytes to what is asked: steps 2 to 7 |
 //! | [`list`] | lists of parts, asked and given: step 10 |
 //! | [`command`](mod@command), [`effect`] | the steps in order, and what a command does |
@@ -38,6 +38,7 @@ pub mod object;
 pub mod opcode;
 pub mod operation;
 pub mod part;
+pub mod queue;
 pub mod restore;
 pub mod setup;
 pub mod status;

@@ -37,6 +37,7 @@ pub fn given<'a>(list: &'a [u8], values: &Values, queues: u8) -> Result<Given<'a
         };
         Refusal::BadList.unless(named.insert(part))?; // not named twice
         Refusal::BadList.unless(header.length == part.length())?; // the table's length
+        Refusal::BadList.unless(part.allows(value))?; // a queue size that a ring has
         if part == Part::DeviceFeatures {
             Refusal::BadList.unless(value == values.device_features)?;
         } else {

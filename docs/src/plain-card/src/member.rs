@@ -45,6 +45,7 @@ impl Member {
     pub fn is_sound(&self, setup: &Setup) -> bool {
         self.objects.fit(setup)
             && self.values.device_features == setup.features
+            && self.values.queues_allowed(setup.queues)
             && self.holding.fits()
     }
 }

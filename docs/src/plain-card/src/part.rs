@@ -1,5 +1,7 @@
 //! The parts of a member.
 
+use crate::queue;
+
 /// The most queues a member can have; values are kept for so many.
 pub const MAX_QUEUES: u8 = 4;
 /// The length of a part's header.
@@ -128,6 +130,15 @@ impl Part {
             Part::DeviceStatus => 1,
             Part::Queue(_) => 32,
             Part::QueueNotify(_) => 8,
+        }
+    }
+
+    /// Whether the part may have this value, which has its length: a queue
+    /// part has a size that a ring can have.
+    pub fn allows(self, value: &[u8]) -> bool {
+        match self {
+            Part::Queue(_) => queue::allowed(value),
+            _ => true,
         }
     }
 

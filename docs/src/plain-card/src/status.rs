@@ -80,6 +80,8 @@ pub enum EventError {
     WrongLength = 3,
     /// The setup is out of range.
     BadSetup = 4,
+    /// The value of a queue part has a size that no ring has.
+    BadQueueSize = 5,
 }
 
 impl EventError {

@@ -1,6 +1,7 @@
 //! The values of a member's parts.
 
 use crate::part::{Part, PciField, MAX_QUEUES};
+use crate::queue;
 
 /// The values of a member's parts, each whole, its reserved fields too. There
 /// are always four queues here; a smaller setup neither shows nor changes the
@@ -41,6 +42,12 @@ impl Values {
             Part::Queue(index) => &self.queues[usize::from(index)],
             Part::QueueNotify(index) => &self.notifies[usize::from(index)],
         }
+    }
+
+    /// Whether every queue part of a member with `queues` queues may have its
+    /// value.
+    pub fn queues_allowed(&self, queues: u8) -> bool {
+        self.queues.iter().take(queues.into()).all(|value| queue::allowed(value))
     }
 
     /// The value of a part, to be changed.

@@ -13,7 +13,7 @@ fn busy() -> Card {
     assert_eq!(status(&mut card, &request(CREATE, 2, &object_of_kind(0, SET))), OK);
     for member in [1, 2] {
         card.store(member, 0x101, [0; 8], &[1; 16]).unwrap();
-        card.store(member, 0x104, [1, 0, 0, 0, 0, 0, 0, 0], &[2; 32]).unwrap();
+        card.store(member, 0x104, [1, 0, 0, 0, 0, 0, 0, 0], &queue(2, 2)).unwrap();
     }
     card
 }
@@ -55,8 +55,8 @@ fn store_sets_one_part_in_either_mode() {
         let mut card = busy();
         card.members[0].mode = mode;
         let mut expected = card.clone();
-        expected.members[0].values.queues[1] = [9; 32];
-        assert_eq!(card.store(1, 0x104, [1, 0, 0, 0, 0, 0, 0, 0], &[9; 32]), Ok(()));
+        expected.members[0].values.queues[1] = queue(256, 9);
+        assert_eq!(card.store(1, 0x104, [1, 0, 0, 0, 0, 0, 0, 0], &queue(256, 9)), Ok(()));
         assert_eq!(card, expected);
     }
 }
@@ -113,5 +113,6 @@ fn the_numbers_of_the_answers() {
     assert_eq!(answer(Err(EventError::NoPart)), 2);
     assert_eq!(answer(Err(EventError::WrongLength)), 3);
     assert_eq!(answer(Err(EventError::BadSetup)), 4);
+    assert_eq!(answer(Err(EventError::BadQueueSize)), 5);
     assert_eq!(answer(Err(EventError::NotSound)), 9);
 }

@@ -76,14 +76,14 @@ fn given_parts_are_set_whole() {
         part(0x101, 0, &[1; 16]),
         part(0x102, 22, &[2; 2]),
         part(0x103, 0, &[3]),
-        part(0x104, 1, &[0xff; 32]),
+        part(0x104, 1, &queue(32_768, 0xff)),
     ];
     assert_eq!(status(&mut card, &set(&parts)), OK);
     let values = &card.member(1).values;
     assert_eq!(values.driver_features, [1; 16]);
     assert_eq!(values.queue_select, [2; 2]);
     assert_eq!(values.device_status, [3]);
-    assert_eq!(values.queues, [[0; 32], [0xff; 32], [0; 32], [0; 32]]);
+    assert_eq!(values.queues, [[0; 32], queue(32_768, 0xff), [0; 32], [0; 32]]);
     assert_eq!(values.notifies, [[0; 8], [6; 8], [0; 8], [0; 8]]);
     assert_eq!(card.member(2), common::card(2, 2, 1, 1).member(2));
 }
@@ -169,12 +169,12 @@ fn known_parts_have_the_length_of_the_table() {
 
 #[test]
 fn given_twice_refuses() {
-    let one = part(0x104, 0, &[1; 32]);
-    let two = part(0x104, 1, &[1; 32]);
+    let one = part(0x104, 0, &queue(1, 1));
+    let two = part(0x104, 1, &queue(1, 1));
     assert_eq!(set_status(&[one.clone(), two.clone()]), OK);
     assert_eq!(set_status(&[one.clone(), two, one.clone()]), BAD);
     // The same part under selector bytes that are not read.
-    assert_eq!(set_status(&[one, part(0x104, 0xff << 16, &[1; 32])]), BAD);
+    assert_eq!(set_status(&[one, part(0x104, 0xff << 16, &queue(1, 1))]), BAD);
     assert_eq!(set_status(&[part(0x103, 1, &[1]), part(0x103, 2, &[1])]), BAD);
     assert_eq!(set_status(&[part(0x100, 0, &[0; 16]), part(0x100, 0, &[0; 16])]), BAD);
 }
@@ -204,10 +204,11 @@ fn a_full_capture_is_accepted_elsewhere_and_comes_back() {
     let mut byte = 0;
     let mut value = |length: usize| (0..length).map(|_| (byte, byte += 1).0).collect::<Vec<u8>>();
     for (part_type, selector, length) in
-        [(0x101, 0u64, 16), (0x102, 16, 2), (0x103, 0, 1), (0x104, 3, 32), (0x105, 2, 8)]
+        [(0x101, 0u64, 16), (0x102, 16, 2), (0x103, 0, 1), (0x105, 2, 8)]
     {
         source.store(1, part_type, selector.to_le_bytes(), &value(length)).unwrap();
     }
+    source.store(1, 0x104, 3u64.to_le_bytes(), &queue(512, 0xfe)).unwrap();
     let capture = reply(&mut source, &get_all());
     let mut target = stopped(card(2, 4, 1, 1));
     assert_eq!(status(&mut target, &set(&[capture[8..].to_vec()])), OK);

@@ -14,7 +14,8 @@ const SET_ID: u32 = 1;
 /// A list of a few parts that member 1 takes.
 fn list() -> Vec<u8> {
     let skipped = flagged(1, part(0x1ff, 7, &[8; 5]));
-    [part(0x103, 0, &[4]), skipped, part(0x101, 0, &[9; 16]), part(0x104, 0, &[3; 32])].concat()
+    let queue = part(0x104, 0, &queue(8, 3));
+    [part(0x103, 0, &[4]), skipped, part(0x101, 0, &[9; 16]), queue].concat()
 }
 
 /// A good list of exactly so many bytes, 16 at least: one part that is skipped.

@@ -8,11 +8,14 @@ use plain_card::opcode::SUPPORTED;
 use plain_card::part::{inventory, Part, MAX_QUEUES};
 use plain_card::{Card, Setup};
 
-use super::{length, restore};
+use super::{length, restore, value};
 use crate::random::Random;
 
 /// The length of a record ahead of the bytes of its holding place.
 const FIELDS: usize = RECORD - ROOM;
+
+/// Where the queues stand among the values of a record.
+const FIRST_QUEUE: usize = 45;
 
 /// The numbers of a setup in range, more often at an end of it.
 pub fn setup_numbers(random: &mut Random) -> [u64; 4] {
@@ -64,7 +67,11 @@ pub fn other_record(random: &mut Random, setup: &Setup) -> Member {
     }
     for part in inventory(MAX_QUEUES).filter(|part| *part != Part::DeviceFeatures) {
         if random.chance(50) {
-            let value = random.bytes(part.length() as usize);
+            let value = match part {
+                // No part of the member: soundness does not look at it.
+                Part::Queue(index) if index >= setup.queues => value::any(random, part),
+                _ => value::good(random, part),
+            };
             member.values.get_mut(part).copy_from_slice(&value);
         }
     }
@@ -111,8 +118,9 @@ fn break_rule(random: &mut Random, card: &mut [u8]) {
     let member = if random.chance(40) { last } else { random.below(last + 1) };
     let record = HEADER + RECORD * member;
     let (objects, held, features) = (record + 1, record + 17, record + 19);
+    let queues = usize::from(card[1]);
     let valid = usize::from(card[2] + card[3]);
-    match random.below(10) {
+    match random.below(12) {
         0 => card[1] = random.pick(&[0, 5, 255]),
         1 => card[2 + random.below(2)] = random.pick(&[9, 16, 255]),
         2 => card[4 + random.below(16)] ^= 1 << random.below(8),
@@ -125,7 +133,11 @@ fn break_rule(random: &mut Random, card: &mut [u8]) {
             let number: u16 = random.pick(&[1026, 1027, 1280, 2049, 0x8000, 0xffff]);
             card[held..features].copy_from_slice(&number.to_le_bytes());
         }
-        _ => card[features + random.below(16)] ^= 1 << random.below(8),
+        9 => card[features + random.below(16)] ^= 1 << random.below(8),
+        _ => {
+            let queue = features + FIRST_QUEUE + 32 * random.below(queues);
+            card[queue..queue + 32].copy_from_slice(&value::bad_queue(random));
+        }
     }
 }
 

@@ -4,6 +4,7 @@ use plain_card::frame::{DATA, LONGEST};
 use plain_card::part::{inventory, Part, HEADER, OPTIONAL};
 use plain_card::Card;
 
+use super::value;
 use crate::part_bytes::{any_part, part, unread_selector};
 use crate::random::Random;
 
@@ -60,7 +61,7 @@ pub fn given(random: &mut Random, card: &Card) -> Vec<u8> {
             Some(record) if captured || name == Part::DeviceFeatures => {
                 part(name, record.values.get(name))
             }
-            _ => part(name, &random.bytes(name.length() as usize)),
+            _ => part(name, &value::good(random, name)),
         })
         .collect();
     if random.chance(25) {
@@ -152,7 +153,7 @@ fn make_bad(random: &mut Random, card: &Card, parts: &mut Vec<Vec<u8>>) {
     }
     let at = random.below(parts.len());
     let value = parts[at].len() - 16;
-    match random.below(8) {
+    match random.below(10) {
         0 => {
             let again = repeated(random, parts);
             insert(random, parts, again);
@@ -176,7 +177,12 @@ fn make_bad(random: &mut Random, card: &Card, parts: &mut Vec<Vec<u8>>) {
             insert(random, parts, part(Part::DeviceFeatures, &features));
         }
         5 => parts.push(vec![0; 1 + random.below(15)]),
-        6 => {
+        6 | 7 => {
+            let queue = Part::Queue(random.below(usize::from(card.setup.queues).clamp(1, 4)) as u8);
+            let value = value::bad_queue(random);
+            insert(random, parts, part(queue, &value));
+        }
+        8 => {
             let last = parts.len() - 1;
             let cut = random.below(parts[last].len());
             parts[last].truncate(cut);

@@ -7,10 +7,12 @@ mod length;
 mod list;
 mod restore;
 mod spoil;
+mod value;
 
 pub use card::{any_bytes, other_record, setup_numbers, sound_card};
 pub use list::{asked, given};
 pub use restore::{list_to_restore, set_id};
+pub use value::good as good_value;
 
 use plain_card::bytes::RECORD;
 use plain_card::opcode::Opcode;
@@ -152,7 +154,7 @@ fn store(random: &mut Random, card: &Card, favoured: Favoured) -> Call {
     let part = any_part_of(random, card);
     let mut part_type = part.part_type();
     let mut selector = part.selector();
-    let mut value = random.bytes(part.length() as usize);
+    let mut value = value::any(random, part);
     if random.chance(20) {
         for byte in crate::part_bytes::unread_selector(part_type) {
             selector[byte] = random.byte();

@@ -8,7 +8,7 @@ use plain_card::object::Kind;
 use plain_card::part::{inventory, Part, HEADER, OPTIONAL};
 use plain_card::{Card, Setup};
 
-use super::{any_member, length, list, member, placed, spoil, Favoured};
+use super::{any_member, length, list, member, placed, spoil, value, Favoured};
 use crate::call::Call;
 use crate::part_bytes::{any_part, part};
 use crate::random::Random;
@@ -152,7 +152,7 @@ fn whole_parts(list: &[u8]) -> (Vec<&[u8]>, &[u8]) {
 fn rest_of_part(random: &mut Random, setup: &Setup, list: &[u8]) -> Vec<u8> {
     let (_, last) = whole_parts(list);
     match header_length(last) {
-        Some(value) if value <= ROOM => random.bytes(HEADER + value - last.len()),
+        Some(value) if value <= ROOM => rest_of_value(random, setup, last, value),
         Some(_) => vec![],
         None if last.is_empty() => vec![],
         None => {
@@ -167,6 +167,16 @@ fn rest_of_part(random: &mut Random, setup: &Setup, list: &[u8]) -> Vec<u8> {
     }
 }
 
+/// What is missing of the value, of this length, of a part whose header is
+/// whole.
+fn rest_of_value(random: &mut Random, setup: &Setup, last: &[u8], length: usize) -> Vec<u8> {
+    let (header, start) = last.split_at(HEADER);
+    match Header::read(header).part(setup.queues) {
+        Some(part) if part.length() as usize == length => value::rest(random, part, start),
+        _ => random.bytes(length - start.len()),
+    }
+}
+
 /// The length of the value by the header that the bytes start with, if it is
 /// whole.
 fn header_length(bytes: &[u8]) -> Option<usize> {
@@ -177,7 +187,7 @@ fn header_length(bytes: &[u8]) -> Option<usize> {
 fn random_part(random: &mut Random, setup: &Setup, parts: &[Part]) -> Vec<u8> {
     match random.pick(parts) {
         name @ Part::DeviceFeatures => part(name, &setup.features),
-        name => part(name, &random.bytes(name.length() as usize)),
+        name => part(name, &value::good(random, name)),
     }
 }
 

@@ -20,6 +20,7 @@ mod objects;
 mod order;
 mod parts;
 mod programs;
+mod queue;
 mod restore;
 mod soundness;
 mod tools;
@@ -231,6 +232,7 @@ pub fn all() -> Vec<&'static Fault> {
         length::FAULTS,
         objects::FAULTS,
         parts::FAULTS,
+        queue::FAULTS,
         events::FAULTS,
         restore::FAULTS,
         exchange::FAULTS,

@@ -4,6 +4,7 @@ use plain_card::bytes::{HEADER, RECORD};
 use plain_card::frame::u16_at;
 use plain_card::holding::ROOM;
 use plain_card::opcode::SUPPORTED;
+use plain_card::queue;
 
 use super::{fault, Fault, Plant};
 
@@ -19,6 +20,8 @@ pub const FAULTS: &[Fault] = &[
     fault("sound: queue count not looked at", Plant::Repair(queues)),
     fault("sound: member's features not compared", Plant::Repair(features)),
     fault("sound: length held not looked at", Plant::Repair(held)),
+    fault("sound: queue sizes not looked at", Plant::Repair(queue_sizes)),
+    fault("sound: size of the first queue alone", Plant::Repair(first_queue)),
     fault("sound: bytes behind the last record", Plant::Repair(length)),
     fault("is sound: yes whenever the setup is", Plant::IsSound(setup_alone)),
     fault("is sound: list bits not looked at", Plant::IsSound(list_bits)),
@@ -27,6 +30,10 @@ pub const FAULTS: &[Fault] = &[
     fault("is sound: length held not looked at", Plant::IsSound(held)),
     fault("is sound: 1,025 bytes held", Plant::IsSound(held_1025)),
     fault("is sound: the bytes held looked at", Plant::IsSound(bytes_held)),
+    fault("is sound: queue sizes not looked at", Plant::IsSound(queue_sizes)),
+    fault("is sound: size of the first queue alone", Plant::IsSound(first_queue)),
+    fault("is sound: queue sizes of member 1 alone", Plant::IsSound(first_member)),
+    fault("is sound: queue sizes beyond Q looked at", Plant::IsSound(queues_beyond)),
     fault("is sound: features of member 16 skipped", Plant::IsSound(last_features)),
     fault("is sound: members past the 8th skipped", Plant::IsSound(past_8)),
     fault("is sound: a stopped last member is not", Plant::IsSound(stopped_last)),
@@ -123,6 +130,39 @@ fn bytes_held(card: &mut Vec<u8>) {
         let held = usize::from(u16_at(record, 17)).saturating_sub(1);
         let behind = record.get(RECORD - ROOM + held..).unwrap_or_default();
         if behind.iter().any(|byte| *byte != 0) {
+            record[0] = 2;
+        }
+    }
+}
+
+/// The queues of a record, those beyond Q too.
+fn queues_of(record: &mut [u8]) -> impl Iterator<Item = &mut [u8]> {
+    record[64..192].chunks_exact_mut(32)
+}
+
+/// A queue gets a value that it may have.
+fn allow(queue: &mut [u8]) {
+    if !queue::allowed(queue) {
+        queue.fill(0);
+    }
+}
+
+fn queue_sizes(card: &mut Vec<u8>) {
+    records(card).flat_map(queues_of).for_each(allow);
+}
+
+fn first_queue(card: &mut Vec<u8>) {
+    records(card).flat_map(|record| queues_of(record).skip(1)).for_each(allow);
+}
+
+fn first_member(card: &mut Vec<u8>) {
+    records(card).skip(1).flat_map(queues_of).for_each(allow);
+}
+
+/// A card with such a size in a queue that no member has counts as not sound.
+fn queues_beyond(card: &mut Vec<u8>) {
+    for record in records(card) {
+        if !queues_of(record).all(|queue| queue::allowed(queue)) {
             record[0] = 2;
         }
     }

@@ -132,6 +132,13 @@ pub fn part(part_type: u16, selector: u64, value: &[u8]) -> Vec<u8> {
     [header(part_type, selector, value.len() as u32), value.to_vec()].concat()
 }
 
+/// The value of a queue part: a size, and all other bytes the same.
+pub fn queue(size: u16, other: u8) -> [u8; 32] {
+    let mut value = [other; 32];
+    value[..2].copy_from_slice(&size.to_le_bytes());
+    value
+}
+
 /// The same part with these flags.
 pub fn flagged(flags: u8, mut part: Vec<u8>) -> Vec<u8> {
     part[2] = flags;
