@@ -6,6 +6,7 @@ use Rattle.demands.proofs.Refusals.{refusals-change-nothing}
 use Rattle.demands.proofs.Statuses.{statuses}
 use Rattle.demands.proofs.Examples.{examples-hold}
 use Rattle.demands.proofs.LengthExamples.{length-examples-hold}
+use Rattle.demands.proofs.QueueSizes.{rings-only, queue-examples-hold}
 use Rattle.demands.proofs.Taken.{taken}
 use Rattle.demands.proofs.ReadBack.{read-back}
 use Rattle.demands.proofs.AnyLength.{missing-is-zero, rest-is-ignored}
@@ -38,6 +39,8 @@ claims = record {
   restIsIgnored = rest-is-ignored;
   lengthExamples = length-examples-hold;
   placesFound = places-found;
+  ringsOnly = rings-only;
+  queueExamples = queue-examples-hold;
   commutation = commutation;
   commandsCommute = commands-commute;
   finishIsPartsSet = finish-is-parts-set;

@@ -1,6 +1,7 @@
 pub mod Model
 pub mod Examples
 pub mod LengthExamples
+pub mod QueueSizes
 pub mod WrongPrograms
 pub mod WrongProgramsExample
 pub mod Taken

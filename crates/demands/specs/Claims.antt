@@ -24,6 +24,7 @@ use Rattle.demands.specs.Calls.{Call, command, memberReset, cardReset, c
 use Rattle.demands.specs.Statuses.{Statuses}
 use Rattle.demands.specs.Examples.{ExamplesHold}
 use Rattle.demands.specs.Lengths.{LengthExamplesHold}
+use Rattle.demands.specs.QueueSizes.{RingsOnly, QueueExamplesHold}
 use Rattle.demands.specs.WrongPrograms.{WrongProgramsRejected}
 use Rattle.demands.specs.RoundTrip.{RoundTrip}
 use Rattle.demands.specs.Host.{Taken, ReadBack}
@@ -150,6 +151,11 @@ RestIsIgnored =
 -- It is the p-th exactly if the p-th part of the member's inventory is the one asked for, and none exactly if no part is:
 -- Places.antt. Example: ../proofs/PlacesExample.antt
 
+-- ---- REQUEST 5, SPEC 13.5: queue sizes that no ring has ----
+
+-- What a sound card holds, and the worked examples S1 to S6: QueueSizes.antt. That every call keeps it is StaysSound, and that
+-- a capture can still be set RoundTrip.
+
 -- ---- REQUEST 12, SPEC 13.12: calls for different members, in any order ----
 
 -- In any sequence of calls on any card, p, then x and y, then t, where x and y name different members: x and y can
@@ -209,6 +215,9 @@ pub record Claims : Type 1 where
   pub lengthExamples : LengthExamplesHold
   -- request 4
   pub placesFound : PlacesFound
+  -- request 5
+  pub ringsOnly : RingsOnly
+  pub queueExamples : QueueExamplesHold
   -- request 12
   pub commutation : Commutation
   pub commandsCommute : CommandsCommute

@@ -2,6 +2,7 @@ pub mod Calls
 pub mod Statuses
 pub mod Examples
 pub mod Lengths
+pub mod QueueSizes
 pub mod WrongPrograms
 pub mod RoundTrip
 pub mod Host

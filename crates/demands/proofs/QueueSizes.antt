@@ -1,0 +1,32 @@
+-- A sound card holds no queue size that no ring has, and the worked examples hold, by computation. Assumes nothing.
+use mathlib.Core.Path.{_≡_, refl}
+use mathlib.Core.Bool.{true}
+use Prim.Native.Nat.{ℕ, zero, suc, _≤_}
+use native.Mathlib.Omega.{arith}
+use borrow.Author.Tests.{eqb-true}
+use Rattle.theory.proofs.Tests.{both, either}
+use Rattle.inventory.specs.Queue.{powerBelow, ringSize, queueAllowed}
+use Rattle.inventory.proofs.Queue.{each-allowed}
+use Rattle.card.proofs.SoundLaws.{sound-of, sound-member-in}
+use Rattle.demands.specs.QueueSizes.{Ring, power, unused, RingsOnly, queueExamples, QueueExamplesHold}
+use Rattle.demands.proofs.Model.{model}
+
+is-power : (k n e : ℕ) → k ≤ 16 → powerBelow k n ≡ true → Ring n e
+unfolding powerBelow
+is-power zero n e h t = absurd (let y : _≡_ {A = ℕ} 0 1 = cc in omega arith)
+is-power (suc k) n e h t = either _ _ t (λ q. power {k = k} (omega arith) (eqb-true _ _ q)) (is-power k n e (omega arith))
+
+is-ring : (n e : ℕ) → ringSize n e ≡ true → Ring n e
+unfolding ringSize
+is-ring n e t =
+    either _ _ t (is-power 16 n e (omega arith)) (λ q. let b = both _ _ q in unused (eqb-true _ _ (b .0)) (eqb-true _ _ (b .1)))
+
+pub rings-only : RingsOnly
+unfolding queueAllowed
+rings-only c e m h k l =
+    let s = sound-of c e in
+    is-ring _ _ (each-allowed _ _ (sound-member-in c s m h .allowed) k l (omega (arith, s .numbers .fewQueues)))
+
+pub queue-examples-hold : QueueExamplesHold
+unfolding model queueExamples
+queue-examples-hold = refl
