@@ -23,7 +23,7 @@ use Rattle.member.specs.Member.{featuresSize, freshOf}
 use Rattle.member.proofs.Record.{Shaped, length-member, member-back}
 use Rattle.member.proofs.Sound.{sound-fresh}
 use Rattle.card.specs.declared.Setup.{Setup}
-use Rattle.card.specs.Layout.{featuresAt, inUseAt, cardHeaderSize, memberBytesAt, holdingAt, recordSize, cardSize, setupIn, setupOf, inUseOf, withInUse, recordAt, HasRecord, recordBytes, withRecordBytes, memberBytesIn, memberIn, withMember, holdingIn, withHolding, noBytes, freshRecord, withFresh, freshHeader, freshCard}
+use Rattle.card.specs.Layout.{featuresAt, inUseAt, cardHeaderSize, memberBytesAt, configurationAt, configurationSize, generationAt, generationSize, holdingAt, recordSize, cardSize, setupIn, setupOf, inUseOf, withInUse, recordAt, HasRecord, recordBytes, withRecordBytes, memberBytesIn, memberIn, withMember, configurationIn, generationIn, withConfiguration, noConfiguration, holdingIn, withHolding, noBytes, freshRecord, withFresh, freshHeader, freshCard}
 
 -- ---- bytes of a record ----
 
@@ -44,6 +44,13 @@ has-header c m h = omega (arith, h .high)
 pub bytes-long : (c : List ℕ) (m at n : ℕ) → HasRecord c m → at + n ≤ recordSize → length (recordBytes c m at n) ≡ n
 unfolding recordBytes
 bytes-long c m at n h i = length-bytesAt (recordAt m + at) n c (omega (arith, h .high))
+
+-- the member's bytes are the front of its record
+member-front : (c : List ℕ) (m : ℕ) (r : List ℕ) → recordBytes c m 0 recordSize ≡ r → memberBytesIn c m ≡ bytesAt memberBytesAt memberSize r
+unfolding recordBytes
+member-front c m r e =
+    let k : recordAt m + 0 + memberBytesAt ≡ recordAt m + memberBytesAt = omega arith in
+    rw (← e, bytesAt-bytesAt memberBytesAt memberSize (recordAt m + 0) recordSize c (omega arith), k)
 
 -- to put what is there changes nothing
 pub bytes-back : (c : List ℕ) (m at n : ℕ) → withRecordBytes c m at n (recordBytes c m at n) ≡ c
@@ -114,6 +121,12 @@ module _ (c : List ℕ) (m at n : ℕ) (x : List ℕ) where
         by-cases (leb k m)
         (λ t. put-comm (recordAt k + p) (take j y) (recordAt m + at) (take n x) c (omega tests))
         (λ t. sym (put-comm (recordAt m + at) (take n x) (recordAt k + p) (take j y) c (omega tests)))
+
+    -- bytes behind a member's touch no member
+    pub bytes-behind : configurationAt ≤ at → (k : ℕ) → 1 ≤ k → memberBytesIn (withRecordBytes c m at n x) k ≡ memberBytesIn c k
+    bytes-behind b k h = by-cases (eqb k m)
+        (λ t. rw (eqb-true k m t) (bytes-before memberBytesAt memberSize (omega arith)))
+        (λ t. bytes-other k memberBytesAt memberSize (omega arith) h (eqb-false k m t))
 
   -- byte by byte
   pub bytes-eq : HasRecord c m → at + n ≤ recordSize → length x ≡ n
@@ -215,64 +228,67 @@ module _ (h : List ℕ) (mask : ℕ) (q : List ℕ) (e : length h ≡ inUseAt) w
 unfoldable numbersOf : Setup → List ℕ
 numbersOf s = s .members ∷ s .queues ∷ s .gets ∷ s .sets ∷ s .features
 
-unfoldable recordsOf : Setup → List ℕ
-recordsOf s = repeat (s .members) (freshRecord (s .features))
+unfoldable recordsOf : Setup → ℕ → List ℕ
+recordsOf s g = repeat (s .members) (freshRecord (s .features) g)
 
-fresh-laid : (s : Setup) → freshCard s ≡ numbersOf s ++ (bytes 8 freshMask ++ recordsOf s)
+fresh-laid : (s : Setup) (g : ℕ) → freshCard s g ≡ numbersOf s ++ (bytes 8 freshMask ++ recordsOf s g)
 unfolding freshCard freshHeader numbersOf recordsOf
-fresh-laid s = append-assoc (numbersOf s) (bytes 8 freshMask) (recordsOf s)
+fresh-laid s g = append-assoc (numbersOf s) (bytes 8 freshMask) (recordsOf s g)
 
 pub no-bytes-long : length noBytes ≡ holdingSize
 unfolding noBytes
 no-bytes-long = length-replicate {A = ℕ} holdingSize 0
 
--- f is the device features
-module _ (f : List ℕ) (e : length f ≡ featuresSize) where
-  pub fresh-shaped : Shaped (freshOf f)
-  fresh-shaped = sound-fresh 0 0 0 f e .shaped
+pub no-configuration-long : length noConfiguration ≡ configurationSize
+unfolding noConfiguration
+no-configuration-long = length-replicate {A = ℕ} configurationSize 0
 
-  pub fresh-record-long : length (freshRecord f) ≡ recordSize
+-- f is the device features, g the generation
+pub fresh-shaped : (f : List ℕ) → length f ≡ featuresSize → Shaped (freshOf f)
+fresh-shaped f e = sound-fresh 0 0 0 f e .shaped
+
+module _ (f : List ℕ) (g : ℕ) (e : length f ≡ featuresSize) where
+  pub fresh-record-long : length (freshRecord f g) ≡ recordSize
   unfolding freshRecord
-  fresh-record-long = rw (length-append, length-member _ fresh-shaped, no-bytes-long) (omega arith)
+  fresh-record-long =
+      let n = length-member _ (fresh-shaped f e) in
+      let b = length-bytes generationSize g in
+      rw (length-append, length-append, length-append) (omega (arith, no-configuration-long, no-bytes-long))
 
   -- its front is the member's
-  fresh-front : bytesAt memberBytesAt memberSize (freshRecord f) ≡ memberBytes (freshOf f)
+  fresh-front : bytesAt memberBytesAt memberSize (freshRecord f g) ≡ memberBytes (freshOf f)
   unfolding freshRecord
-  fresh-front = take-at (memberBytes (freshOf f)) noBytes memberSize (length-member _ fresh-shaped)
+  fresh-front = take-at (memberBytes (freshOf f)) _ memberSize (length-member _ (fresh-shaped f e))
 
-module _ (s : Setup) (e : length (s .features) ≡ featuresSize) where
-  numbers-long : length (numbersOf s) ≡ inUseAt
-  unfolding numbersOf
-  numbers-long = rw e
+numbers-long : (s : Setup) → length (s .features) ≡ featuresSize → length (numbersOf s) ≡ inUseAt
+unfolding numbersOf
+numbers-long s e = rw e
 
-  pub length-fresh : length (freshCard s) ≡ cardSize (s .members)
+module _ (s : Setup) (g : ℕ) (e : length (s .features) ≡ featuresSize) where
+  pub length-fresh : length (freshCard s g) ≡ cardSize (s .members)
   unfolding recordsOf
   length-fresh =
       let n = length-bytes 8 freshMask in
-      let f = length-repeat (s .members) recordSize (freshRecord (s .features)) (fresh-record-long (s .features) e) in
-      rw (fresh-laid s, length-append, length-append) (omega (arith, numbers-long))
+      let f = length-repeat (s .members) recordSize (freshRecord (s .features) g) (fresh-record-long (s .features) g e) in
+      rw (fresh-laid s g, length-append, length-append) (omega (arith, numbers-long s e))
 
-  pub setup-fresh : setupOf (freshCard s) ≡ s
+  pub setup-fresh : setupOf (freshCard s g) ≡ s
   unfolding setupOf setupIn numbersOf
-  setup-fresh = rw (fresh-laid s) (ap setupIn (setup-laid (numbersOf s) freshMask (recordsOf s) numbers-long))
+  setup-fresh = rw (fresh-laid s g) (ap setupIn (setup-laid (numbersOf s) freshMask (recordsOf s g) (numbers-long s e)))
 
-  pub use-fresh : inUseOf (freshCard s) ≡ freshMask
+  pub use-fresh : inUseOf (freshCard s g) ≡ freshMask
   unfolding inUseOf number
-  use-fresh = rw (fresh-laid s) (ap le (use-laid (numbersOf s) freshMask (recordsOf s) numbers-long) ∙ le-bytes 8 freshMask (omega arith))
+  use-fresh = rw (fresh-laid s g) (ap le (use-laid (numbersOf s) freshMask (recordsOf s g) (numbers-long s e)) ∙ le-bytes 8 freshMask (omega arith))
 
-  record-fresh : (m : ℕ) → 1 ≤ m → m ≤ s .members → bytesAt (recordAt m) recordSize (freshCard s) ≡ freshRecord (s .features)
-  unfolding recordsOf
+  record-fresh : (m : ℕ) → 1 ≤ m → m ≤ s .members → recordBytes (freshCard s g) m 0 recordSize ≡ freshRecord (s .features) g
+  unfolding recordsOf recordBytes
   record-fresh m l h =
-      rw (fresh-laid s)
-      (records-laid (numbersOf s) freshMask (recordsOf s) numbers-long (recordSize * (m - 1)) recordSize
-      ∙ bytesAt-repeat (s .members) recordSize (m - 1) (freshRecord (s .features)) (fresh-record-long (s .features) e) (omega arith))
+      rw (fresh-laid s g, add-zero)
+      (records-laid (numbersOf s) freshMask (recordsOf s g) (numbers-long s e) (recordSize * (m - 1)) recordSize
+      ∙ bytesAt-repeat (s .members) recordSize (m - 1) (freshRecord (s .features) g) (fresh-record-long (s .features) g e) (omega arith))
 
-  pub member-bytes-fresh : (m : ℕ) → 1 ≤ m → m ≤ s .members → memberBytesIn (freshCard s) m ≡ memberBytes (freshOf (s .features))
-  unfolding recordBytes
-  member-bytes-fresh m l h =
-      sym (bytesAt-bytesAt memberBytesAt memberSize (recordAt m) recordSize (freshCard s) (omega arith))
-      ∙ ap (bytesAt memberBytesAt memberSize) (record-fresh m l h)
-      ∙ fresh-front (s .features) e
+  pub member-bytes-fresh : (m : ℕ) → 1 ≤ m → m ≤ s .members → memberBytesIn (freshCard s g) m ≡ memberBytes (freshOf (s .features))
+  member-bytes-fresh m l h = member-front (freshCard s g) m _ (record-fresh m l h) ∙ fresh-front (s .features) g e
 
 -- ---- a member ----
 
@@ -321,9 +337,7 @@ module _ (c : List ℕ) (m : ℕ) (x : List ℕ) where
   -- no member is touched
   pub bytes-with-holding : (k : ℕ) → 1 ≤ m → 1 ≤ k → memberBytesIn (withHolding c m x) k ≡ memberBytesIn c k
   unfolding withHolding
-  bytes-with-holding k l h = by-cases (eqb k m)
-      (λ t. rw (eqb-true k m t) (bytes-before c m holdingAt holdingSize x memberBytesAt memberSize (omega arith)))
-      (λ t. bytes-other c m holdingAt holdingSize x (omega arith) l k memberBytesAt memberSize (omega arith) h (eqb-false k m t))
+  bytes-with-holding k l h = bytes-behind c m holdingAt holdingSize x (omega arith) l (omega arith) k h
 
   pub member-with-holding : (k : ℕ) → 1 ≤ m → 1 ≤ k → memberIn (withHolding c m x) k ≡ memberIn c k
   unfolding memberIn
@@ -344,80 +358,94 @@ module _ (c : List ℕ) (m : ℕ) (x : List ℕ) where
 
 -- ---- a fresh record ----
 
-module _ (c : List ℕ) (m : ℕ) (f : List ℕ) where
-  pub fresh-bytes : withFresh c m f ≡ withRecordBytes c m 0 recordSize (freshRecord f)
+module _ (c : List ℕ) (m : ℕ) (f : List ℕ) (g : ℕ) where
+  pub fresh-bytes : withFresh c m f g ≡ withRecordBytes c m 0 recordSize (freshRecord f g)
   unfolding withFresh
   fresh-bytes = refl
 
-  pub length-with-fresh : length (withFresh c m f) ≡ length c
+  pub length-with-fresh : length (withFresh c m f g) ≡ length c
   unfolding withFresh
-  length-with-fresh = length-with-bytes c m 0 recordSize (freshRecord f)
+  length-with-fresh = length-with-bytes c m 0 recordSize (freshRecord f g)
 
-  pub setup-with-fresh : setupOf (withFresh c m f) ≡ setupOf c
+  pub setup-with-fresh : setupOf (withFresh c m f g) ≡ setupOf c
   unfolding withFresh
-  setup-with-fresh = setup-with-bytes c m 0 recordSize (freshRecord f)
+  setup-with-fresh = setup-with-bytes c m 0 recordSize (freshRecord f g)
 
-  pub use-with-fresh : inUseOf (withFresh c m f) ≡ inUseOf c
+  pub use-with-fresh : inUseOf (withFresh c m f g) ≡ inUseOf c
   unfolding withFresh
-  use-with-fresh = use-with-bytes c m 0 recordSize (freshRecord f)
+  use-with-fresh = use-with-bytes c m 0 recordSize (freshRecord f g)
 
   -- another record is as it was, and so is another member
-  pub fresh-apart : (k at n : ℕ) → at + n ≤ recordSize → 1 ≤ m → 1 ≤ k → k ≢ m → recordBytes (withFresh c m f) k at n ≡ recordBytes c k at n
+  pub fresh-apart : (k at n : ℕ) → at + n ≤ recordSize → 1 ≤ m → 1 ≤ k → k ≢ m → recordBytes (withFresh c m f g) k at n ≡ recordBytes c k at n
   unfolding withFresh
-  fresh-apart k at n i l h e = bytes-other c m 0 recordSize (freshRecord f) (omega arith) l k at n i h e
+  fresh-apart k at n i l h e = bytes-other c m 0 recordSize (freshRecord f g) (omega arith) l k at n i h e
 
-  pub fresh-other : (k : ℕ) → 1 ≤ m → 1 ≤ k → k ≢ m → memberIn (withFresh c m f) k ≡ memberIn c k
+  pub fresh-other : (k : ℕ) → 1 ≤ m → 1 ≤ k → k ≢ m → memberIn (withFresh c m f g) k ≡ memberIn c k
   unfolding memberIn
   fresh-other k l h n = ap memberOf (fresh-apart k memberBytesAt memberSize (omega arith) l h n)
 
   -- bytes of another record, and the list in use, are put in either order
   pub fresh-swap : (k at n : ℕ) (x : List ℕ) → 1 ≤ m → at + n ≤ recordSize → 1 ≤ k → k ≢ m
-      → withRecordBytes (withFresh c m f) k at n x ≡ withFresh (withRecordBytes c k at n x) m f
+      → withRecordBytes (withFresh c m f g) k at n x ≡ withFresh (withRecordBytes c k at n x) m f g
   unfolding withFresh
-  fresh-swap k at n x l i h e = bytes-swap c m 0 recordSize (freshRecord f) (omega arith) l k at n x i h e
+  fresh-swap k at n x l i h e = bytes-swap c m 0 recordSize (freshRecord f g) (omega arith) l k at n x i h e
 
-  pub fresh-use : (mask : ℕ) → withInUse (withFresh c m f) mask ≡ withFresh (withInUse c mask) m f
+  pub fresh-use : (mask : ℕ) → withInUse (withFresh c m f g) mask ≡ withFresh (withInUse c mask) m f g
   unfolding withFresh
-  fresh-use mask = use-swap c mask m 0 recordSize (freshRecord f)
+  fresh-use mask = use-swap c mask m 0 recordSize (freshRecord f g)
 
-  pub fresh-none : length c ≡ cardSize (setupOf c .members) → setupOf c .members < m → withFresh c m f ≡ c
+  pub fresh-none : length c ≡ cardSize (setupOf c .members) → setupOf c .members < m → withFresh c m f g ≡ c
   unfolding withFresh
-  fresh-none e h = bytes-none c m 0 recordSize (freshRecord f) e h
+  fresh-none e h = bytes-none c m 0 recordSize (freshRecord f g) e h
 
   module _ (e : length f ≡ featuresSize) where
     -- whatever was put in the record is covered
-    pub fresh-over : (at n : ℕ) (x : List ℕ) → at + n ≤ recordSize → withFresh (withRecordBytes c m at n x) m f ≡ withFresh c m f
+    pub fresh-over : (at n : ℕ) (x : List ℕ) → at + n ≤ recordSize → withFresh (withRecordBytes c m at n x) m f g ≡ withFresh c m f g
     unfolding withFresh
-    fresh-over at n x i = bytes-over c m at n x 0 recordSize (freshRecord f) (omega arith) (omega arith) (fresh-record-long f e)
+    fresh-over at n x i = bytes-over c m at n x 0 recordSize (freshRecord f g) (omega arith) (omega arith) (fresh-record-long f g e)
 
-    pub fresh-again : (g : List ℕ) → withFresh (withFresh c m g) m f ≡ withFresh c m f
+    pub fresh-again : (h : List ℕ) (k : ℕ) → withFresh (withFresh c m h k) m f g ≡ withFresh c m f g
     unfolding withFresh
-    fresh-again g = fresh-over 0 recordSize (freshRecord g) (omega arith)
+    fresh-again h k = fresh-over 0 recordSize (freshRecord h k) (omega arith)
 
     -- byte by byte
-    pub fresh-eq : HasRecord c m → withFresh c m f ≡ take (recordAt m) c ++ (freshRecord f ++ drop (recordAt m + recordSize) c)
+    pub fresh-eq : HasRecord c m → withFresh c m f g ≡ take (recordAt m) c ++ (freshRecord f g ++ drop (recordAt m + recordSize) c)
     unfolding withFresh
-    fresh-eq h = rw add-zero at (bytes-eq c m 0 recordSize (freshRecord f) h (omega arith) (fresh-record-long f e))
+    fresh-eq h = rw add-zero at (bytes-eq c m 0 recordSize (freshRecord f g) h (omega arith) (fresh-record-long f g e))
 
     -- as code leaves it that stores a fresh record from its place on
-    pub fresh-put : put (recordAt m) (freshRecord f) c ≡ withFresh c m f
+    pub fresh-put : put (recordAt m) (freshRecord f g) c ≡ withFresh c m f g
     unfolding withFresh withRecordBytes
-    fresh-put = rw (uncut recordSize (freshRecord f) (fresh-record-long f e), add-zero)
+    fresh-put = rw (uncut recordSize (freshRecord f g) (fresh-record-long f g e), add-zero)
 
--- as code leaves it that saves a fresh member and zeroes its holding place
-pub fresh-in-two : (c : List ℕ) (m : ℕ) (f : List ℕ) → length f ≡ featuresSize
-    → withFresh c m f ≡ withHolding (withMember c m (freshOf f)) m noBytes
-unfolding withFresh withMember withHolding withRecordBytes freshRecord
-fresh-in-two c m f e =
-    let n = length-member _ (fresh-shaped f e) in
-    let r : length (memberBytes (freshOf f) ++ noBytes) ≡ recordSize = rw (length-append, n, no-bytes-long) (omega arith) in
-    let k : recordAt m + 0 + length (memberBytes (freshOf f)) ≡ recordAt m + holdingAt = rw n (omega arith) in
-    rw (uncut recordSize _ r, uncut memberSize _ n, uncut holdingSize noBytes no-bytes-long, put-append (recordAt m + 0) (memberBytes (freshOf f)) noBytes c, k)
+-- as code leaves it that saves a fresh member, and makes the rest of its record fresh
+pub fresh-in-three : (c : List ℕ) (m : ℕ) (f : List ℕ) (g : ℕ) → length f ≡ featuresSize
+    → withFresh c m f g ≡ withHolding (withConfiguration (withMember c m (freshOf f)) m noConfiguration g) m noBytes
+unfolding withFresh withMember withConfiguration withHolding withRecordBytes freshRecord
+fresh-in-three c m f g e =
+    let x = memberBytes (freshOf f) in
+    let y = noConfiguration ++ bytes generationSize g in
+    let n : length x ≡ memberSize = length-member _ (fresh-shaped f e) in
+    let b = length-bytes generationSize g in
+    let k : length y ≡ configurationSize + generationSize = rw length-append (omega (arith, no-configuration-long)) in
+    let r : length (x ++ (y ++ noBytes)) ≡ recordSize = rw (length-append, length-append, n, k, no-bytes-long) (omega arith) in
+    let at : recordAt m + 0 + length x ≡ recordAt m + configurationAt = rw n (omega arith) in
+    let on : recordAt m + configurationAt + length y ≡ recordAt m + holdingAt = rw k (omega arith) in
+    rw (
+      ← append-assoc noConfiguration (bytes generationSize g) noBytes,
+      uncut recordSize _ r,
+      uncut memberSize x n,
+      uncut (configurationSize + generationSize) y k,
+      uncut holdingSize noBytes no-bytes-long,
+      put-append (recordAt m + 0) x (y ++ noBytes) c,
+      at,
+      put-append (recordAt m + configurationAt) y noBytes (put (recordAt m + 0) x c),
+      on,
+    )
 
 -- its member is fresh
-pub member-bytes-with-fresh : (c : List ℕ) (m : ℕ) (f : List ℕ) → length f ≡ featuresSize → HasRecord c m
-    → memberBytesIn (withFresh c m f) m ≡ memberBytes (freshOf f)
-unfolding withMember
-member-bytes-with-fresh c m f e h =
-    rw (fresh-in-two c m f e, bytes-with-holding (withMember c m (freshOf f)) m noBytes m (h .low) (h .low))
-    (bytes-same c m memberBytesAt memberSize _ h (omega arith) (length-member _ (fresh-shaped f e)))
+pub member-bytes-with-fresh : (c : List ℕ) (m : ℕ) (f : List ℕ) (g : ℕ) → length f ≡ featuresSize → HasRecord c m
+    → memberBytesIn (withFresh c m f g) m ≡ memberBytes (freshOf f)
+unfolding withFresh
+member-bytes-with-fresh c m f g e h =
+    member-front _ m _ (bytes-same c m 0 recordSize (freshRecord f g) h (omega arith) (fresh-record-long f g e)) ∙ fresh-front f g e

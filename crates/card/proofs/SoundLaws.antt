@@ -16,9 +16,10 @@ use Rattle.member.specs.Member.{featuresSize}
 use Rattle.member.proofs.Record.{length-member}
 use Rattle.member.proofs.Sound.{SoundMember, sound-record, sound-member, sound-fresh}
 use Rattle.card.specs.declared.Setup.{Setup}
-use Rattle.card.specs.Layout.{cardHeaderSize, memberBytesAt, recordSize, cardSize, setupOf, inUseOf, isMember, HasRecord, withRecordBytes, memberBytesIn, withInUse, memberIn, withMember, withHolding, freshRecord, withFresh, freshCard}
+use Rattle.card.specs.Layout.{cardHeaderSize, memberBytesAt, recordSize, cardSize, setupOf, inUseOf, isMember, HasRecord, withRecordBytes, memberBytesIn, withInUse, memberIn, withMember, withConfiguration, withHolding, freshRecord, withFresh, freshCard}
 use Rattle.card.specs.Sound.{inNumbers, soundSetup, soundFor, soundUpTo, isSound}
 use Rattle.card.proofs.LayoutLaws.{has-record, bytes-long, length-with-bytes, setup-with-bytes, use-with-bytes, bytes-same, bytes-other, length-with-use, setup-with-use, bytes-with-use, use-same, features-long, length-fresh, setup-fresh, use-fresh, member-bytes-fresh, fresh-bytes, member-bytes-with-fresh, length-with-holding, setup-with-holding, use-with-holding, bytes-with-holding}
+use Rattle.card.proofs.ConfigurationLaws.{length-with-configuration, setup-with-configuration, use-with-configuration, bytes-with-configuration}
 
 -- ---- the test, as facts, and back ----
 
@@ -125,14 +126,19 @@ sound-with-member c m x s low y = with-bytes c m memberBytesAt memberSize (membe
     rw (bytes-same c m memberBytesAt memberSize (memberBytes x) h (omega arith) (length-member x (y .shaped))) (sound-record _ _ _ _ x y)
 
 -- a fresh member
-pub sound-with-fresh : (c : List ℕ) (m : ℕ) → Sound c → 1 ≤ m → Sound (withFresh c m (setupOf c .features))
-sound-with-fresh c m s low =
+pub sound-with-fresh : (c : List ℕ) (m g : ℕ) → Sound c → 1 ≤ m → Sound (withFresh c m (setupOf c .features) g)
+sound-with-fresh c m g s low =
     let f = setupOf c .features in
     let e = features-long c (omega (arith, sound-long c s)) in
-    rw (fresh-bytes c m f) (with-bytes c m 0 recordSize (freshRecord f) s low (omega arith) λ h.
-    rw (← fresh-bytes c m f, member-bytes-with-fresh c m f e h) (sound-record _ _ _ _ _ (sound-fresh _ _ _ f e)))
+    rw (fresh-bytes c m f g) (with-bytes c m 0 recordSize (freshRecord f g) s low (omega arith) λ h.
+    rw (← fresh-bytes c m f g, member-bytes-with-fresh c m f g e h) (sound-record _ _ _ _ _ (sound-fresh _ _ _ f e)))
 
--- the bytes of a holding place, whatever they are
+-- what stands behind a member's bytes, whatever it is: its configuration and generation, the bytes of its holding place
+pub sound-with-configuration : (c : List ℕ) (m : ℕ) (x : List ℕ) (g : ℕ) → Sound c → 1 ≤ m → Sound (withConfiguration c m x g)
+sound-with-configuration c m x g s low =
+    kept c _ s (length-with-configuration c m x g) (setup-with-configuration c m x g) (rw use-with-configuration (s .supported))
+    (λ k l h. rw (bytes-with-configuration c m x g k low l) (s .each k l h))
+
 pub sound-with-holding : (c : List ℕ) (m : ℕ) (x : List ℕ) → Sound c → 1 ≤ m → Sound (withHolding c m x)
 sound-with-holding c m x s low =
     kept c _ s (length-with-holding c m x) (setup-with-holding c m x) (rw use-with-holding (s .supported))
@@ -145,13 +151,13 @@ sound-with-use c mask s u =
     (λ k l h. rw (bytes-with-use c mask k memberBytesAt memberSize) (s .each k l h))
 
 -- a fresh card
-pub sound-fresh-card : (s : Setup) → soundSetup s ≡ true → length (s .features) ≡ featuresSize → Sound (freshCard s)
-sound-fresh-card s e n =
-    let f = setup-fresh s n in
-    let g = sound-record (s .queues) (s .gets) (s .sets) (s .features) _ (sound-fresh (s .queues) (s .gets) (s .sets) (s .features) n) in
+pub sound-fresh-card : (s : Setup) (g : ℕ) → soundSetup s ≡ true → length (s .features) ≡ featuresSize → Sound (freshCard s g)
+sound-fresh-card s g e n =
+    let f = setup-fresh s g n in
+    let r = sound-record (s .queues) (s .gets) (s .sets) (s .features) _ (sound-fresh (s .queues) (s .gets) (s .sets) (s .features) n) in
     record {
-      long = rw f (length-fresh s n);
+      long = rw f (length-fresh s g n);
       numbers = rw f (numbers-of s e);
-      supported = rw (use-fresh s n) fresh-only;
-      each = rw f (λ m l h. rw (member-bytes-fresh s n m l h) g);
+      supported = rw (use-fresh s g n) fresh-only;
+      each = rw f (λ m l h. rw (member-bytes-fresh s g n m l h) r);
     }

@@ -12,8 +12,8 @@ use lib.Seq.{take-all}
 use Rattle.member.specs.declared.Member.{Member}
 use Rattle.member.specs.Record.{memberSize, holdingSize, memberBytes}
 use Rattle.member.specs.Member.{featuresSize, freshOf}
-use Rattle.card.specs.Layout.{memberBytesAt, holdingAt, recordAt, HasRecord, recordBytes, withRecordBytes, withMember, holdingIn, withHolding, noBytes, withFresh}
-use Rattle.card.proofs.LayoutLaws.{bytes-lent, fresh-in-two}
+use Rattle.card.specs.Layout.{memberBytesAt, holdingAt, recordAt, HasRecord, recordBytes, withRecordBytes, withMember, withConfiguration, noConfiguration, holdingIn, withHolding, noBytes, withFresh}
+use Rattle.card.proofs.LayoutLaws.{bytes-lent, fresh-in-three}
 
 -- the place of a member's bytes was lent and came back as `last`, as long as it was
 pub member-saved : (c : List ℕ) (m at : ℕ) (x : Member) (last : List ℕ) → at ≡ recordAt m → HasRecord c m → last ≡ memberBytes x
@@ -25,14 +25,14 @@ member-saved c m at x last e h q n =
     let z : at ≡ recordAt m + memberBytesAt = e ∙ sym (add-zero (recordAt m)) in
     bytes-lent c m memberBytesAt memberSize (memberBytes x) at (at + memberSize - at) last z (add-sub-cancel-left at memberSize) q l (omega arith) h
 
--- a fresh member was saved and its holding place zeroed
-pub member-reset : (c d e : List ℕ) (m : ℕ) (x : Member) (f : List ℕ) → length f ≡ featuresSize → x ≡ freshOf f → d ≡ withMember c m x
-    → e ≡ withHolding d m noBytes → e ≡ withFresh c m f
-member-reset c d e m x f n p q r = r ∙ rw (q, p) (sym (fresh-in-two c m f n))
+-- a fresh member was saved, its configuration zeroed with a generation given, and its holding place zeroed
+pub member-reset : (c d e r : List ℕ) (m : ℕ) (x : Member) (f : List ℕ) (g : ℕ) → length f ≡ featuresSize → x ≡ freshOf f → d ≡ withMember c m x
+    → e ≡ withConfiguration d m noConfiguration g → r ≡ withHolding e m noBytes → r ≡ withFresh c m f g
+member-reset c d e r m x f g n p q o i = i ∙ rw (o, q, p) (sym (fresh-in-three c m f g n))
 
 -- ---- the bytes of a holding place, from the place of the record ----
 
-module _ (c : List ℕ) (m p at : ℕ) (d : p ≡ recordAt m) (e : at ≡ p + memberSize) where
+module _ (c : List ℕ) (m p at : ℕ) (d : p ≡ recordAt m) (e : at ≡ p + holdingAt) where
   place : at ≡ recordAt m + holdingAt
   place = rw (e, d)
 

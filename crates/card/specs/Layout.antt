@@ -6,7 +6,7 @@ use Prim.Native.Nat.{ℕ, _+_, _*_, _-_, _≤_}
 use lib.ListN.{length, getD, take, drop, replicate}
 use Rattle.theory.specs.Logic.{if_then_else_, within}
 use Rattle.theory.specs.Bytes.{bytesAt, put, repeat}
-use Rattle.wire.specs.Le.{bytes, number}
+use Rattle.wire.specs.Le.{le, bytes, number}
 use Rattle.protocol.specs.Opcodes.{freshMask}
 use Rattle.member.specs.declared.Member.{Member}
 use Rattle.member.specs.Record.{memberSize, holdingSize, memberOf, memberBytes}
@@ -15,7 +15,7 @@ use Rattle.card.specs.declared.Setup.{Setup}
 
 -- raised whenever a card's bytes change their meaning
 abbrev pub version : ℕ
-version = 2
+version = 3
 
 -- header: N, Q, G, S 1 byte each, device features 16, list in use 8
 abbrev pub featuresAt : ℕ
@@ -27,12 +27,24 @@ inUseAt = 20
 abbrev pub cardHeaderSize : ℕ
 cardHeaderSize = 28
 
--- a record: the bytes of its member, then those of its holding place
+-- a record: the bytes of its member, its configuration and generation (02, request 3), the bytes of its holding place
 abbrev pub memberBytesAt : ℕ
 memberBytesAt = 0
 
+abbrev pub configurationAt : ℕ
+configurationAt = memberBytesAt + memberSize
+
+abbrev pub configurationSize : ℕ
+configurationSize = 12
+
+abbrev pub generationAt : ℕ
+generationAt = configurationAt + configurationSize
+
+abbrev pub generationSize : ℕ
+generationSize = 4
+
 abbrev pub holdingAt : ℕ
-holdingAt = memberBytesAt + memberSize
+holdingAt = generationAt + generationSize
 
 abbrev pub recordSize : ℕ
 recordSize = holdingAt + holdingSize
@@ -87,6 +99,20 @@ memberIn c m = memberOf (memberBytesIn c m)
 unfoldable pub withMember : List ℕ → ℕ → Member → List ℕ
 withMember c m x = withRecordBytes c m memberBytesAt memberSize (memberBytes x)
 
+-- the configuration of member m, and how often it was written (02, request 3); a message writes both
+unfoldable pub configurationIn : List ℕ → ℕ → List ℕ
+configurationIn c m = recordBytes c m configurationAt configurationSize
+
+unfoldable pub generationIn : List ℕ → ℕ → ℕ
+generationIn c m = le (recordBytes c m generationAt generationSize)
+
+unfoldable pub withConfiguration : List ℕ → ℕ → List ℕ → ℕ → List ℕ
+withConfiguration c m x generation =
+    withRecordBytes c m configurationAt (configurationSize + generationSize) (x ++ bytes generationSize generation)
+
+unfoldable pub noConfiguration : List ℕ
+noConfiguration = replicate configurationSize 0
+
 -- the bytes of member m's holding place; those of none are all zero
 unfoldable pub holdingIn : List ℕ → ℕ → List ℕ
 holdingIn c m = recordBytes c m holdingAt holdingSize
@@ -97,16 +123,17 @@ withHolding c m x = withRecordBytes c m holdingAt holdingSize x
 unfoldable pub noBytes : List ℕ
 noBytes = replicate holdingSize 0
 
--- the record of a fresh member
-unfoldable pub freshRecord : List ℕ → List ℕ
-freshRecord features = memberBytes (freshOf features) ++ noBytes
+-- the record of a fresh member, which starts from a generation that is given
+unfoldable pub freshRecord : List ℕ → ℕ → List ℕ
+freshRecord features generation =
+    memberBytes (freshOf features) ++ (noConfiguration ++ (bytes generationSize generation ++ noBytes))
 
-unfoldable pub withFresh : List ℕ → ℕ → List ℕ → List ℕ
-withFresh c m features = withRecordBytes c m 0 recordSize (freshRecord features)
+unfoldable pub withFresh : List ℕ → ℕ → List ℕ → ℕ → List ℕ
+withFresh c m features generation = withRecordBytes c m 0 recordSize (freshRecord features generation)
 
 -- fresh (01's term), SPEC 2.5: opcodes 0x00 and 0x01 are in use, and every member is fresh
 unfoldable pub freshHeader : Setup → List ℕ
 freshHeader s = (s .members ∷ s .queues ∷ s .gets ∷ s .sets ∷ s .features) ++ bytes 8 freshMask
 
-unfoldable pub freshCard : Setup → List ℕ
-freshCard s = freshHeader s ++ repeat (s .members) (freshRecord (s .features))
+unfoldable pub freshCard : Setup → ℕ → List ℕ
+freshCard s generation = freshHeader s ++ repeat (s .members) (freshRecord (s .features) generation)

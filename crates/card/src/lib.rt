@@ -6,7 +6,7 @@ ghost use lib.ListN.{length};
 ghost use Rattle.theory.specs.Bytes.{bytesAt, put};
 ghost use Rattle.protocol.specs.Opcodes.{supportedOnly};
 ghost use Rattle.member.specs.Record.{memberSize, holdingSize};
-ghost use Rattle.card.specs.Layout.{cardHeaderSize, cardSize, cardBytes, setupOf, inUseOf, withInUse, isMember, recordAt, HasRecord, memberBytesIn, memberIn, withMember, holdingIn, withHolding, noBytes, withFresh};
+ghost use Rattle.card.specs.Layout.{cardHeaderSize, cardSize, cardBytes, setupOf, inUseOf, withInUse, isMember, recordAt, HasRecord, memberBytesIn, memberIn, withMember, configurationSize, configurationIn, generationIn, withConfiguration, noConfiguration, holdingIn, withHolding, noBytes, withFresh};
 ghost use Rattle.card.specs.Sound.{inNumbers, soundSetup, soundFor, soundUpTo, isSound};
 use member::FEATURES_SIZE;
 use member::HOLDING_SIZE;
@@ -23,7 +23,7 @@ pub struct Setup {
 }
 
 // Raised whenever a card's bytes change their meaning.
-pub const VERSION: u32 = 2;
+pub const VERSION: u32 = 3;
 
 // Header: N, Q, G, S 1 byte each, device features 16, list in use 8; then a record for each member.
 const MEMBERS_AT: usize = 0;
@@ -40,8 +40,18 @@ pub const IN_USE_AT: usize = 20;
 
 const CARD_HEADER_SIZE: usize = 28;
 
-// A record: the bytes of its member, then those of its holding place.
-const RECORD_SIZE: usize = MEMBER_SIZE + HOLDING_SIZE;
+// A record: the bytes of its member, its configuration and generation, the bytes of its holding place.
+const CONFIGURATION_AT: usize = MEMBER_SIZE;
+
+pub const CONFIGURATION_SIZE: usize = 12;
+
+const GENERATION_AT: usize = CONFIGURATION_AT + CONFIGURATION_SIZE;
+
+const GENERATION_SIZE: usize = 4;
+
+const HOLDING_AT: usize = GENERATION_AT + GENERATION_SIZE;
+
+const RECORD_SIZE: usize = HOLDING_AT + HOLDING_SIZE;
 
 const MOST_MEMBERS: u64 = 16;
 
@@ -142,14 +152,55 @@ pub fn save_member(card: &mut [u8], m: u64, x: Member)
     member::save(x, &mut card[at..at + MEMBER_SIZE]);
 }
 
-// The record of member m becomes a fresh member's, whatever it holds.
-pub fn reset_record(card: &mut [u8], m: u64, features: [u8; FEATURES_SIZE])
+// The record of member m becomes a fresh member's, whatever it holds, and starts from this generation.
+pub fn reset_record(card: &mut [u8], m: u64, features: [u8; FEATURES_SIZE], generation: u32)
     requires { ⌜ HasRecord (now card) m ⌝ }
-    ensures { λ _. ⌜ now (card .exit) ≡ withFresh (now (card .entry)) m features ⌝ }
+    ensures { λ _. ⌜ now (card .exit) ≡ withFresh (now (card .entry)) m features generation ⌝ }
 {
     let x = load_member(card, m).reset(features);
     save_member(card, m, x);
+    reset_configuration(card, m, generation);
     zero_holding(card, m);
+}
+
+// The configuration bytes of member m, where they stand.
+pub fn configuration(card: &[u8], m: u64) -> &[u8]
+    requires { ⌜ HasRecord (now card) m ⌝ }
+    ensures { λ r. ⌜ now r ≡ configurationIn (now (card .entry)) m ⌝ }
+{
+    let at = record_at(m) + CONFIGURATION_AT;
+    &card[at..at + CONFIGURATION_SIZE]
+}
+
+pub fn generation(card: &[u8], m: u64) -> u32
+    requires { ⌜ HasRecord (now card) m ⌝ }
+    ensures { λ r. ⌜ r ≡ generationIn (now (card .entry)) m ⌝ }
+{
+    wire::read_u32(card, record_at(m) + GENERATION_AT)
+}
+
+// Bytes are written into its configuration from a place on, and this becomes its generation.
+pub fn write_configuration(card: &mut [u8], m: u64, from: usize, bytes: &[u8], generation: u32)
+    requires { ⌜ HasRecord (now card) m × (from + length (now bytes) ≤ configurationSize) ⌝ }
+    ensures { λ _. ⌜ now (card .exit) ≡ withConfiguration (now (card .entry)) m (put from (now (bytes .entry)) (configurationIn (now (card .entry)) m)) generation ⌝ }
+{
+    let at = record_at(m) + CONFIGURATION_AT;
+    wire::copy(card, at + from, bytes);
+    wire::write(
+        card,
+        at + CONFIGURATION_SIZE,
+        GENERATION_SIZE,
+        generation as u64,
+    );
+}
+
+// All of its configuration becomes zero.
+fn reset_configuration(card: &mut [u8], m: u64, generation: u32)
+    requires { ⌜ HasRecord (now card) m ⌝ }
+    ensures { λ _. ⌜ now (card .exit) ≡ withConfiguration (now (card .entry)) m noConfiguration generation ⌝ }
+{
+    let none = [0u8; CONFIGURATION_SIZE];
+    write_configuration(card, m, 0, &none, generation);
 }
 
 // The bytes of member m's holding place, where they stand.
@@ -157,7 +208,7 @@ pub fn holding(card: &[u8], m: u64) -> &[u8]
     requires { ⌜ HasRecord (now card) m ⌝ }
     ensures { λ r. ⌜ now r ≡ holdingIn (now (card .entry)) m ⌝ }
 {
-    let at = record_at(m) + MEMBER_SIZE;
+    let at = record_at(m) + HOLDING_AT;
     &card[at..at + HOLDING_SIZE]
 }
 
@@ -166,7 +217,7 @@ pub fn write_holding(card: &mut [u8], m: u64, from: usize, bytes: &[u8])
     requires { ⌜ HasRecord (now card) m × (from + length (now bytes) ≤ holdingSize) ⌝ }
     ensures { λ _. ⌜ now (card .exit) ≡ withHolding (now (card .entry)) m (put from (now (bytes .entry)) (holdingIn (now (card .entry)) m)) ⌝ }
 {
-    let at = record_at(m) + MEMBER_SIZE;
+    let at = record_at(m) + HOLDING_AT;
     wire::copy(card, at + from, bytes);
 }
 
@@ -175,7 +226,7 @@ pub fn zero_holding(card: &mut [u8], m: u64)
     requires { ⌜ HasRecord (now card) m ⌝ }
     ensures { λ _. ⌜ now (card .exit) ≡ withHolding (now (card .entry)) m noBytes ⌝ }
 {
-    let at = record_at(m) + MEMBER_SIZE;
+    let at = record_at(m) + HOLDING_AT;
     wire::zero(&mut card[at..at + HOLDING_SIZE]);
 }
 

@@ -106,19 +106,19 @@ module _ (n q g s : ℕ) (f c : List ℕ) (t : Bool) (e : t ≡ inNumbers n q g 
     pub setup-long : (x : Setup) → x ≡ setupWith n q g s f → length c ≡ cardSize (x .members)
     setup-long x r = rw r (eqb-true _ _ (both _ _ passed .1))
 
-    pub setup-done : (x : Setup) (d : List ℕ) → x ≡ setupWith n q g s f → d ≡ freshCard x → (Done, d) ≡ setUp c n q g s f
+    pub setup-done : (x : Setup) (d : List ℕ) → x ≡ setupWith n q g s f → d ≡ freshCard x 0 → (Done, d) ≡ setUp c n q g s f
     unfolding setUp
     setup-done x d r p = pass _ _ _ _ passed (ap (λ l. (Done, l)) (p ∙ rw r))
 
 -- ---- events ----
 
-pub member-reset : (c d : List ℕ) (m : ℕ) (s : Setup) → s ≡ setupOf c → d ≡ withFresh c m (s .features)
-    → _≡_ {A = EventAnswer × List ℕ} (Done, d) (Done, withFresh c m (setupOf c .features))
-member-reset c d m s e f = rw (f, e)
+pub member-reset : (c d : List ℕ) (m g : ℕ) (s : Setup) → s ≡ setupOf c → d ≡ withFresh c m (s .features) g
+    → _≡_ {A = EventAnswer × List ℕ} (Done, d) (Done, withFresh c m (setupOf c .features) g)
+member-reset c d m g s e f = rw (f, e)
 
-pub card-reset : (c d : List ℕ) (s : Setup) → s ≡ setupOf c → d ≡ freshCard s
-    → _≡_ {A = EventAnswer × List ℕ} (Done, d) (Done, freshCard (setupOf c))
-card-reset c d s e f = rw (f, e)
+pub card-reset : (c d : List ℕ) (g : ℕ) (s : Setup) → s ≡ setupOf c → d ≡ freshCard s g
+    → _≡_ {A = EventAnswer × List ℕ} (Done, d) (Done, freshCard (setupOf c) g)
+card-reset c d g s e f = rw (f, e)
 
 -- a card store: a is its answer, u whether it is done
 module _ (c : List ℕ) (m t s : ℕ) (value : List ℕ) (w : Setup) (a : EventAnswer) (u : Bool)

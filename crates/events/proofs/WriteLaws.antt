@@ -30,23 +30,23 @@ header-long : (s : Setup) → length (s .features) ≡ featuresSize → 0 + leng
 unfolding freshHeader
 header-long s e = rw (length-append, length-bytes 8 freshMask) (omega arith)
 
--- n fresh records with features f, of which m are written
-pub record Filled (f c₀ c : List ℕ) (n m : ℕ) : Type 0 where
+-- n fresh records with features f and generation g, of which m are written
+pub record Filled (f : List ℕ) (g : ℕ) (c₀ c : List ℕ) (n m : ℕ) : Type 0 where
   pub count : m ≤ n
   pub long : length c ≡ length c₀
-  pub whole : put cardHeaderSize (repeat n (freshRecord f)) c₀ ≡ put (cardHeaderSize + recordSize * m) (repeat (n - m) (freshRecord f)) c
+  pub whole : put cardHeaderSize (repeat n (freshRecord f g)) c₀ ≡ put (cardHeaderSize + recordSize * m) (repeat (n - m) (freshRecord f g)) c
 
-pub filled-start : (f c : List ℕ) (n : ℕ) → Filled f c c n 0
-filled-start f c n = record { count = omega arith; long = refl; whole = rw sub-zero }
+pub filled-start : (f : List ℕ) (g : ℕ) (c : List ℕ) (n : ℕ) → Filled f g c c n 0
+filled-start f g c n = record { count = omega arith; long = refl; whole = rw sub-zero }
 
-module _ (f c₀ c : List ℕ) (n m : ℕ) (w : Filled f c₀ c n m) where
+module _ (f : List ℕ) (g : ℕ) (c₀ c : List ℕ) (n m : ℕ) (w : Filled f g c₀ c n m) where
   pub filled-has : length c₀ ≡ cardSize n → m < n → HasRecord c (m + 1)
   filled-has e h = let l = w .long in record { low = omega arith; high = omega arith }
 
-  pub filled-on : (d : List ℕ) → length f ≡ featuresSize → m < n → d ≡ withFresh c (m + 1) f → Filled f c₀ d n (m + 1)
+  pub filled-on : (d : List ℕ) → length f ≡ featuresSize → m < n → d ≡ withFresh c (m + 1) f g → Filled f g c₀ d n (m + 1)
   filled-on d e h p =
-      let r = freshRecord f in
-      let l : length r ≡ recordSize = fresh-record-long f e in
+      let r = freshRecord f g in
+      let l : length r ≡ recordSize = fresh-record-long f g e in
       let at : cardHeaderSize + recordSize * m ≡ recordAt (m + 1) = omega arith in
       let on : recordAt (m + 1) + length r ≡ cardHeaderSize + recordSize * (m + 1) = omega arith in
       record {
@@ -54,16 +54,16 @@ module _ (f c₀ c : List ℕ) (n m : ℕ) (w : Filled f c₀ c n m) where
         long = rw (p, length-with-fresh) (w .long);
         whole =
             w .whole
-            ∙ rw (repeat-step n m r h, at, put-append (recordAt (m + 1)) r (repeat (n - (m + 1)) r) c, on, fresh-put c (m + 1) f e, p);
+            ∙ rw (repeat-step n m r h, at, put-append (recordAt (m + 1)) r (repeat (n - (m + 1)) r) c, on, fresh-put c (m + 1) f g e, p);
       }
 
-  pub filled-end : n ≤ m → c ≡ put cardHeaderSize (repeat n (freshRecord f)) c₀
-  filled-end h = sym (w .whole ∙ rw (repeat-end n m (freshRecord f) h) (put-nil _ c))
+  pub filled-end : n ≤ m → c ≡ put cardHeaderSize (repeat n (freshRecord f g)) c₀
+  filled-end h = sym (w .whole ∙ rw (repeat-end n m (freshRecord f g) h) (put-nil _ c))
 
 -- the header and the records are the whole card
-pub fresh-written : (s : Setup) (c₀ c₁ c₂ : List ℕ) (n : ℕ) → length (s .features) ≡ featuresSize → length c₀ ≡ cardSize (s .members) → n ≡ s .members
-    → c₁ ≡ put 0 (freshHeader s) c₀ → c₂ ≡ put cardHeaderSize (repeat n (freshRecord (s .features))) c₁ → c₂ ≡ freshCard s
+pub fresh-written : (s : Setup) (c₀ c₁ c₂ : List ℕ) (n g : ℕ) → length (s .features) ≡ featuresSize → length c₀ ≡ cardSize (s .members) → n ≡ s .members
+    → c₁ ≡ put 0 (freshHeader s) c₀ → c₂ ≡ put cardHeaderSize (repeat n (freshRecord (s .features) g)) c₁ → c₂ ≡ freshCard s g
 unfolding freshCard
-fresh-written s c₀ c₁ c₂ n e l k p q =
+fresh-written s c₀ c₁ c₂ n g e l k p q =
     let h : 0 + length (freshHeader s) ≡ cardHeaderSize = header-long s e in
-    q ∙ rw (p, k, ← h) (sym (put-append 0 (freshHeader s) _ c₀) ∙ put-all (freshCard s) c₀ (length-fresh s e ∙ sym l))
+    q ∙ rw (p, k, ← h) (sym (put-append 0 (freshHeader s) _ c₀) ∙ put-all (freshCard s g) c₀ (length-fresh s g e ∙ sym l))

@@ -26,12 +26,13 @@ pub record InBounds (members queues gets sets : ℕ) : Type 0 where
   pub fewGets : gets ≤ 8
   pub fewSets : sets ≤ 8
 
--- setup, SPEC 7.2: c is the buffer, of which the length alone counts; refused, it becomes zeros
+-- setup, SPEC 7.2: c is the buffer, of which the length alone counts; refused, it becomes zeros. A new card starts from
+-- generation 0 (02, request 3)
 unfoldable pub setUp : List ℕ → ℕ → ℕ → ℕ → ℕ → List ℕ → EventAnswer × List ℕ
 setUp c members queues gets sets features =
     unless inNumbers members queues gets sets and eqb (length features) featuresSize and eqb (length c) (cardSize members)
     answer (BadSetup, replicate (length c) 0) then
-    (Done, freshCard (setupWith members queues gets sets features))
+    (Done, freshCard (setupWith members queues gets sets features) 0)
 
 -- an event for one member: refused on a card that is not sound, and for a member that it has not got
 unfoldable pub memberAnswer : List ℕ → ℕ → EventAnswer
@@ -47,15 +48,15 @@ ifDone a next c = unless isEventDone a answer (a, c) then next
 unfoldable pub onMember : List ℕ → ℕ → EventAnswer × List ℕ → EventAnswer × List ℕ
 onMember c m next = ifDone (memberAnswer c m) next c
 
--- member reset, SPEC 7.3: the member becomes fresh, and nothing else changes
-unfoldable pub resetMember : List ℕ → ℕ → EventAnswer × List ℕ
-resetMember c m = onMember c m (Done, withFresh c m (setupOf c .features))
+-- member reset, SPEC 7.3: the member becomes fresh, with the generation given (02, request 3), and nothing else changes
+unfoldable pub resetMember : List ℕ → ℕ → ℕ → EventAnswer × List ℕ
+resetMember c m generation = onMember c m (Done, withFresh c m (setupOf c .features) generation)
 
--- card reset, SPEC 7.4
-unfoldable pub resetCard : List ℕ → EventAnswer × List ℕ
-resetCard c =
+-- card reset, SPEC 7.4: one generation for all members
+unfoldable pub resetCard : List ℕ → ℕ → EventAnswer × List ℕ
+resetCard c generation =
     unless isSound c answer (NotSound, c) then
-    (Done, freshCard (setupOf c))
+    (Done, freshCard (setupOf c) generation)
 
 -- a card store (01's term), SPEC 7.5: the data path sets one part of one member, in either mode; s is the selector, to
 -- `store` the 8 selector bytes as a number

@@ -31,25 +31,25 @@ fn write_header(card: &mut [u8], s: Setup)
 }
 
 // The records of n fresh members.
-fn write_members(card: &mut [u8], n: u64, features: [u8; FEATURES_SIZE])
+fn write_members(card: &mut [u8], n: u64, features: [u8; FEATURES_SIZE], generation: u32)
     requires { ⌜ length (now card) ≡ cardSize n ⌝ }
-    ensures { λ _. ⌜ now (card .exit) ≡ put cardHeaderSize (repeat n (freshRecord features)) (now (card .entry)) ⌝ }
+    ensures { λ _. ⌜ now (card .exit) ≡ put cardHeaderSize (repeat n (freshRecord features generation)) (now (card .entry)) ⌝ }
 {
     let mut m: u64 = 0;
     while m < n {
         m += 1;
-        card::reset_record(card, m, features);
+        card::reset_record(card, m, features, generation);
     }
 }
 
 // Every byte of a fresh card.
-fn write_fresh(card: &mut [u8], s: Setup)
+fn write_fresh(card: &mut [u8], s: Setup, generation: u32)
     requires { ⌜ length (now card) ≡ cardSize (s .members) ⌝ }
-    ensures { λ _. ⌜ now (card .exit) ≡ freshCard s ⌝ }
+    ensures { λ _. ⌜ now (card .exit) ≡ freshCard s generation ⌝ }
 {
     write_header(card, s);
     let features = s.features;
-    write_members(card, s.members as u64, features);
+    write_members(card, s.members as u64, features, generation);
 }
 
 // Whether a setup is in the ranges of SPEC 2.1, its features are 16 bytes, and the buffer is one card long.
@@ -97,7 +97,7 @@ pub fn set_up(
         return EventAnswer::BadSetup;
     }
     let made = setup_from(members, queues, gets, sets, features);
-    write_fresh(card, made);
+    write_fresh(card, made, 0);
     EventAnswer::Done
 }
 
@@ -116,9 +116,9 @@ fn member_answer(card: &[u8], m: u64) -> EventAnswer
     EventAnswer::Done
 }
 
-// Reset of one member: it is fresh, and nothing else changes.
-pub fn reset_member(card: &mut [u8], m: u64) -> EventAnswer
-    ensures { λ r. ⌜ (r, now (card .exit)) ≡ resetMember (now (card .entry)) m ⌝ }
+// Reset of one member: it is fresh, with this generation, and nothing else changes.
+pub fn reset_member(card: &mut [u8], m: u64, generation: u32) -> EventAnswer
+    ensures { λ r. ⌜ (r, now (card .exit)) ≡ resetMember (now (card .entry)) m generation ⌝ }
 {
     let a = member_answer(card, m);
     if !protocol::is_event_done(a) {
@@ -126,19 +126,19 @@ pub fn reset_member(card: &mut [u8], m: u64) -> EventAnswer
     }
     let s = card::setup_of(card);
     let fresh = s.features;
-    card::reset_record(card, m, fresh);
+    card::reset_record(card, m, fresh, generation);
     EventAnswer::Done
 }
 
-// Reset of the whole card: as after setup.
-pub fn reset_card(card: &mut [u8]) -> EventAnswer
-    ensures { λ r. ⌜ (r, now (card .exit)) ≡ resetCard (now (card .entry)) ⌝ }
+// Reset of the whole card: as after setup, with this generation for all members.
+pub fn reset_card(card: &mut [u8], generation: u32) -> EventAnswer
+    ensures { λ r. ⌜ (r, now (card .exit)) ≡ resetCard (now (card .entry)) generation ⌝ }
 {
     if !card::is_sound(card) {
         return EventAnswer::NotSound;
     }
     let s = card::setup_of(card);
-    write_fresh(card, s);
+    write_fresh(card, s, generation);
     EventAnswer::Done
 }
 

@@ -8,4 +8,4 @@ pub reset-record-spec : {M : Type 1} → statement M
 reset-record-spec =
     tie.close
     (tie.spec (λ c κs. search needs) (λ c κs. search needs) (λ c κs. search needs) (λ c κs. search needs)
-    (λ c. search needs) (λ c. search (needs, member-reset)))
+    (λ c κs. search needs) (λ c. search needs) (λ c. search (needs, member-reset)))

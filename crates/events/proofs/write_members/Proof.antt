@@ -7,10 +7,10 @@ use Rattle.events.proofs.write_members.Statement.{statement}
 use Rattle.events.proofs.write_members.Tie as tie
 
 abbrev Inv-loop : tie.InvT-loop
-Inv-loop card₀ n features m₀ card m = Filled features card₀ card n m
+Inv-loop card₀ n features generation m₀ card m = Filled features generation card₀ card n m
 
 abbrev μ-loop : tie.MeasureT-loop
-μ-loop card₀ n features m₀ card m = n - m
+μ-loop card₀ n features generation m₀ card m = n - m
 
 pub write-members-spec : {M : Type 1} → statement M
 write-members-spec =
