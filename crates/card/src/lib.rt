@@ -179,13 +179,13 @@ pub fn generation(card: &[u8], m: u64) -> u32
     wire::read_u32(card, record_at(m) + GENERATION_AT)
 }
 
-// Bytes are written into its configuration from a place on, and this becomes its generation.
-pub fn write_configuration(card: &mut [u8], m: u64, from: usize, bytes: &[u8], generation: u32)
-    requires { ⌜ HasRecord (now card) m × (from + length (now bytes) ≤ configurationSize) ⌝ }
-    ensures { λ _. ⌜ now (card .exit) ≡ withConfiguration (now (card .entry)) m (put from (now (bytes .entry)) (configurationIn (now (card .entry)) m)) generation ⌝ }
+// Bytes are written into its configuration from an offset on, and this becomes its generation.
+pub fn write_configuration(card: &mut [u8], m: u64, offset: usize, bytes: &[u8], generation: u32)
+    requires { ⌜ HasRecord (now card) m × (offset + length (now bytes) ≤ configurationSize) ⌝ }
+    ensures { λ _. ⌜ now (card .exit) ≡ withConfiguration (now (card .entry)) m (put offset (now (bytes .entry)) (configurationIn (now (card .entry)) m)) generation ⌝ }
 {
     let at = record_at(m) + CONFIGURATION_AT;
-    wire::copy(card, at + from, bytes);
+    wire::copy(card, at + offset, bytes);
     wire::write(
         card,
         at + CONFIGURATION_SIZE,

@@ -26,8 +26,8 @@ use Rattle.demands.proofs.Isolation.{masking}
 names-one : (m k : ℕ) → m ≢ k → (x : Call) → names m x ≡ true → names k x ≡ false
 unfolding names
 names-one m k n (command r room) e = rw (eqb-true (targetOf r) m (both _ _ e .1), ne-eqb m k n) (and-false _)
-names-one m k n (memberReset j) e = refl
-names-one m k n cardReset e = refl
+names-one m k n (memberReset j g) e = refl
+names-one m k n (cardReset g) e = refl
 names-one m k n (cardStore j t s value) e = rw (eqb-true j m e) (ne-eqb m k n)
 names-one m k n (restoreBegin j) e = rw (eqb-true j m e) (ne-eqb m k n)
 names-one m k n (restoreFeed j x) e = rw (eqb-true j m e) (ne-eqb m k n)
@@ -39,13 +39,13 @@ names-one m k n (restoreDrop j) e = rw (eqb-true j m e) (ne-eqb m k n)
 module _ (m k : ℕ) (m-low : 1 ≤ m) (k-low : 1 ≤ k) (apart : m ≢ k) where
   -- m's record is in the card with k's masked
   record-there : (c : List ℕ) → recordBytes (mask k c) m 0 recordSize ≡ recordBytes c m 0 recordSize
-  record-there c = fresh-apart c k _ m 0 recordSize (omega arith) k-low m-low apart
+  record-there c = fresh-apart c k _ 0 m 0 recordSize (omega arith) k-low m-low apart
 
   -- and makes the card of the one with m's masked
   rebuilt : (c : List ℕ) → isSound c ≡ true → isMember c m ≡ true
       → withRecordBytes (mask m c) m 0 recordSize (recordBytes c m 0 recordSize) ≡ c
   rebuilt c s h =
-      rw (fresh-bytes c m (setupOf c .features))
+      rw (fresh-bytes c m (setupOf c .features) 0)
       (bytes-over c m 0 recordSize _ 0 recordSize _ (omega arith) (omega arith)
       (bytes-long c m 0 recordSize (sound-has c (sound-of c s) m h) (omega arith))
       ∙ bytes-back c m 0 recordSize)
@@ -54,7 +54,7 @@ module _ (m k : ℕ) (m-low : 1 ≤ m) (k-low : 1 ≤ k) (apart : m ≢ k) where
   determined a b sa sb e f =
       let same : recordBytes a m 0 recordSize ≡ recordBytes b m 0 recordSize =
       sym (record-there a) ∙ ap (λ c. recordBytes c m 0 recordSize) f ∙ record-there b in
-      let setups : setupOf a ≡ setupOf b = sym (setup-with-fresh a m _) ∙ ap setupOf e ∙ setup-with-fresh b m _ in
+      let setups : setupOf a ≡ setupOf b = sym (setup-with-fresh a m _ 0) ∙ ap setupOf e ∙ setup-with-fresh b m _ 0 in
       by-cases (isMember a m)
       (λ h. sym (rebuilt a sa h) ∙ rw (e, same) (rebuilt b sb (rw setups at h)))
       (λ h. sym (mask-none m m-low a sa h) ∙ e ∙ mask-none m m-low b sb (rw setups at h))

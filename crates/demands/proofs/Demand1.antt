@@ -68,7 +68,7 @@ sets-up = record {
       (λ t e.
       let p = both _ _ (both _ _ t .0) in
       let l = eqb-true _ _ (p .1) in
-      (is-sound _ (sound-fresh-card (setupWith n q g s f) (p .0) l), setup-fresh (setupWith n q g s f) l));
+      (is-sound _ (sound-fresh-card (setupWith n q g s f) 0 (p .0) l), setup-fresh (setupWith n q g s f) 0 l));
   refused = λ b n q g s f.
       unless-cases (λ (y : EventAnswer × List ℕ). y .0 ≢ Done → y .1 ≡ replicate (length b) 0) _ _ _
       (λ t e. refl) (λ t e. absurd (e refl));

@@ -63,9 +63,9 @@ leaves-outside m c _ (changed {d} l h at n x i) =
     let g = leaves-outside m c d l in
     record { before = f .before ∙ g .before; after = f .after ∙ g .after }
 
-reset-outside : (c : List ℕ) (m : ℕ) → DifferAtMost m (resetMember c m .1) c
+reset-outside : (c : List ℕ) (m g : ℕ) → DifferAtMost m (resetMember c m g .1) c
 unfolding resetMember withFresh
-reset-outside c m =
+reset-outside c m g =
     on-member-cases c m _ (λ (y : EventAnswer × List ℕ). DifferAtMost m (y .1) c) (λ a d. same _ _ c)
     (λ s h. bytes-outside m c 0 recordSize _ (omega arith))
 

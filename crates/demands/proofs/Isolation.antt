@@ -38,16 +38,16 @@ module _ (m : ℕ) (low : 1 ≤ m) (c : List ℕ) (e : isSound c ≡ true) where
       → (step (mask m c) x .1 ≡ step c x .1) × (mask m (step (mask m c) x .0) ≡ mask m (step c x .0))
   unfolding step resetMember resetCard store unless_answer_then_ names
   answers (command r room) n = let z = respond-answers m low c e r _ n in (ap written (z .0), z .1)
-  answers (memberReset k) n =
+  answers (memberReset k g) n =
       rw (on-sound c k _ e, on-sound (mask m c) k _ sound, setup-with-fresh) (by-cases (isMember c k)
       (λ t. rw t (
         refl,
         by-cases (eqb k m)
-            (λ q. rw (eqb-true k m q) (ap (mask m) (mask-again m c long)))
-            (λ q. mask-fresh m low c long k _ (within-low _ _ k t) (eqb-false k m q)),
+            (λ q. rw (eqb-true k m q) (ap (mask m) (mask-again m c long g)))
+            (λ q. mask-fresh m low c long k _ g (within-low _ _ k t) (eqb-false k m q)),
       ))
       (λ t. rw t (refl, mask-mask m c long)))
-  answers cardReset n = rw (e, sound, setup-with-fresh) (refl, refl)
+  answers (cardReset g) n = rw (e, sound, setup-with-fresh) (refl, refl)
   answers (cardStore k t s value) n =
       rw (on-sound c k _ e, on-sound (mask m c) k _ sound, setup-with-fresh) (by-cases (isMember c k)
       (λ h.
@@ -62,9 +62,9 @@ module _ (m : ℕ) (low : 1 ≤ m) (c : List ℕ) (e : isSound c ≡ true) where
   -- a reset of m, or of the whole card, leaves nothing of what was masked
   wiped : (x : Call) → Resets m x → step (mask m c) x ≡ step c x
   unfolding step resetMember resetCard unless_answer_then_
-  wiped _ ofMember =
+  wiped _ (ofMember {generation}) =
       rw (on-sound c m _ e, on-sound (mask m c) m _ sound, setup-with-fresh) (by-cases (isMember c m)
-      (λ t. rw (t, mask-again m c long))
+      (λ t. rw (t, mask-again m c long generation))
       (λ t. rw (t, mask-none m low c e t)))
   wiped _ ofCard = rw (e, sound, setup-with-fresh)
 
@@ -92,9 +92,9 @@ same-mask m c d e f h b =
     let s = sound-of c e in
     let n = features-long c (long m (within-low _ _ m h) c e) in
     rw (← g)
-    (fresh-eq c m (setupOf c .features) n (sound-has c s m h)
+    (fresh-eq c m (setupOf c .features) 0 n (sound-has c s m h)
     ∙ (rw (b .before, b .after))
-    ∙ sym (fresh-eq d m (setupOf c .features) n (sound-has d (sound-of d f) m (rw g at h))))
+    ∙ sym (fresh-eq d m (setupOf c .features) 0 n (sound-has d (sound-of d f) m (rw g at h))))
 
 pub isolation : Isolation
 isolation c₁ c₂ e₁ e₂ m h d =

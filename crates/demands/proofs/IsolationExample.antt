@@ -79,12 +79,12 @@ unfolding example
 sequences-differ = omega arith
 
 -- one reply before the reset, the reset, and two calls after it
-sees-four : length (seen (names 1) (length calls₁) (trace step card₁ (calls₁ ++ memberReset 1 ∷ later))) ≡ 4
+sees-four : length (seen (names 1) (length calls₁) (trace step card₁ (calls₁ ++ memberReset 1 7 ∷ later))) ≡ 4
 unfolding example
 sees-four = refl
 
-isolated : seen (names 1) (length calls₁) (trace step card₁ (calls₁ ++ memberReset 1 ∷ later))
-    ≡ seen (names 1) (length calls₂) (trace step card₂ (calls₂ ++ memberReset 1 ∷ later))
+isolated : seen (names 1) (length calls₁) (trace step card₁ (calls₁ ++ memberReset 1 7 ∷ later))
+    ≡ seen (names 1) (length calls₂) (trace step card₂ (calls₂ ++ memberReset 1 7 ∷ later))
 isolated =
     isolation card₁ card₂ sound₁ sound₂ 1 member-here same-but-member
-    calls₁ calls₂ same-struck-out (memberReset 1) ofMember later
+    calls₁ calls₂ same-struck-out (memberReset 1 7) ofMember later

@@ -1,4 +1,4 @@
--- The mask of isolation puts a fresh record at member m. What calls do to the masked card. Assumes nothing.
+-- The mask of isolation puts a fresh record, with generation 0, at member m. What calls do to the masked card. Assumes nothing.
 use mathlib.Core.Path.{_≡_, refl, sym, _∙_}
 use mathlib.Core.Logic.{_≢_}
 use mathlib.Core.Bool.{true, false}
@@ -27,22 +27,22 @@ use Rattle.demands.specs.Calls.{command, names}
 use Rattle.admin.proofs.Respond.{lastAnswer, ended, respond-none, respond-is}
 use Rattle.demands.proofs.Named.{Leaves, unchanged, changed, leaves-long, names-is, asked-of}
 
--- the card with a fresh record at member m
+-- the card with a fresh record at member m, with generation 0
 abbrev pub mask : ℕ → List ℕ → List ℕ
-mask m c = withFresh c m (setupOf c .features)
+mask m c = withFresh c m (setupOf c .features) 0
 
 -- ---- the mask ----
 
 module _ (m : ℕ) (c : List ℕ) (long : inUseAt ≤ length c) where
   -- whatever stands in m's record is masked
   mask-over : (at n : ℕ) (x : List ℕ) → at + n ≤ recordSize → mask m (withRecordBytes c m at n x) ≡ mask m c
-  mask-over at n x i = rw setup-with-bytes (fresh-over c m (setupOf c .features) (features-long c long) at n x i)
+  mask-over at n x i = rw setup-with-bytes (fresh-over c m (setupOf c .features) 0 (features-long c long) at n x i)
 
-  pub mask-again : withFresh (mask m c) m (setupOf c .features) ≡ mask m c
-  mask-again = fresh-again c m (setupOf c .features) (features-long c long) (setupOf c .features)
+  pub mask-again : (g : ℕ) → withFresh (mask m c) m (setupOf c .features) g ≡ withFresh c m (setupOf c .features) g
+  mask-again g = fresh-again c m (setupOf c .features) g (features-long c long) (setupOf c .features) 0
 
   pub mask-mask : mask m (mask m c) ≡ mask m c
-  mask-mask = rw setup-with-fresh mask-again
+  mask-mask = rw setup-with-fresh (mask-again 0)
 
 pub mask-leaves : (m : ℕ) (c : List ℕ) → inUseAt ≤ length c → (d : List ℕ) → Leaves m c d → mask m d ≡ mask m c
 mask-leaves m c long _ unchanged = refl
@@ -53,20 +53,20 @@ module _ (m : ℕ) (low : 1 ≤ m) (c : List ℕ) (long : inUseAt ≤ length c) 
   pub mask-bytes : (k at n : ℕ) (x : List ℕ) → at + n ≤ recordSize → 1 ≤ k → k ≢ m
       → mask m (withRecordBytes (mask m c) k at n x) ≡ mask m (withRecordBytes c k at n x)
   mask-bytes k at n x i l e =
-      rw (fresh-swap c m (setupOf c .features) k at n x low i l e, setup-with-fresh, setup-with-bytes)
-      (fresh-again (withRecordBytes c k at n x) m (setupOf c .features) (features-long c long) _)
+      rw (fresh-swap c m (setupOf c .features) 0 k at n x low i l e, setup-with-fresh, setup-with-bytes)
+      (fresh-again (withRecordBytes c k at n x) m (setupOf c .features) 0 (features-long c long) _ 0)
 
   pub mask-member : (k : ℕ) (x : Member) → 1 ≤ k → k ≢ m → mask m (withMember (mask m c) k x) ≡ mask m (withMember c k x)
   unfolding withMember
   mask-member k x l e = mask-bytes k memberBytesAt memberSize (memberBytes x) (omega arith) l e
 
-  pub mask-fresh : (k : ℕ) (f : List ℕ) → 1 ≤ k → k ≢ m → mask m (withFresh (mask m c) k f) ≡ mask m (withFresh c k f)
-  mask-fresh k f l e = rw (fresh-bytes (mask m c) k f, fresh-bytes c k f) (mask-bytes k 0 recordSize (freshRecord f) (omega arith) l e)
+  pub mask-fresh : (k : ℕ) (f : List ℕ) (g : ℕ) → 1 ≤ k → k ≢ m → mask m (withFresh (mask m c) k f g) ≡ mask m (withFresh c k f g)
+  mask-fresh k f g l e = rw (fresh-bytes (mask m c) k f g, fresh-bytes c k f g) (mask-bytes k 0 recordSize (freshRecord f g) (omega arith) l e)
 
   mask-use : (u : ℕ) → mask m (withInUse (mask m c) u) ≡ mask m (withInUse c u)
   mask-use u =
-      rw (fresh-use c m (setupOf c .features) u, setup-with-fresh, setup-with-use)
-      (fresh-again (withInUse c u) m (setupOf c .features) (features-long c long) _)
+      rw (fresh-use c m (setupOf c .features) 0 u, setup-with-fresh, setup-with-use)
+      (fresh-again (withInUse c u) m (setupOf c .features) 0 (features-long c long) _ 0)
 
 -- ---- the masked card of a sound one ----
 
@@ -76,7 +76,7 @@ module _ (m : ℕ) (low : 1 ≤ m) (c : List ℕ) (e : isSound c ≡ true) where
 
   pub masked-sound : isSound (mask m c) ≡ true
   masked-sound =
-      is-sound _ (sound-with-fresh c m (sound-of c e) low)
+      is-sound _ (sound-with-fresh c m 0 (sound-of c e) low)
 
   -- a request asks the same of it
   masked-ask : (r : List ℕ) → askIn (mask m c) r ≡ askIn c r
@@ -88,7 +88,7 @@ module _ (m : ℕ) (low : 1 ≤ m) (c : List ℕ) (e : isSound c ≡ true) where
   mask-none t =
       let s = sound-of c e in
       let h : setupOf c .members < m = outside 1 (setupOf c .members) m t (λ z. absurd (omega arith)) (λ z. z) in
-      fresh-none c m _ (s .long) h
+      fresh-none c m _ 0 (s .long) h
 
 -- ---- a command that does not name m ----
 
@@ -109,7 +109,7 @@ module _ (m : ℕ) (low : 1 ≤ m) (c : List ℕ) (s : isSound c ≡ true) (r : 
       another = eqb-false k m (sym (names-is m r room _ k f) ∙ n)
 
       unmasked : memberIn (mask m c) k ≡ memberIn c k
-      unmasked = fresh-other c m (setupOf c .features) k low (f .low) another
+      unmasked = fresh-other c m (setupOf c .features) 0 k low (f .low) another
 
     perform-alike : (ids : ℕ) (a : Ask) → Facts (setupOf c .members) ids r a → Alike m (perform (mask m c) r a) (perform c r a)
     unfolding perform
@@ -151,7 +151,7 @@ pub store-answers : (m : ℕ) (low : 1 ≤ m) (c : List ℕ) (long : inUseAt ≤
     × (mask m (storeIn (mask m c) k t s value .1) ≡ mask m (storeIn c k t s value .1))
 unfolding storeIn ifDone unless_answer_then_
 store-answers m low c long k t s value l n =
-    rw (setup-with-fresh, fresh-other c m (setupOf c .features) k low l n)
+    rw (setup-with-fresh, fresh-other c m (setupOf c .features) 0 k low l n)
     (by-cases (isEventDone (storable (setupOf c .queues) t s value))
     (λ d. rw d (refl, mask-member m low c long k _ l n))
     (λ d. rw d (refl, mask-mask m c long)))

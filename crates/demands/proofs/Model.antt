@@ -19,7 +19,7 @@ use Rattle.member.specs.Member.{freshOf}
 use Rattle.member.specs.Sound.{soundRecord}
 use Rattle.changes.specs.Changes.{limited, createOf, modifyOf, destroyOf, setPartsOf}
 use Rattle.reads.specs.Reads.{queryOf, throughGet, selectedOf}
-use Rattle.card.specs.Layout.{setupIn, setupOf, inUseOf, withInUse, recordBytes, withRecordBytes, memberIn, withMember, holdingIn, withHolding, noBytes, freshRecord, withFresh, freshHeader, freshCard}
+use Rattle.card.specs.Layout.{setupIn, setupOf, inUseOf, withInUse, recordBytes, withRecordBytes, memberIn, withMember, configurationIn, generationIn, withConfiguration, noConfiguration, holdingIn, withHolding, noBytes, freshRecord, withFresh, freshHeader, freshCard}
 use Rattle.card.specs.Sound.{inNumbers, soundSetup, soundUpTo, isSound}
 use Rattle.events.specs.Events.{setUp, memberAnswer, ifDone, onMember, resetMember, resetCard, storeIn, store}
 use Rattle.frame.specs.Fields.{objectValid, flagsValid, kindValid, createIn, modifyIn, queryIn, destroyIn, metadataIn, getIn, setIn, modeIn, useIn, fieldsOf}
@@ -41,7 +41,7 @@ unfolding if_then_else_ unless_answer_then_ _and_ _or_ within indicator put repe
     known knownOrSkipped lengthRight sizeRight featuresSame asksKnown whole every among repeated causeIn askedIn storable stored applied
     headerItem headersOf partAt asks partItem partsWritten memberOf memberBytes lookupOf withObject count allUpTo withinLimits
     freshOf soundRecord limited createOf modifyOf destroyOf setPartsOf queryOf throughGet selectedOf
-    setupIn setupOf inUseOf withInUse recordBytes withRecordBytes memberIn withMember holdingIn withHolding noBytes freshRecord withFresh freshHeader freshCard inNumbers soundSetup soundUpTo isSound
+    setupIn setupOf inUseOf withInUse recordBytes withRecordBytes memberIn withMember configurationIn generationIn withConfiguration noConfiguration holdingIn withHolding noBytes freshRecord withFresh freshHeader freshCard inNumbers soundSetup soundUpTo isSound
     setUp memberAnswer ifDone onMember resetMember resetCard storeIn store
     objectValid flagsValid kindValid createIn modifyIn queryIn destroyIn metadataIn getIn setIn modeIn useIn fieldsOf
     usable reaches framedOf askOf numberBytes resultOf headOf finalOf replyOf replied askIn perform conclude respond

@@ -153,8 +153,8 @@ RestoreLeaves m c y = Leaves m c (y .1)
 pub named-leaves : (m : ℕ) (c : List ℕ) (x : Call) → names m x ≡ true → Leaves m c (step c x .0)
 unfolding step names store storeIn beginOf feedOf finishOf dropOf
 named-leaves m c (command r room) e = respond-leaves m c r _ e
-named-leaves m c (memberReset k) e = never e
-named-leaves m c cardReset e = never e
+named-leaves m c (memberReset k g) e = never e
+named-leaves m c (cardReset g) e = never e
 named-leaves m c (cardStore k t s value) e =
     rw (eqb-true k m e)
     (on-member-cases c m _ (EventLeaves m c) (λ a d. unchanged) λ i h.

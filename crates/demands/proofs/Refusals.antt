@@ -117,8 +117,8 @@ drop-keeps c m = on-open-cases c m _ (KeepsRestore c) (λ a e. refl) (λ p e. cc
 pub refusals-change-nothing : RefusalsChangeNothing
 unfolding step resetMember resetCard store storeIn refused KeepsEvent afterRefusal KeepsRestore DropsAlike
 refusals-change-nothing c (command r room) = respond-keeps c r _
-refusals-change-nothing c (memberReset m) = on-member-cases c m _ (KeepsEvent c) (λ a d e. refl) (λ s h e. cc)
-refusals-change-nothing c cardReset =
+refusals-change-nothing c (memberReset m g) = on-member-cases c m _ (KeepsEvent c) (λ a d e. refl) (λ s h e. cc)
+refusals-change-nothing c (cardReset g) =
     unless-cases (KeepsEvent c) _ _ _ (λ t e. refl) (λ t e. cc)
 refusals-change-nothing c (cardStore m t s value) =
     on-member-cases c m _ (KeepsEvent c) (λ a d e. refl) λ u h.
@@ -132,8 +132,8 @@ refusals-change-nothing c (restoreDrop m) = drop-keeps c m
 pub unsound-stays : (c : List ℕ) (x : Call) → isSound c ≡ false → step c x .0 ≡ c
 unfolding step resetMember resetCard store beginOf feedOf finishOf dropOf unless_answer_then_
 unsound-stays c (command r room) e = ap (λ (y : List ℕ × List ℕ). y .0) (respond-none c r _ (rw e (and-false _)))
-unsound-stays c (memberReset m) e = rw (on-unsound c m _ e)
-unsound-stays c cardReset e = rw e
+unsound-stays c (memberReset m g) e = rw (on-unsound c m _ e)
+unsound-stays c (cardReset g) e = rw e
 unsound-stays c (cardStore m t s value) e = rw (on-unsound c m _ e)
 unsound-stays c (restoreBegin m) e = rw (on-member-unsound c m _ e)
 unsound-stays c (restoreFeed m x) e = rw (on-open-unsound c m _ e)

@@ -38,18 +38,18 @@ pub record Alike (m : ℕ) (x y : ℕ × List ℕ) : Type 0 where
 module _ (m : ℕ) (low : 1 ≤ m) (k : ℕ) (l : 1 ≤ k) (o : k ≢ m) where
   module _ (c : List ℕ) where
     member-unmasked : memberIn (mask m c) k ≡ memberIn c k
-    member-unmasked = fresh-other c m (setupOf c .features) k low l o
+    member-unmasked = fresh-other c m (setupOf c .features) 0 k low l o
 
     bytes-unmasked : holdingIn (mask m c) k ≡ holdingIn c k
     unfolding holdingIn
-    bytes-unmasked = fresh-apart c m (setupOf c .features) k holdingAt holdingSize (omega arith) low l o
+    bytes-unmasked = fresh-apart c m (setupOf c .features) 0 k holdingAt holdingSize (omega arith) low l o
 
     number-unmasked : heldIn (mask m c) k ≡ heldIn c k
     number-unmasked = ap (λ (x : Member). x .held) member-unmasked
 
     swap-member : (x : Member) → withMember (mask m c) k x ≡ mask m (withMember c k x)
     unfolding withMember
-    swap-member x = rw setup-with-bytes (fresh-swap c m (setupOf c .features) k memberBytesAt memberSize (memberBytes x) low (omega arith) l o)
+    swap-member x = rw setup-with-bytes (fresh-swap c m (setupOf c .features) 0 k memberBytesAt memberSize (memberBytes x) low (omega arith) l o)
 
   -- it is changed in the masked card alike
   mask-holding : (c : List ℕ) → inUseAt ≤ length c → (x : List ℕ) → mask m (withHolding (mask m c) k x) ≡ mask m (withHolding c k x)

@@ -51,11 +51,11 @@ Leaves y = Sound (y .1)
 step-sound : (c : List ℕ) (x : Call) → Sound c → Sound (step c x .0)
 unfolding step resetMember resetCard store
 step-sound c (command r room) s = respond-sound c s r _
-step-sound c (memberReset m) s =
-    on-member-cases c m _ Leaves (λ a d. s) (λ e h. sound-with-fresh c m s (within-low _ _ m h))
-step-sound c cardReset s =
+step-sound c (memberReset m g) s =
+    on-member-cases c m _ Leaves (λ a d. s) (λ e h. sound-with-fresh c m g s (within-low _ _ m h))
+step-sound c (cardReset g) s =
     unless-cases Leaves _ _ _ (λ t. s) λ t.
-    sound-fresh-card (setupOf c) (numbers-sound _ (s .numbers)) (features-long c (omega (arith, sound-long c s)))
+    sound-fresh-card (setupOf c) g (numbers-sound _ (s .numbers)) (features-long c (omega (arith, sound-long c s)))
 step-sound c (cardStore m t k value) s = on-member-cases c m _ Leaves (λ a d. s) (λ e h. store-sound c s m t _ value h)
 step-sound c (restoreBegin m) s = sound-of _ (begin-sound c m (is-sound c s))
 step-sound c (restoreFeed m x) s = sound-of _ (feed-sound c m (is-sound c s) x)

@@ -34,8 +34,8 @@ place (x ∷ xs) = if x .applies then 0 else suc (place xs)
 
 placeFor : List ℕ → Call → ℕ
 placeFor c (command r room) = place (rows c r room)
-placeFor c (memberReset m) = 0
-placeFor c cardReset = 0
+placeFor c (memberReset m g) = 0
+placeFor c (cardReset g) = 0
 placeFor c (cardStore m t s value) = 0
 placeFor c (restoreBegin m) = 0
 placeFor c (restoreFeed m x) = 0

@@ -24,8 +24,8 @@ Answering = List ℕ → List ℕ → List ℕ × Reply → List ℕ × Reply
 answering : Answering → List ℕ → Call → List ℕ × Reply
 unfolding Answering
 answering f c (command r room) = f c r (step c (command r room))
-answering f c (memberReset m) = step c (memberReset m)
-answering f c cardReset = step c cardReset
+answering f c (memberReset m g) = step c (memberReset m g)
+answering f c (cardReset g) = step c (cardReset g)
 answering f c (cardStore m t s value) = step c (cardStore m t s value)
 answering f c (restoreBegin m) = step c (restoreBegin m)
 answering f c (restoreFeed m x) = step c (restoreFeed m x)
@@ -58,8 +58,8 @@ once : ℕ × List ℕ → Call → (ℕ × List ℕ) × Reply
 once s (command r room) =
     let x = step (s .1) (command r room) in
     if eqb (s .0) 0 then ((1, x .0), x .1) else (s, refuses 22 2)
-once s (memberReset m) = let x = step (s .1) (memberReset m) in ((s .0, x .0), x .1)
-once s cardReset = let x = step (s .1) cardReset in ((s .0, x .0), x .1)
+once s (memberReset m g) = let x = step (s .1) (memberReset m g) in ((s .0, x .0), x .1)
+once s (cardReset g) = let x = step (s .1) (cardReset g) in ((s .0, x .0), x .1)
 once s (cardStore m t k value) = let x = step (s .1) (cardStore m t k value) in ((s .0, x .0), x .1)
 once s (restoreBegin m) = let x = step (s .1) (restoreBegin m) in ((s .0, x .0), x .1)
 once s (restoreFeed m y) = let x = step (s .1) (restoreFeed m y) in ((s .0, x .0), x .1)

@@ -18,8 +18,9 @@ use Rattle.staging.specs.Staging.{beginOf, feedOf, finishOf, dropOf}
 -- bytes of its request and the length of its reply buffer, whose bytes do not count
 pub data Call : Type 0 where
   command : List ℕ → ℕ → Call
-  memberReset : ℕ → Call
-  cardReset : Call
+  -- a reset is given the generation to start from: 02, request 3
+  memberReset : ℕ → ℕ → Call
+  cardReset : ℕ → Call
   cardStore : ℕ → ℕ → ℕ → List ℕ → Call
   -- restore in fragments, SPEC 13.6: the reply is the answer
   restoreBegin : ℕ → Call
@@ -51,8 +52,8 @@ ofRestore x = (x .1, answered (x .0))
 -- one call on a card
 unfoldable pub step : List ℕ → Call → List ℕ × Reply
 step c (command r room) = ofCommand (respond c r room)
-step c (memberReset m) = ofEvent (resetMember c m)
-step c cardReset = ofEvent (resetCard c)
+step c (memberReset m generation) = ofEvent (resetMember c m generation)
+step c (cardReset generation) = ofEvent (resetCard c generation)
 step c (cardStore m t s value) = ofEvent (store c m t s value)
 step c (restoreBegin m) = ofRestore (beginOf c m)
 step c (restoreFeed m x) = ofRestore (feedOf c m x)
@@ -64,8 +65,8 @@ step c (restoreDrop m) = ofRestore (dropOf c m)
 unfoldable pub names : ℕ → Call → Bool
 names m (command r room) =
     within 24 4096 (length r) and eqb (groupOf r) 1 and namesMember (opcodeOf r) and eqb (targetOf r) m
-names m (memberReset k) = false
-names m cardReset = false
+names m (memberReset k generation) = false
+names m (cardReset generation) = false
 names m (cardStore k t s value) = eqb k m
 names m (restoreBegin k) = eqb k m
 names m (restoreFeed k x) = eqb k m
@@ -74,5 +75,5 @@ names m (restoreDrop k) = eqb k m
 
 -- a reset of m, SPEC 8.3: its own, or that of the whole card
 pub data Resets (m : ℕ) : Call → Type 0 where
-  ofMember : Resets m (memberReset m)
-  ofCard : Resets m cardReset
+  ofMember : {generation : ℕ} → Resets m (memberReset m generation)
+  ofCard : {generation : ℕ} → Resets m (cardReset generation)

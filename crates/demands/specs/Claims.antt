@@ -60,8 +60,8 @@ Delivered = (c r b : List ℕ) → Delivers c r b
 -- with the holding place gone. Examples: refused-command; refused-feed and refused-finish in ../proofs/RestoreExample.antt
 unfoldable pub afterRefusal : List ℕ → Call → List ℕ
 afterRefusal c (command r room) = c
-afterRefusal c (memberReset m) = c
-afterRefusal c cardReset = c
+afterRefusal c (memberReset m generation) = c
+afterRefusal c (cardReset generation) = c
 afterRefusal c (cardStore m t s value) = c
 afterRefusal c (restoreBegin m) = c
 afterRefusal c (restoreFeed m x) = dropOf c m .1
@@ -116,7 +116,7 @@ pub record Integrity : Type 0 where
   -- one that names m, and a reset of m, changes m's record at most: the setup, the list in use and every other record
   -- stay
   pub named : (c : List ℕ) (m : ℕ) (x : Call) → names m x ≡ true → DifferAtMost m (step c x .0) c
-  pub reset : (c : List ℕ) (m : ℕ) → DifferAtMost m (step c (memberReset m) .0) c
+  pub reset : (c : List ℕ) (m generation : ℕ) → DifferAtMost m (step c (memberReset m generation) .0) c
   -- list use changes the list in use alone
   pub listUse : (c r : List ℕ) (room : ℕ) → opcodeOf r ≡ 0x01 → SameOutside inUseAt 8 (step c (command r room) .0) c
   -- parts set keeps the member's mode and objects

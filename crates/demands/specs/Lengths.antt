@@ -42,7 +42,7 @@ lengthExamples =
     -- L7 selected, of one header and a half: 22/3, ahead of a buffer that is too short
     ∷ example objectsLive (command getHalf 8 ∷ []) (refuses 22 3 ∷ [])
     -- L8 after empty list use, list use is blocked too, until a reset of the card
-    ∷ example (useList 0x3fc03 ∷ sendData 0x01 [] ∷ []) (sendData 0x01 (bytes 8 3) ∷ cardReset ∷ sendData 0x00 [] ∷ [])
+    ∷ example (useList 0x3fc03 ∷ sendData 0x01 [] ∷ []) (sendData 0x01 (bytes 8 3) ∷ cardReset 0 ∷ sendData 0x00 [] ∷ [])
     (refuses 22 2 ∷ answered 0 ∷ gives (bytes 8 0x3fc03) ∷ [])
     -- L9 list use of 9 bytes, the last zero; of 3 bytes, the whole mask
     ∷ example [] (sendData 0x01 (bytes 8 3 ++ (0 ∷ [])) ∷ sendData 0x01 (0x03 ∷ 0xfc ∷ 0x03 ∷ []) ∷ setMode 1 1 ∷ [])

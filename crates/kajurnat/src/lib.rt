@@ -61,18 +61,19 @@ pub extern "C" fn kajurnat_command(card: &mut [u8], request: &[u8], reply: &mut 
     admin::command(card, request, reply)
 }
 
+// A reset is given the generation that the member, or every member, starts from.
 #[no_mangle]
-pub extern "C" fn kajurnat_reset_member(card: &mut [u8], member: u64) -> u8
-    ensures { λ r. ⌜ (r, now (card .exit)) ≡ numbered (resetMember (now (card .entry)) member) ⌝ }
+pub extern "C" fn kajurnat_reset_member(card: &mut [u8], member: u64, generation: u32) -> u8
+    ensures { λ r. ⌜ (r, now (card .exit)) ≡ numbered (resetMember (now (card .entry)) member generation) ⌝ }
 {
-    protocol::event_number(events::reset_member(card, member))
+    protocol::event_number(events::reset_member(card, member, generation))
 }
 
 #[no_mangle]
-pub extern "C" fn kajurnat_reset_card(card: &mut [u8]) -> u8
-    ensures { λ r. ⌜ (r, now (card .exit)) ≡ numbered (resetCard (now (card .entry))) ⌝ }
+pub extern "C" fn kajurnat_reset_card(card: &mut [u8], generation: u32) -> u8
+    ensures { λ r. ⌜ (r, now (card .exit)) ≡ numbered (resetCard (now (card .entry)) generation) ⌝ }
 {
-    protocol::event_number(events::reset_card(card))
+    protocol::event_number(events::reset_card(card, generation))
 }
 
 // The data path sets one part of a member; selector is the eight selector bytes as a little-endian number.

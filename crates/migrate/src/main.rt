@@ -293,7 +293,7 @@ fn second_place(card: &mut [u8], reply: &mut [u8], leaving: &[u8], arrived: &mut
 // The first place again: a reset, and another guest.
 fn next_guest(card: &mut [u8], reply: &mut [u8], next: &mut [u8]) {
     transcript::print(b"\nFirst card, member 2: reset, and the next guest\n");
-    kajurnat::kajurnat_reset_member(card, 2);
+    kajurnat::kajurnat_reset_member(card, 2, 0);
     prepare(card, 2, reply);
     get_all(card, 2, next);
 }
