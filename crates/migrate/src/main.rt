@@ -8,7 +8,7 @@ const MEMBERS: u64 = 4;
 
 const QUEUES: u64 = 2;
 
-const CARD: usize = 5020;
+const CARD: usize = 5084;
 // A full capture: the reply's head and all parts.
 const CAPTURE: usize = 309;
 
