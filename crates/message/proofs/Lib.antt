@@ -1,2 +1,5 @@
 pub mod Decoded
+pub mod Asked
 pub mod Responded
+pub mod Acted
+pub mod Whole

@@ -1,5 +1,5 @@
 -- What a message asks, SPEC 13.3: it depends on N and on the message's bytes, and on no member's record. Assumes nothing.
-use mathlib.Core.Bool.{Bool}
+use mathlib.Core.Bool.{Bool, false}
 use mathlib.Core.List.{List}
 use Prim.Native.Nat.{ℕ, _+_, _%_}
 use lib.Dec.{leb, ltb, eqb}
@@ -35,6 +35,12 @@ wholeOf x =
     if eqb (msgIdOf x) setConfig then writeIn x else
     Nothing
 
--- and its device number is below N
+-- whom such a request names (01's term), whatever the card
+unfoldable pub speaksFor : ℕ → Access → Bool
+speaksFor m Nothing = false
+speaksFor m (Read k offset n) = eqb k m
+speaksFor m (Write k sent offset n) = eqb k m
+
+-- on a card, its device number is below N
 unfoldable pub accessOf : ℕ → List ℕ → Access
 accessOf members x = unless ltb (devNumOf x) members answer Nothing then wholeOf x

@@ -4,8 +4,11 @@ ghost use mathlib.Core.Path.{_≡_};
 ghost use Prim.Native.Nat.{_+_, _≤_};
 ghost use lib.ListN.{length};
 ghost use Rattle.theory.specs.Bytes.{put};
-ghost use Rattle.message.specs.Format.{headerSize, devNumOf, dataAt, responseHeader, responseFields};
+ghost use Rattle.card.specs.Layout.{configurationSize, HasRecord};
+ghost use Rattle.message.specs.Format.{headerSize, devNumOf, dataAt, dataOf, responseHeader, responseFields, responseOf};
 ghost use Rattle.message.specs.Access.{isRequest, readIn, writeIn, wholeOf, accessOf};
+ghost use Rattle.message.specs.Message.{isInside, readable, isApplied, appliedTo, actOf, fitting, delivered, messageOf, sentIn};
+use card::CONFIGURATION_SIZE;
 
 // The header: type 1 byte, msg_id 1, dev_num 2, token 2, msg_size 2.
 const MSG_ID_AT: usize = 1;
@@ -143,4 +146,116 @@ fn write_fields(reply: &mut [u8], generation: u32, offset: u32, n: usize)
     wire::write(reply, HEADER_SIZE, 4, generation as u64);
     wire::write(reply, OFFSET_AT, 4, offset as u64);
     wire::write(reply, LENGTH_AT, 4, n as u64);
+}
+
+// The response to a message and its length; where it does not fit the buffer, 0, and nothing is written.
+fn write_response(
+    message: &[u8],
+    generation: u32,
+    offset: u32,
+    bytes: &[u8],
+    reply: &mut [u8],
+) -> usize
+    requires { ⌜ (headerSize ≤ length (now message)) × (length (now bytes) ≤ configurationSize) ⌝ }
+    ensures { λ r. ⌜ (r, now (reply .exit)) ≡ sentIn (responseOf (now (message .entry)) generation offset (now (bytes .entry))) (now (reply .entry)) ⌝ }
+{
+    let size = DATA_AT + bytes.len();
+    if reply.len() < size {
+        return 0;
+    }
+    write_header(reply, message, size);
+    write_fields(reply, generation, offset, bytes.len());
+    wire::copy(reply, DATA_AT, bytes);
+    size
+}
+
+// ---- act ----
+
+// Bytes within the configuration; the sum does not wrap.
+fn is_inside(offset: u32, n: u32) -> bool
+    ensures { λ r. ⌜ r ≡ isInside offset n ⌝ }
+{
+    offset as u64 + n as u64 <= CONFIGURATION_SIZE as u64
+}
+
+// Bytes of a configuration; none where they are not inside.
+fn readable(configuration: &[u8], offset: u32, n: u32) -> &[u8]
+    requires { ⌜ length (now configuration) ≡ configurationSize ⌝ }
+    ensures { λ r. ⌜ now r ≡ readable (now (configuration .entry)) offset n ⌝ }
+{
+    if !is_inside(offset, n) {
+        return &configuration[0..0];
+    }
+    let from = offset as usize;
+    &configuration[from..from + n as usize]
+}
+
+// A write that has bytes, of the current generation, inside.
+fn is_applied(current: u32, sent: u32, offset: u32, n: u32) -> bool
+    ensures { λ r. ⌜ r ≡ isApplied current sent offset n ⌝ }
+{
+    if n < 1 {
+        return false;
+    }
+    if sent != current {
+        return false;
+    }
+    is_inside(offset, n)
+}
+
+fn read_config(card: &[u8], m: u64, offset: u32, n: u32, message: &[u8], reply: &mut [u8]) -> usize
+    requires { ⌜ HasRecord (now card) m × (headerSize ≤ length (now message)) ⌝ }
+    ensures { λ r. ⌜ (r, (now (card .entry), now (reply .exit))) ≡ delivered (fitting (now (card .entry)) (length (now (reply .entry))) (actOf (now (card .entry)) (now (message .entry)) (Access.Read m offset n))) (now (reply .entry)) ⌝ }
+{
+    let bytes = readable(card::configuration(card, m), offset, n);
+    write_response(message, card::generation(card, m), offset, bytes, reply)
+}
+
+// A write that is applied. Its response is written first: where that does not fit, nothing is done.
+fn apply(card: &mut [u8], m: u64, offset: u32, message: &[u8], reply: &mut [u8]) -> usize
+    requires { ⌜ HasRecord (now card) m × (dataAt ≤ length (now message)) × (offset + length (dataOf (now message)) ≤ configurationSize) ⌝ }
+    ensures { λ r. ⌜ (r, (now (card .exit), now (reply .exit))) ≡ delivered (fitting (now (card .entry)) (length (now (reply .entry))) (appliedTo (now (card .entry)) m (now (message .entry)) offset)) (now (reply .entry)) ⌝ }
+{
+    let next = std::num::wrapping_add_u32(card::generation(card, m), 1);
+    let bytes = &message[DATA_AT..];
+    let size = write_response(message, next, offset, bytes, reply);
+    if size == 0 {
+        return 0;
+    }
+    card::write_configuration(card, m, offset as usize, bytes, next);
+    size
+}
+
+fn write_config(
+    card: &mut [u8],
+    m: u64,
+    sent: u32,
+    offset: u32,
+    n: u32,
+    message: &[u8],
+    reply: &mut [u8],
+) -> usize
+    requires { ⌜ HasRecord (now card) m × (dataAt + n ≡ length (now message)) ⌝ }
+    ensures { λ r. ⌜ (r, (now (card .exit), now (reply .exit))) ≡ delivered (fitting (now (card .entry)) (length (now (reply .entry))) (actOf (now (card .entry)) (now (message .entry)) (Access.Write m sent offset n))) (now (reply .entry)) ⌝ }
+{
+    let current = card::generation(card, m);
+    if is_applied(current, sent, offset, n) {
+        return apply(card, m, offset, message, reply);
+    }
+    write_response(message, current, offset, &message[0..0], reply)
+}
+
+// One message, whole: the bytes of its response, or 0.
+pub fn message(card: &mut [u8], message: &[u8], reply: &mut [u8]) -> usize
+    ensures { λ r. ⌜ (r, (now (card .exit), now (reply .exit))) ≡ messageOf (now (card .entry)) (now (message .entry)) (now (reply .entry)) ⌝ }
+{
+    if !card::is_sound(card) {
+        return 0;
+    }
+    let s = card::setup_of(card);
+    match decode(s.members, message) {
+        Access::Nothing => 0,
+        Access::Read(m, offset, n) => read_config(card, m, offset, n, message, reply),
+        Access::Write(m, sent, offset, n) => write_config(card, m, sent, offset, n, message, reply),
+    }
 }

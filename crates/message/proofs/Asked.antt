@@ -1,0 +1,45 @@
+-- What is known of a message by what it asks: whom it names, and how long it is. Assumes nothing.
+use mathlib.Core.Path.{_≡_}
+use mathlib.Core.Bool.{Bool, true}
+use mathlib.Core.List.{List}
+use Prim.Native.Nat.{ℕ, _+_, _≤_, _<_}
+use native.Mathlib.Omega.{arith}
+use borrow.Author.Tests.{leb-true, ltb-true, eqb-true}
+use lib.ListN.{length}
+use Rattle.theory.specs.Logic.{if_then_else_, unless_answer_then_}
+use Rattle.theory.proofs.Tests.{if-cases, unless-cases, both}
+use Rattle.message.specs.declared.Access.{Access}
+use Rattle.message.specs.declared.Access.the-variants.{Nothing, Read, Write}
+use Rattle.message.specs.Format.{headerSize, devNumOf, dataAt}
+use Rattle.message.specs.Access.{isRequest, readIn, writeIn, wholeOf, accessOf}
+
+-- it speaks for member m, one of the card's, and its header is there
+pub record Speaks (members : ℕ) (x : List ℕ) (m : ℕ) : Type 0 where
+  pub low : 1 ≤ m
+  pub high : m ≤ members
+  pub long : headerSize ≤ length x
+
+-- what each thing that is asked says of the message
+abbrev pub Facts : ℕ → List ℕ → Access → Type 0
+Facts members x Nothing = Unit {0}
+Facts members x (Read m offset n) = Speaks members x m
+Facts members x (Write m sent offset n) = Speaks members x m × (dataAt + n ≡ length x)
+
+module _ (members : ℕ) (x : List ℕ) where
+  guarded : (t : Bool) (a : Access) → (t ≡ true → Facts members x a) → Facts members x (unless t answer Nothing then a)
+  guarded t a f = unless-cases (Facts members x) t Nothing a (λ e. tt) f
+
+  whole-facts : devNumOf x < members → Facts members x (wholeOf x)
+  unfolding wholeOf isRequest readIn writeIn
+  whole-facts h = guarded _ _ λ e.
+      let s : Speaks members x (devNumOf x + 1) = record { low = omega arith; high = omega arith; long = leb-true _ _ (both _ _ (both _ _ e .0) .0) } in
+      if-cases (Facts members x) _ _ _ (λ t. guarded _ _ (λ u. s)) λ t.
+      if-cases (Facts members x) _ _ _ (λ u. guarded _ _ (λ v. (s, eqb-true _ _ v))) (λ u. tt)
+
+  -- nothing is asked of a card, or what the message asks of any
+  pub access-cases : (P : Access → Type 0) → P Nothing → (Facts members x (wholeOf x) → P (wholeOf x)) → P (accessOf members x)
+  unfolding accessOf
+  access-cases P f g = unless-cases P _ _ _ (λ e. f) (λ e. g (whole-facts (ltb-true _ _ e)))
+
+  pub asked : (a : Access) → a ≡ accessOf members x → Facts members x a
+  asked a e = rw e (access-cases (Facts members x) tt (λ f. f))
