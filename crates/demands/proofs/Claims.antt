@@ -17,6 +17,8 @@ use Rattle.demands.proofs.Isolation.{isolation}
 use Rattle.demands.proofs.Integrity.{integrity}
 use Rattle.demands.proofs.Commutation.{commutation, commands-commute}
 use Rattle.demands.proofs.HoldingKept.{holding-kept}
+use Rattle.demands.proofs.ConfigurationKept.{configuration-kept}
+use Rattle.demands.proofs.Messages.{responded, nothing-applied, only-configuration, message-examples-hold}
 use Rattle.staging.proofs.SetsParts.{finish-is-parts-set}
 use Rattle.staging.proofs.Cut.{holds-joined, cut-anywhere}
 
@@ -47,4 +49,9 @@ claims = record {
   holdsJoined = holds-joined;
   cutAnywhere = cut-anywhere;
   holdingKept = holding-kept;
+  responded = responded;
+  nothingApplied = nothing-applied;
+  onlyConfiguration = only-configuration;
+  configurationKept = configuration-kept;
+  messageExamples = message-examples-hold;
 }

@@ -15,7 +15,9 @@ use Rattle.card.specs.Sound.{isSound}
 use Rattle.card.proofs.LayoutLaws.{bytes-back, bytes-long, bytes-over, fresh-bytes, fresh-apart, setup-with-fresh}
 use Rattle.card.proofs.SoundLaws.{sound-of, sound-has}
 use Rattle.frame.specs.Frame.{targetOf}
-use Rattle.demands.specs.Calls.{Call, command, memberReset, cardReset, cardStore, restoreBegin, restoreFeed, restoreFinish, restoreDrop, step, names}
+use Rattle.demands.specs.Calls.{Call, command, memberReset, cardReset, cardStore, restoreBegin, restoreFeed, restoreFinish, restoreDrop, message, step, names}
+use Rattle.message.specs.Access.{wholeOf, speaksFor}
+use Rattle.message.proofs.Cases.{speaks-one}
 use Rattle.demands.specs.Claims.{Commutation, CommandsCommute}
 use Rattle.demands.proofs.Refusals.{unsound-stays}
 use Rattle.demands.proofs.Named.{leaves-none, named-leaves}
@@ -33,6 +35,7 @@ names-one m k n (restoreBegin j) e = rw (eqb-true j m e) (ne-eqb m k n)
 names-one m k n (restoreFeed j x) e = rw (eqb-true j m e) (ne-eqb m k n)
 names-one m k n (restoreFinish j id) e = rw (eqb-true j m e) (ne-eqb m k n)
 names-one m k n (restoreDrop j) e = rw (eqb-true j m e) (ne-eqb m k n)
+names-one m k n (message x room) e = by-cases (speaksFor k (wholeOf x)) (λ f. absurd (n (speaks-one (wholeOf x) m k e f))) (λ f. f)
 
 -- ---- two members ----
 

@@ -17,10 +17,11 @@ use Rattle.card.proofs.LayoutLaws.{features-long, same-setup, setup-with-fresh,
 use Rattle.card.proofs.SoundLaws.{sound-of, sound-has}
 use Rattle.events.specs.Events.{resetMember, resetCard, store}
 use Rattle.events.proofs.Cases.{on-sound}
-use Rattle.demands.specs.Calls.{Call, command, memberReset, cardReset, cardStore, restoreBegin, restoreFeed, restoreFinish, restoreDrop, written, answered, step, names, Resets, ofMember, ofCard}
+use Rattle.demands.specs.Calls.{Call, command, memberReset, cardReset, cardStore, restoreBegin, restoreFeed, restoreFinish, restoreDrop, message, written, answered, responded, step, names, Resets, ofMember, ofCard}
 use Rattle.demands.specs.Claims.{DifferAtMost, Isolation}
 use Rattle.demands.proofs.Sound.{stays-sound}
 use Rattle.demands.proofs.Named.{named-leaves}
+use Rattle.demands.proofs.MessageMask.{message-alike}
 use Rattle.demands.proofs.RestoreMask.{begin-alike, feed-alike, finish-alike, drop-alike}
 use Rattle.demands.proofs.Mask.{mask, mask-leaves, mask-mask, mask-again, mask-fresh, has-head, masked-sound, mask-none, respond-answers, store-answers}
 
@@ -58,6 +59,7 @@ module _ (m : ℕ) (low : 1 ≤ m) (c : List ℕ) (e : isSound c ≡ true) where
   answers (restoreFeed k x) n = let z = feed-alike m low c e k (eqb-false k m n) x in (ap answered (z .says), z .cards)
   answers (restoreFinish k id) n = let z = finish-alike m low c e k (eqb-false k m n) id in (ap answered (z .says), z .cards)
   answers (restoreDrop k) n = let z = drop-alike m low c e k (eqb-false k m n) in (ap answered (z .says), z .cards)
+  answers (message x room) n = let z = message-alike m low c e x n room in (ap responded (z .says), z .cards)
 
   -- a reset of m, or of the whole card, leaves nothing of what was masked
   wiped : (x : Call) → Resets m x → step (mask m c) x ≡ step c x

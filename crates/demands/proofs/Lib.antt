@@ -16,6 +16,7 @@ pub mod RoundTrip
 pub mod RoundTripExample
 pub mod Mask
 pub mod RestoreMask
+pub mod MessageMask
 pub mod Isolation
 pub mod IsolationExample
 pub mod Integrity
@@ -23,6 +24,9 @@ pub mod Commutation
 pub mod CommutationExample
 pub mod RestoreExample
 pub mod HoldingKept
+pub mod ConfigurationKept
+pub mod Messages
+pub mod MessageExample
 pub mod Statuses
 pub mod StatusesExample
 pub mod Places

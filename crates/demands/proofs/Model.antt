@@ -29,6 +29,9 @@ use Rattle.reply.specs.Reply.{headOf, finalOf, replyOf, replied}
 use Rattle.admin.specs.Command.{askIn, perform, conclude, respond}
 use Rattle.staging.specs.Staging.{withHeldBytes, withoutHeld, memberRefusal, openRefusal, ifNone, onMember as onRestoring, onOpen, beginOf, feedOf, finishOf, dropOf}
 use Rattle.staging.specs.Claims.{joined as fragmentsJoined, fed}
+use Rattle.message.specs.Format.{responseHeader, responseFields, responseOf}
+use Rattle.message.specs.Access.{isRequest, readIn, writeIn, wholeOf, speaksFor, accessOf}
+use Rattle.message.specs.Message.{isInside, readable, isApplied, nextGeneration, appliedTo, actOf, fitting, answerOf, delivered, messageOf}
 use Rattle.demands.specs.Calls.{refused, step, names}
 use Rattle.demands.specs.Statuses.{firstOf, namesObject, hasFlags, hasKind, needsGet, badField, badList, askedSize, resultSize, rowsAt}
 use Rattle.host.specs.Request.{sentOf, objectHeader, before, fixedOf, listFor, request, startWith, requestOf}
@@ -45,7 +48,9 @@ unfolding if_then_else_ unless_answer_then_ _and_ _or_ within indicator put repe
     setUp memberAnswer ifDone onMember resetMember resetCard storeIn store
     objectValid flagsValid kindValid createIn modifyIn queryIn destroyIn metadataIn getIn setIn modeIn useIn fieldsOf
     usable reaches framedOf askOf numberBytes resultOf headOf finalOf replyOf replied askIn perform conclude respond
-    withHeldBytes withoutHeld memberRefusal openRefusal ifNone onRestoring onOpen beginOf feedOf finishOf dropOf fragmentsJoined fed refused step names
+    withHeldBytes withoutHeld memberRefusal openRefusal ifNone onRestoring onOpen beginOf feedOf finishOf dropOf fragmentsJoined fed
+    responseHeader responseFields responseOf isRequest readIn writeIn wholeOf speaksFor accessOf isInside readable isApplied nextGeneration appliedTo actOf fitting answerOf delivered messageOf
+    refused step names
     firstOf namesObject hasFlags hasKind needsGet badField badList askedSize resultSize rowsAt
     sentOf objectHeader before fixedOf listFor request startWith requestOf exampleCard headersListed joined nineHeaders nineParts workedExamples repliesTo lastSize
 model = tt

@@ -14,7 +14,7 @@ use Rattle.protocol.specs.declared.EventAnswer.{EventAnswer}
 use Rattle.protocol.specs.Opcodes.{namesMember}
 use Rattle.member.specs.declared.Member.{Member}
 use Rattle.member.specs.Record.{memberSize, holdingSize, memberBytes}
-use Rattle.card.specs.Layout.{memberBytesAt, holdingAt, recordSize, setupOf, inUseOf, isMember, withRecordBytes, withMember, withHolding, noBytes}
+use Rattle.card.specs.Layout.{memberBytesAt, configurationAt, configurationSize, generationSize, holdingAt, recordSize, setupOf, inUseOf, isMember, withRecordBytes, withMember, withConfiguration, withHolding, noBytes}
 use Rattle.card.specs.Sound.{isSound}
 use Rattle.card.proofs.LayoutLaws.{length-with-bytes}
 use Rattle.card.proofs.SoundLaws.{sound-of}
@@ -30,11 +30,13 @@ use Rattle.host.proofs.Asked.{dataFor, laid, request-is}
 use Rattle.frame.proofs.Asked.{Named, Facts, asked}
 use Rattle.reply.specs.Reply.{headSize}
 use Rattle.admin.specs.Command.{askIn, perform, respond}
-use Rattle.demands.specs.Calls.{Call, command, memberReset, cardReset, cardStore, restoreBegin, restoreFeed, restoreFinish, restoreDrop, step, names}
+use Rattle.demands.specs.Calls.{Call, command, memberReset, cardReset, cardStore, restoreBegin, restoreFeed, restoreFinish, restoreDrop, message, step, names}
 use Rattle.admin.proofs.Respond.{card-cases}
 use Rattle.staging.specs.Staging.{heldBytes, withHeldBytes, withoutHeld, beginOf, feedOf, finishOf, dropOf}
 use Rattle.staging.proofs.Refusals.{on-member-cases as restore-cases, on-open-cases}
 use Rattle.staging.proofs.Places.{has, held-short}
+use Rattle.message.specs.Access.{wholeOf}
+use Rattle.message.proofs.Cases.{speaks-one, card-cases as message-cases}
 
 pub never : {P : Type 0} → false ≡ true → P
 never e = let z : _≡_ {A = ℕ} 0 1 = cc in absurd (omega arith)
@@ -52,6 +54,10 @@ module _ (m : ℕ) (c d : List ℕ) (l : Leaves m c d) (h : isMember c m ≡ tru
 leaves-held : (m : ℕ) (c d : List ℕ) → Leaves m c d → isMember c m ≡ true → (n : ℕ) (x : List ℕ) → Leaves m c (withHeldBytes d m n x)
 unfolding withHeldBytes withHolding
 leaves-held m c d l h n x = changed (leaves-member m c d l h _) h holdingAt holdingSize x (omega arith)
+
+leaves-configuration : (m : ℕ) (c : List ℕ) → isMember c m ≡ true → (x : List ℕ) (g : ℕ) → Leaves m c (withConfiguration c m x g)
+unfolding withConfiguration
+leaves-configuration m c h x g = changed unchanged h configurationAt (configurationSize + generationSize) _ (omega arith)
 
 leaves-gone : (m : ℕ) (c d : List ℕ) → Leaves m c d → isMember c m ≡ true → Leaves m c (withoutHeld d m)
 unfolding withoutHeld
@@ -174,3 +180,7 @@ named-leaves m c (restoreFinish k id) e =
 named-leaves m c (restoreDrop k) e =
     rw (eqb-true k m e)
     (on-open-cases c m _ (RestoreLeaves m c) (λ a. unchanged) (λ p. leaves-gone m c c unchanged (p .member)))
+named-leaves m c (message x room) e =
+    message-cases c x (Leaves m c) unchanged room λ k y g s h t.
+    let q = speaks-one (wholeOf x) k m t e in
+    rw q (leaves-configuration m c (rw q at h) y g)

@@ -18,11 +18,12 @@ use Rattle.events.specs.Events.{resetMember, resetCard, storeIn, store}
 use Rattle.events.proofs.Cases.{if-done-cases, on-unsound, on-member-cases}
 use Rattle.reply.specs.Reply.{headOf, replyOf}
 use Rattle.admin.specs.Command.{askIn, perform, respond}
-use Rattle.demands.specs.Calls.{Call, command, memberReset, cardReset, cardStore, restoreBegin, restoreFeed, restoreFinish, restoreDrop, written, answered, refused, step}
+use Rattle.demands.specs.Calls.{Call, command, memberReset, cardReset, cardStore, restoreBegin, restoreFeed, restoreFinish, restoreDrop, message, written, answered, refused, step}
 use Rattle.demands.specs.Claims.{afterRefusal, RefusalsChangeNothing}
 use Rattle.admin.proofs.Respond.{lastAnswer, respond-none, respond-cases}
 use Rattle.staging.specs.Staging.{withoutHeld, beginOf, feedOf, finishOf, dropOf}
 use Rattle.staging.proofs.Refusals.{on-member-cases as restore-cases, on-open-cases, on-open-both, on-member-unsound, on-open-unsound}
+use Rattle.message.proofs.Cases.{answer-unsound, no-data-keeps}
 use Rattle.demands.proofs.Named.{never}
 
 -- a number that is refused picks the card as it was
@@ -127,6 +128,7 @@ refusals-change-nothing c (restoreBegin m) = begin-keeps c m
 refusals-change-nothing c (restoreFeed m x) = feed-drops c m x
 refusals-change-nothing c (restoreFinish m id) = finish-drops c m id
 refusals-change-nothing c (restoreDrop m) = drop-keeps c m
+refusals-change-nothing c (message x room) = λ e. no-data-keeps c x room (eqb-true _ _ e)
 
 -- a card that is not sound stays
 pub unsound-stays : (c : List ℕ) (x : Call) → isSound c ≡ false → step c x .0 ≡ c
@@ -139,3 +141,4 @@ unsound-stays c (restoreBegin m) e = rw (on-member-unsound c m _ e)
 unsound-stays c (restoreFeed m x) e = rw (on-open-unsound c m _ e)
 unsound-stays c (restoreFinish m id) e = rw (on-open-unsound c m _ e)
 unsound-stays c (restoreDrop m) e = rw (on-open-unsound c m _ e)
+unsound-stays c (message x room) e = rw (answer-unsound c x room e)

@@ -13,14 +13,15 @@ use Rattle.card.specs.Layout.{setupOf, isMember, memberIn}
 use Rattle.events.specs.Events.{resetMember, resetCard, storeIn, store}
 use Rattle.events.proofs.Cases.{if-done-cases, on-member-cases}
 use Rattle.card.proofs.LayoutLaws.{features-long}
-use Rattle.card.proofs.SoundLaws.{Sound, sound-of, is-sound, numbers-sound, sound-long, sound-member-in, sound-with-member, sound-with-fresh, sound-with-use, sound-fresh-card}
+use Rattle.card.proofs.SoundLaws.{Sound, sound-of, is-sound, numbers-sound, sound-long, sound-member-in, sound-with-member, sound-with-fresh, sound-with-configuration, sound-with-use, sound-fresh-card}
 use Rattle.frame.specs.declared.Ask.{Ask}
 use Rattle.frame.specs.declared.Ask.the-variants.{Refused, QueryList, UseList, Read, Change}
 use Rattle.frame.proofs.Asked.{Facts}
 use Rattle.admin.specs.Command.{perform, respond}
-use Rattle.demands.specs.Calls.{Call, command, memberReset, cardReset, cardStore, restoreBegin, restoreFeed, restoreFinish, restoreDrop, step}
+use Rattle.demands.specs.Calls.{Call, command, memberReset, cardReset, cardStore, restoreBegin, restoreFeed, restoreFinish, restoreDrop, message, step}
 use Rattle.demands.specs.Claims.{StaysSound}
 use Rattle.admin.proofs.Respond.{card-cases}
+use Rattle.message.proofs.Cases.{card-cases as message-cases}
 use Rattle.staging.proofs.Kept.{begin-sound, feed-sound, finish-sound, drop-sound}
 use Rattle.demands.proofs.Named.{asked-of}
 
@@ -61,6 +62,7 @@ step-sound c (restoreBegin m) s = sound-of _ (begin-sound c m (is-sound c s))
 step-sound c (restoreFeed m x) s = sound-of _ (feed-sound c m (is-sound c s) x)
 step-sound c (restoreFinish m id) s = sound-of _ (finish-sound c m (is-sound c s) id (is-sound _ (respond-sound c s _ _)))
 step-sound c (restoreDrop m) s = sound-of _ (drop-sound c m (is-sound c s))
+step-sound c (message x room) s = message-cases c x Sound s room (λ m y g e h t. sound-with-configuration c m y g s (within-low _ _ m h))
 
 pub stays-sound : StaysSound
 stays-sound c x e = is-sound _ (step-sound c x (sound-of c e))

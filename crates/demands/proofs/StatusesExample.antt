@@ -8,7 +8,7 @@ use native.Mathlib.Omega.{arith}
 use Rattle.theory.specs.Logic.{if_then_else_}
 use Rattle.theory.specs.Machine.{run}
 use Rattle.card.specs.Sound.{isSound}
-use Rattle.demands.specs.Calls.{Call, command, memberReset, cardReset, cardStore, restoreBegin, restoreFeed, restoreFinish, restoreDrop, step}
+use Rattle.demands.specs.Calls.{Call, command, memberReset, cardReset, cardStore, restoreBegin, restoreFeed, restoreFinish, restoreDrop, message, step}
 use Rattle.host.specs.Request.{request, getAll, setParts}
 use Rattle.demands.specs.Examples.{exampleCard, send, useList, setMode, create, destroy, metadata, allUsed, objectsLive}
 use Rattle.demands.specs.Statuses.{Row, firstOf, rows, FirstRowAnswers}
@@ -41,6 +41,7 @@ placeFor c (restoreBegin m) = 0
 placeFor c (restoreFeed m x) = 0
 placeFor c (restoreFinish m id) = 0
 placeFor c (restoreDrop m) = 0
+placeFor c (message x room) = 0
 
 -- calls that lead to a command, and the command
 abbrev Case : Type 0

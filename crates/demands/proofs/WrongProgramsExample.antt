@@ -11,7 +11,7 @@ use Rattle.theory.specs.Logic.{if_then_else_}
 use Rattle.theory.proofs.Tests.{by-cases}
 use Rattle.wire.specs.Le.{number}
 use Rattle.frame.specs.Frame.{opcodeOf}
-use Rattle.demands.specs.Calls.{Call, command, memberReset, cardReset, cardStore, restoreBegin, restoreFeed, restoreFinish, restoreDrop, Reply, written, answered, refused, step}
+use Rattle.demands.specs.Calls.{Call, command, memberReset, cardReset, cardStore, restoreBegin, restoreFeed, restoreFinish, restoreDrop, message, Reply, written, answered, responded, refused, step}
 use Rattle.demands.specs.Examples.{exampleCard, refuses, succeeds, gives, aNumber, metadata, getSelected, sizeOf}
 use Rattle.demands.specs.WrongPrograms.{Passes}
 use Rattle.demands.proofs.WrongPrograms.{obeyed, reply}
@@ -31,6 +31,7 @@ answering f c (restoreBegin m) = step c (restoreBegin m)
 answering f c (restoreFeed m x) = step c (restoreFeed m x)
 answering f c (restoreFinish m id) = step c (restoreFinish m id)
 answering f c (restoreDrop m) = step c (restoreDrop m)
+answering f c (message x room) = step c (message x room)
 
 refusing : List ℕ → Call → List ℕ × Reply
 unfolding Answering
@@ -65,6 +66,7 @@ once s (restoreBegin m) = let x = step (s .1) (restoreBegin m) in ((s .0, x .0),
 once s (restoreFeed m y) = let x = step (s .1) (restoreFeed m y) in ((s .0, x .0), x .1)
 once s (restoreFinish m id) = let x = step (s .1) (restoreFinish m id) in ((s .0, x .0), x .1)
 once s (restoreDrop m) = let x = step (s .1) (restoreDrop m) in ((s .0, x .0), x .1)
+once s (message y room) = let x = step (s .1) (message y room) in ((s .0, x .0), x .1)
 
 programs : Unit {0}
 unfolding model Answering answering refusing fixed unchanging tenParts oneByteMore once
@@ -97,6 +99,7 @@ first-only s q r i j = by-cases (eqb (s .0) 0) (λ e. rw e) (λ e. rw (e, e))
 numberIn : Reply → ℕ
 numberIn (written bs) = number 8 4 bs
 numberIn (answered n) = 0
+numberIn (responded bs) = 0
 
 made-up-count : (s : List ℕ) → tenParts s (metadata 0 1) .1 ≢ gives (aNumber 9)
 unfolding programs numberIn

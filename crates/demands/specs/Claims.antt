@@ -1,9 +1,8 @@
 -- WHAT IS CLAIMED OF THE CARD, by demand, SPEC 9, and by request, SPEC 13. Each claim is over the definitions that the
 -- contracts of the exported functions cite: setUp, commandOf (a command with its buffer; respond is the same without it),
--- resetMember, resetCard, store, beginOf, feedOf, finishOf and dropOf. The record Claims at the end lists all of them, and
--- ../proofs/Claims.antt proves it. A claim with hypotheses says which example meets them; where no file is named it is in
--- ../proofs/ClaimsExample.antt.
--- Assumes nothing.
+-- resetMember, resetCard, store, beginOf, feedOf, finishOf, dropOf and messageOf (of which answerOf is the same without the
+-- buffer). The record Claims at the end lists all of them, and ../proofs/Claims.antt proves it. A claim with hypotheses says
+-- which example meets them; where no file is named it is in ../proofs/ClaimsExample.antt. Assumes nothing.
 use mathlib.Core.Path.{_≡_}
 use mathlib.Core.Logic.{_≢_}
 use mathlib.Core.Bool.{true, false}
@@ -20,7 +19,7 @@ use Rattle.events.specs.Events.{setupWith, setUp}
 use Rattle.admin.specs.Command.{respond, commandOf}
 use Rattle.staging.specs.Staging.{dropOf}
 use Rattle.staging.specs.Claims.{FinishIsPartsSet, HoldsJoined, CutAnywhere}
-use Rattle.demands.specs.Calls.{Call, command, memberReset, cardReset, cardStore, restoreBegin, restoreFeed, restoreFinish, restoreDrop, refused, step, names, Resets}
+use Rattle.demands.specs.Calls.{Call, command, memberReset, cardReset, cardStore, restoreBegin, restoreFeed, restoreFinish, restoreDrop, message, refused, step, names, Resets}
 use Rattle.demands.specs.Statuses.{Statuses}
 use Rattle.demands.specs.Examples.{ExamplesHold}
 use Rattle.demands.specs.Lengths.{LengthExamplesHold}
@@ -29,6 +28,7 @@ use Rattle.demands.specs.WrongPrograms.{WrongProgramsRejected}
 use Rattle.demands.specs.RoundTrip.{RoundTrip}
 use Rattle.demands.specs.Host.{Taken, ReadBack}
 use Rattle.demands.specs.Places.{PlacesFound}
+use Rattle.demands.specs.Messages.{Responded, NothingApplied, OnlyConfiguration, ConfigurationKept, MessageExamplesHold}
 
 -- No call makes a sound card unsound: SPEC 2.4. Example: sound-card
 abbrev pub StaysSound : Type 0
@@ -67,6 +67,7 @@ afterRefusal c (restoreBegin m) = c
 afterRefusal c (restoreFeed m x) = dropOf c m .1
 afterRefusal c (restoreFinish m id) = dropOf c m .1
 afterRefusal c (restoreDrop m) = c
+afterRefusal c (message x room) = c
 
 abbrev pub RefusalsChangeNothing : Type 0
 RefusalsChangeNothing = (c : List ℕ) (x : Call) → refused (step c x .1) ≡ true → step c x .0 ≡ afterRefusal c x
@@ -189,6 +190,10 @@ pub record HoldingKept : Type 0 where
   pub commands : (c : List ℕ) (m : ℕ) → isMember c m ≡ true → (r : List ℕ) (room : ℕ) → SameHolding c (step c (command r room) .0) m
   pub cardStores : (c : List ℕ) (m : ℕ) → isMember c m ≡ true → (k t s : ℕ) (value : List ℕ) → SameHolding c (step c (cardStore k t s value) .0) m
 
+-- ---- REQUEST 3, SPEC 13.3: configuration by message ----
+
+-- What a message leaves, what it touches, what else touches a configuration, and the worked examples M1 to M12: Messages.antt
+
 -- ---- all of them ----
 
 pub record Claims : Type 1 where
@@ -226,3 +231,9 @@ pub record Claims : Type 1 where
   pub holdsJoined : HoldsJoined
   pub cutAnywhere : CutAnywhere
   pub holdingKept : HoldingKept
+  -- request 3
+  pub responded : Responded
+  pub nothingApplied : NothingApplied
+  pub onlyConfiguration : OnlyConfiguration
+  pub configurationKept : ConfigurationKept
+  pub messageExamples : MessageExamplesHold

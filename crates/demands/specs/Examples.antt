@@ -8,7 +8,7 @@ use Rattle.theory.specs.Machine.{replies}
 use Rattle.wire.specs.Le.{bytes}
 use Rattle.card.specs.Layout.{cardSize}
 use Rattle.events.specs.Events.{setUp}
-use Rattle.demands.specs.Calls.{Call, command, cardStore, Reply, written, answered, step}
+use Rattle.demands.specs.Calls.{Call, command, cardStore, Reply, written, answered, responded, step}
 use Rattle.host.specs.declared.Command.{Command}
 use Rattle.host.specs.declared.Command.the-variants as host
 use Rattle.host.specs.Request.{request, requestOf, getAll, setParts}
@@ -175,6 +175,7 @@ repliesTo machine s e = drop (length (e .before)) (replies machine s (e .before 
 abbrev pub sizeOf : Reply → ℕ
 sizeOf (written bs) = length bs
 sizeOf (answered n) = 0
+sizeOf (responded bs) = length bs
 
 unfoldable pub lastSize : ℕ → List Reply → ℕ
 lastSize n [] = n

@@ -7,4 +7,5 @@ pub mod WrongPrograms
 pub mod RoundTrip
 pub mod Host
 pub mod Places
+pub mod Messages
 pub mod Claims

@@ -61,7 +61,7 @@ module _ (x bs : List ℕ) (offset : ℕ) (e : bs ≡ take (length x - dataAt) (
   pub bytes-few : length bs ≤ configurationSize
   bytes-few = omega (arith, bytes-inside)
 
-applied-is : (current sent offset n : ℕ) → isApplied current sent offset n ≡ true → offset + n ≤ configurationSize
+pub applied-is : (current sent offset n : ℕ) → isApplied current sent offset n ≡ true → offset + n ≤ configurationSize
 unfolding isApplied
 applied-is current sent offset n e = inside-is offset n (both _ _ e .1)
 

@@ -3,3 +3,4 @@ pub mod Asked
 pub mod Responded
 pub mod Acted
 pub mod Whole
+pub mod Cases
