@@ -13,6 +13,7 @@ ghost use Rattle.kajurnat.specs.Told.{told};
 use host::Command;
 use host::Outcome;
 ghost use Rattle.staging.specs.Staging.{beginOf, feedOf, finishOf, dropOf};
+ghost use Rattle.message.specs.Message.{messageOf};
 
 // Raised whenever a card's bytes change their meaning: a card that was kept is for the same version.
 #[no_mangle]
@@ -246,4 +247,12 @@ pub extern "C" fn kajurnat_restore_drop(card: &mut [u8], member: u64) -> u32
     ensures { λ r. ⌜ (r, now (card .exit)) ≡ dropOf (now (card .entry)) member ⌝ }
 {
     staging::discard(card, member)
+}
+
+// Configuration by message, SPEC 13.3: the bytes of the response, 0 in the bus outcome, the card and the reply buffer after it.
+#[no_mangle]
+pub extern "C" fn kajurnat_message(card: &mut [u8], message: &[u8], reply: &mut [u8]) -> usize
+    ensures { λ r. ⌜ (r, (now (card .exit), now (reply .exit))) ≡ messageOf (now (card .entry)) (now (message .entry)) (now (reply .entry)) ⌝ }
+{
+    message::message(card, message, reply)
 }
