@@ -1,6 +1,7 @@
 /*
  * Kajurnat: the control plane of a virtio card with up to sixteen member
- * devices. Group administration commands, resource objects, device parts.
+ * devices. Group administration commands, resource objects, device parts, and
+ * the configuration of the members by message.
  *
  * Link libkajurnat.a. The library has no state of its own: a card is a buffer
  * that the caller lends for the time of a call. It has both halves: the card's,
@@ -19,7 +20,7 @@
  *   - A capture of all parts of a member can be set in a stopped member of a
  *     card of the same setup, and a capture there gives the same bytes.
  *   - Once a member is reset, no reply and no byte of the card depends on the
- *     commands, stores and restores that named it before.
+ *     commands, messages, stores and restores that named it before.
  *   - A list of parts that is restored in fragments is set as one parts set
  *     would set it, with the same answer and the same card, however it was
  *     cut.
@@ -31,10 +32,10 @@
  *   - Each pointer is valid for the length beside it: for reads where it is
  *     const, for reads and writes where it is not. With length 0 any pointer
  *     will do, NULL too; nothing is read or written through it.
- *   - The buffers of a call do not overlap: card, request and reply are apart
- *     from each other, and so are card and features, card and value, card
- *     and fragment, request and list, and the reply and the four numbers that
- *     it is read into.
+ *   - The buffers of a call do not overlap: card, request or message, and
+ *     reply are apart from each other, and so are card and features, card and
+ *     value, card and fragment, request and list, and the reply and the four
+ *     numbers that it is read into.
  *   - Until the call returns, nothing else writes to its buffers, and nothing
  *     else reads those that it writes. There is no lock inside: one call at a
  *     time for each card. Calls on different cards may run at once.
@@ -71,7 +72,7 @@ extern "C" {
  * What the bytes of a card mean: raised whenever that changes. A card is for
  * the library whose kajurnat_version() is the one it was made with.
  */
-#define KAJURNAT_VERSION 2
+#define KAJURNAT_VERSION 3
 
 /* The stack that a call takes at most, memcpy, memmove and memset aside. */
 #define KAJURNAT_STACK_BYTES 2560
@@ -94,7 +95,7 @@ enum {
  * sizes. kajurnat_card_bytes() gives the same number at run time.
  */
 #define KAJURNAT_CARD_BYTES(members) \
-    ((size_t)28 + (size_t)1248 * (size_t)(members))
+    ((size_t)28 + (size_t)1264 * (size_t)(members))
 
 /* The answers of setup, of the two resets and of store. */
 enum {
@@ -336,8 +337,9 @@ size_t kajurnat_card_bytes(uint64_t members);
 
 /*
  * Makes the buffer a fresh card: the two list commands are in use; every
- * member runs, has no object and no open holding place, and all its parts are
- * zero but the device features. What the buffer held before does not matter.
+ * member runs, has no object and no open holding place, all its parts are zero
+ * but the device features, and so are its configuration and the generation of
+ * it. What the buffer held before does not matter.
  *
  * Returns KAJURNAT_DONE. Returns KAJURNAT_BAD_SETUP, and every byte of the
  * buffer is zero, if a number is outside its limits, features_len is not 16,
@@ -360,19 +362,24 @@ size_t kajurnat_command(uint8_t *card, size_t card_len, const uint8_t *request,
                         size_t request_len, uint8_t *reply, size_t reply_len);
 
 /*
- * Makes one member fresh, as after setup, and changes nothing else.
+ * Makes one member fresh, as after setup, and changes nothing else. Its
+ * configuration starts from the generation given, so that the count does not
+ * tell of the former guest.
  *
  * Returns KAJURNAT_DONE, or the first that applies of KAJURNAT_NOT_SOUND and
  * KAJURNAT_NO_SUCH_MEMBER.
  */
-uint8_t kajurnat_reset_member(uint8_t *card, size_t card_len, uint64_t member);
+uint8_t kajurnat_reset_member(uint8_t *card, size_t card_len, uint64_t member,
+                              uint32_t generation);
 
 /*
- * Makes the whole card fresh, as after setup.
+ * Makes the whole card fresh, as after setup. The configuration of every member
+ * starts from the generation given.
  *
  * Returns KAJURNAT_DONE or KAJURNAT_NOT_SOUND.
  */
-uint8_t kajurnat_reset_card(uint8_t *card, size_t card_len);
+uint8_t kajurnat_reset_card(uint8_t *card, size_t card_len,
+                            uint32_t generation);
 
 /*
  * Whether the buffer is a sound card: 1 if it is, else 0.
@@ -450,6 +457,67 @@ uint32_t kajurnat_restore_finish(uint8_t *card, size_t card_len,
  */
 uint32_t kajurnat_restore_drop(uint8_t *card, size_t card_len,
                                uint64_t member);
+
+/* ---- Configuration by message ------------------------------------------ */
+
+/*
+ * For a bus without PCI: each member has KAJURNAT_CONFIG_BYTES of configuration
+ * and a generation that tells of their changes, read and written by virtio-msg
+ * requests in its strict profile. Device number d speaks for member d + 1. They
+ * are no parts; a message does not look at mode, objects and list in use. All
+ * numbers are little-endian.
+ *
+ * Each message starts with a header.
+ *
+ *    0  type         1  a request 0, a response KAJURNAT_MSG_TYPE_RESPONSE; of
+ *                       a request bits 2 to 7 are not read
+ *    1  msg_id       1  KAJURNAT_MSG_GET_CONFIG or .._SET_CONFIG
+ *    2  dev_num      2  0 to members - 1
+ *    4  token        2  copied to the response
+ *    6  msg_size     2  of the whole message
+ *
+ * What follows at byte 8:
+ *    get request     offset 4, length 4
+ *    set request     generation 4, offset 4, length 4, data
+ *    responses       generation 4, offset 4, length 4, data
+ *
+ * A response has the generation after the message and the offset that was
+ * asked. Length 0 without data is the response where nothing is read or
+ * written: if offset + length is over KAJURNAT_CONFIG_BYTES, the generation of a
+ * set request is not the member's, or length 0 is asked. A set request that is
+ * applied moves the generation by one, from 4294967295 to 0, and its data comes
+ * back.
+ */
+enum {
+    KAJURNAT_CONFIG_BYTES = 12,
+    KAJURNAT_MSG_HEADER_BYTES = 8,
+    KAJURNAT_MSG_GET_CONFIG_BYTES = 16, /* the request */
+    KAJURNAT_MSG_SET_CONFIG_BYTES = 20, /* the request, and as many as length */
+    KAJURNAT_MSG_RESPONSE_BYTES = 20,   /* and as many as length */
+    KAJURNAT_MSG_RESPONSE_BYTES_MAX = 32
+};
+
+/* Bits of the type. */
+enum { KAJURNAT_MSG_TYPE_RESPONSE = 1, KAJURNAT_MSG_TYPE_BUS = 2 };
+
+/* Message ids. */
+enum { KAJURNAT_MSG_GET_CONFIG = 0x05, KAJURNAT_MSG_SET_CONFIG = 0x06 };
+
+/*
+ * Hears one message and returns the number of response bytes written. The bytes
+ * of the reply buffer past these keep their values.
+ * KAJURNAT_MSG_RESPONSE_BYTES_MAX is always enough.
+ *
+ * Returns 0, the bus outcome, with nothing written and the card as it was, if
+ *   - the message is not one whole request of the two kinds: its length,
+ *     msg_size and, of a set request, 20 + length have to be the same, and so
+ *     have 16 and the length of a get request;
+ *   - dev_num is not below members;
+ *   - the card is not sound;
+ *   - the reply buffer is too short for the response to this message.
+ */
+size_t kajurnat_message(uint8_t *card, size_t card_len, const uint8_t *message,
+                        size_t message_len, uint8_t *reply, size_t reply_len);
 
 /* ---- Functions of the host's half ------------------------------------- */
 

@@ -1,8 +1,8 @@
 /*
  * What kajurnat.h says, tried from C: the worked examples, a refusal for each
  * row of the header's order that also meets later rows, requests of other
- * lengths than are built, a restore in fragments, the builders and the reader,
- * NULL with length 0, soundness and version.
+ * lengths than are built, a restore in fragments, messages, the builders and the
+ * reader, NULL with length 0, soundness and version.
  */
 #include "common.h"
 #include "kajurnat.h"
@@ -307,7 +307,7 @@ static void try_restore(void)
                kajurnat_restore_finish(card, sizeof card, 2, SET_ID) ==
                    ANSWER(EINVAL, INVALID_OPCODE) &&
                kajurnat_restore_begin(card, sizeof card, 1) == ANSWER(OK, OK) &&
-               kajurnat_reset_member(card, sizeof card, 1) == KAJURNAT_DONE,
+               kajurnat_reset_member(card, sizeof card, 1, 0) == KAJURNAT_DONE,
            "restore: drop, a refused finish and a reset end it");
     expect(memcmp(card, before, sizeof card) == 0,
            "restore: nothing is left of it");
@@ -316,6 +316,41 @@ static void try_restore(void)
     expect(KAJURNAT_RESTORE_STATUS(answer) == KAJURNAT_STATUS_EAGAIN &&
                KAJURNAT_RESTORE_QUALIFIER(answer) == KAJURNAT_Q_TRYAGAIN,
            "restore: the numbers of an answer");
+}
+
+/* A set request for member 2, a get request, and the bus outcome. */
+static void try_messages(void)
+{
+    uint8_t set[] = {0, KAJURNAT_MSG_SET_CONFIG, 1, 0, 0x34, 0x12, 22, 0,
+                     7, 0, 0, 0, 3, 0, 0, 0, 2, 0, 0, 0, 0xaa, 0xbb};
+    const uint8_t get[] = {0, KAJURNAT_MSG_GET_CONFIG, 1, 0, 0, 0, 16, 0,
+                           0, 0, 0, 0, KAJURNAT_CONFIG_BYTES, 0, 0, 0};
+    uint8_t reply[KAJURNAT_MSG_RESPONSE_BYTES_MAX];
+
+    expect(kajurnat_reset_member(card, sizeof card, 2, 7) == KAJURNAT_DONE,
+           "message: the generation to start from");
+    expect(kajurnat_message(card, sizeof card, set, sizeof set, reply, 21) == 0,
+           "message: no room for the response");
+    expect(kajurnat_message(card, sizeof card, set, sizeof set, reply,
+                            sizeof reply) == 22 &&
+               reply[0] == KAJURNAT_MSG_TYPE_RESPONSE &&
+               memcmp(reply + 1, set + 1, 7) == 0 && reply[8] == 8 &&
+               memcmp(reply + 9, set + 9, 13) == 0,
+           "message: a write is applied");
+    expect(kajurnat_message(card, sizeof card, set, sizeof set, reply,
+                            sizeof reply) == KAJURNAT_MSG_RESPONSE_BYTES &&
+               reply[8] == 8 && reply[16] == 0,
+           "message: a stale write is not");
+    expect(kajurnat_message(card, sizeof card, get, sizeof get, reply,
+                            sizeof reply) == sizeof reply &&
+               reply[22] == 0 && reply[23] == 0xaa && reply[24] == 0xbb,
+           "message: a read");
+    expect(kajurnat_message(card, sizeof card, get, sizeof get - 1, reply,
+                            sizeof reply) == 0 &&
+               kajurnat_message(card, sizeof card, NULL, 0, NULL, 0) == 0 &&
+               kajurnat_message(NULL, 0, get, sizeof get, reply,
+                                sizeof reply) == 0,
+           "message: the bus outcome");
 }
 
 /* Row 2 of the order, and length 0 everywhere. */
@@ -338,8 +373,8 @@ static void try_lengths(void)
                kajurnat_command(NULL, 0, NULL, 0, NULL, 0) == 0,
            "NULL: command");
     expect(kajurnat_is_sound(NULL, 0) == 0, "NULL: is_sound");
-    expect(kajurnat_reset_card(NULL, 0) == KAJURNAT_NOT_SOUND &&
-               kajurnat_reset_member(NULL, 0, 1) == KAJURNAT_NOT_SOUND,
+    expect(kajurnat_reset_card(NULL, 0, 0) == KAJURNAT_NOT_SOUND &&
+               kajurnat_reset_member(NULL, 0, 1, 0) == KAJURNAT_NOT_SOUND,
            "NULL: resets");
     expect(kajurnat_store(NULL, 0, 1, KAJURNAT_PART_DEVICE_STATUS, 0, NULL,
                           0) == KAJURNAT_NOT_SOUND &&
@@ -395,8 +430,8 @@ static void try_stores(void)
                kajurnat_store(card, sizeof card, 2, KAJURNAT_PART_VQ_CFG, 0,
                               queue, 31) == KAJURNAT_WRONG_LENGTH,
            "a queue size that no ring has");
-    expect(kajurnat_reset_member(card, sizeof card, 2) == KAJURNAT_DONE &&
-               kajurnat_reset_card(card, sizeof card) == KAJURNAT_DONE,
+    expect(kajurnat_reset_member(card, sizeof card, 2, 0) == KAJURNAT_DONE &&
+               kajurnat_reset_card(card, sizeof card, 0) == KAJURNAT_DONE,
            "the resets");
 }
 
@@ -414,6 +449,7 @@ int main(int count, char **arguments)
     try_host();
     try_restore();
     try_stores();
+    try_messages();
     try_lengths();
     printf("boundary: as kajurnat.h says\n");
     expect(fflush(stdout) == 0, "the output is written");

@@ -307,7 +307,7 @@ static void load(struct card *card, uint64_t member,
 static void reset(struct card *card, uint64_t member)
 {
     uint8_t answer =
-        kajurnat_reset_member(card->bytes, sizeof card->bytes, member);
+        kajurnat_reset_member(card->bytes, sizeof card->bytes, member, 0);
     expect(answer == KAJURNAT_DONE, "the member is reset");
     report(card, member, "reset");
 

@@ -82,11 +82,17 @@ MEASURED(size_t, kajurnat_command,
          (uint8_t * card, size_t card_len, const uint8_t *request,
           size_t request_len, uint8_t *reply, size_t reply_len),
          (card, card_len, request, request_len, reply, reply_len))
+MEASURED(size_t, kajurnat_message,
+         (uint8_t * card, size_t card_len, const uint8_t *message,
+          size_t message_len, uint8_t *reply, size_t reply_len),
+         (card, card_len, message, message_len, reply, reply_len))
 MEASURED(uint8_t, kajurnat_reset_member,
-         (uint8_t * card, size_t card_len, uint64_t member),
-         (card, card_len, member))
-MEASURED(uint8_t, kajurnat_reset_card, (uint8_t * card, size_t card_len),
-         (card, card_len))
+         (uint8_t * card, size_t card_len, uint64_t member,
+          uint32_t generation),
+         (card, card_len, member, generation))
+MEASURED(uint8_t, kajurnat_reset_card,
+         (uint8_t * card, size_t card_len, uint32_t generation),
+         (card, card_len, generation))
 MEASURED(uint8_t, kajurnat_is_sound, (const uint8_t *card, size_t card_len),
          (card, card_len))
 MEASURED(uint8_t, kajurnat_store,

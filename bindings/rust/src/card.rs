@@ -1,6 +1,7 @@
 //! A card in memory that it owns or is lent.
 
 use crate::event::EventError;
+use crate::message::NoResponse;
 use crate::part::PartType;
 use crate::raw;
 use crate::reply::{Refusal, Reply, ReplyTooShort};
@@ -36,7 +37,7 @@ use core::fmt;
 ///
 /// // The bytes are the whole card. They may be kept, and taken up again.
 /// let mut again = Card::from_bytes(&mut memory)?;
-/// again.reset_member(1)?;
+/// again.reset_member(1, 0)?;
 /// assert_eq!(again, Card::new(&SETUP)?);
 /// # Ok::<(), Box<dyn std::error::Error>>(())
 /// ```
@@ -170,6 +171,27 @@ impl<B: AsMut<[u8]>> Card<B> {
         Ok(&reply[..written])
     }
 
+    /// Hears one virtio-msg request that came as bytes, a
+    /// [`Message`](crate::Message) or any others, and gives the response, which
+    /// it writes at the start of the buffer.
+    /// [`Response::MAX`](crate::Response::MAX) bytes are always enough. The
+    /// bytes past the response keep their values.
+    ///
+    /// # Errors
+    ///
+    /// [`NoResponse`] is the bus outcome: nothing is written, and the card is
+    /// unchanged.
+    pub fn message<'r>(
+        &mut self,
+        message: impl AsRef<[u8]>,
+        reply: &'r mut [u8],
+    ) -> Result<&'r [u8], NoResponse> {
+        match raw::message(self.memory.as_mut(), message.as_ref(), reply) {
+            0 => Err(NoResponse),
+            written => Ok(&reply[..written]),
+        }
+    }
+
     /// Sets the parts of a list that comes in fragments, through the set object
     /// of this id, once they are all there: all parts or none. Fragments end
     /// anywhere.
@@ -237,18 +259,21 @@ impl<B: AsMut<[u8]>> Card<B> {
         self.memory.as_mut()
     }
 
-    /// Makes one member fresh and changes nothing else.
+    /// Makes one member fresh and changes nothing else. Its configuration
+    /// starts from this generation, so that the count does not tell of the
+    /// former guest.
     ///
     /// # Errors
     ///
     /// [`EventError::NoSuchMember`] if the card has no such member.
-    pub fn reset_member(&mut self, member: u64) -> Result<(), EventError> {
-        EventError::from_answer(raw::reset_member(self.memory.as_mut(), member))
+    pub fn reset_member(&mut self, member: u64, generation: u32) -> Result<(), EventError> {
+        EventError::from_answer(raw::reset_member(self.memory.as_mut(), member, generation))
     }
 
-    /// Makes the whole card fresh.
-    pub fn reset(&mut self) {
-        let answer = raw::reset_card(self.memory.as_mut());
+    /// Makes the whole card fresh. The configuration of every member starts
+    /// from this generation.
+    pub fn reset(&mut self, generation: u32) {
+        let answer = raw::reset_card(self.memory.as_mut(), generation);
         EventError::from_answer(answer).expect("a sound card can be reset");
     }
 

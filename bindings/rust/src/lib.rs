@@ -40,12 +40,13 @@
 //! );
 //!
 //! // The next guest of member 1 finds nothing of the last one.
-//! card.reset_member(1)?;
+//! card.reset_member(1, 0)?;
 //! # Ok::<(), Box<dyn std::error::Error>>(())
 //! ```
 //!
 //! A list of parts that comes over a slow connection is set with
-//! [`Card::restore`] or a [`Restore`], fragment by fragment.
+//! [`Card::restore`] or a [`Restore`], fragment by fragment. On a bus without
+//! PCI, a [`Message`] reads or writes the configuration of a member.
 //!
 //! # Features
 //!
@@ -69,6 +70,7 @@ extern crate std;
 
 mod card;
 mod event;
+mod message;
 mod number;
 mod part;
 pub mod raw;
@@ -80,6 +82,7 @@ mod status;
 
 pub use card::{Card, NotSound};
 pub use event::EventError;
+pub use message::{BadResponse, Message, MessageId, MessageTooLong, NoResponse, Response};
 pub use part::PartType;
 pub use raw::version;
 pub use reply::{BadReply, Refusal, Reply, ReplyTooShort};

@@ -11,145 +11,7 @@
 
 #![allow(unsafe_code)]
 
-/// The functions as the archive exports them. A slice is a pointer and a
-/// length.
-mod abi {
-    extern "C" {
-        pub fn kajurnat_version() -> u32;
-
-        pub fn kajurnat_is_sound(card: *const u8, card_len: usize) -> u8;
-
-        pub fn kajurnat_card_bytes(members: u64) -> usize;
-
-        pub fn kajurnat_setup(
-            card: *mut u8,
-            card_len: usize,
-            members: u64,
-            queues: u64,
-            gets: u64,
-            sets: u64,
-            features: *const u8,
-            features_len: usize,
-        ) -> u8;
-
-        pub fn kajurnat_command(
-            card: *mut u8,
-            card_len: usize,
-            request: *const u8,
-            request_len: usize,
-            reply: *mut u8,
-            reply_len: usize,
-        ) -> usize;
-
-        pub fn kajurnat_reset_member(card: *mut u8, card_len: usize, member: u64) -> u8;
-
-        pub fn kajurnat_reset_card(card: *mut u8, card_len: usize) -> u8;
-
-        pub fn kajurnat_store(
-            card: *mut u8,
-            card_len: usize,
-            member: u64,
-            part_type: u16,
-            selector: u64,
-            value: *const u8,
-            value_len: usize,
-        ) -> u8;
-
-        pub fn kajurnat_restore_begin(card: *mut u8, card_len: usize, member: u64) -> u32;
-
-        pub fn kajurnat_restore_feed(
-            card: *mut u8,
-            card_len: usize,
-            member: u64,
-            fragment: *const u8,
-            fragment_len: usize,
-        ) -> u32;
-
-        pub fn kajurnat_restore_finish(card: *mut u8, card_len: usize, member: u64, id: u32)
-            -> u32;
-
-        pub fn kajurnat_restore_drop(card: *mut u8, card_len: usize, member: u64) -> u32;
-
-        pub fn kajurnat_request_list_query(request: *mut u8, request_len: usize) -> usize;
-
-        pub fn kajurnat_request_list_use(request: *mut u8, request_len: usize, mask: u64) -> usize;
-
-        pub fn kajurnat_request_create(
-            request: *mut u8,
-            request_len: usize,
-            member: u64,
-            id: u32,
-            kind: u8,
-        ) -> usize;
-
-        pub fn kajurnat_request_modify(
-            request: *mut u8,
-            request_len: usize,
-            member: u64,
-            id: u32,
-            kind: u8,
-        ) -> usize;
-
-        pub fn kajurnat_request_query(
-            request: *mut u8,
-            request_len: usize,
-            member: u64,
-            id: u32,
-        ) -> usize;
-
-        pub fn kajurnat_request_destroy(
-            request: *mut u8,
-            request_len: usize,
-            member: u64,
-            id: u32,
-        ) -> usize;
-
-        pub fn kajurnat_request_metadata(
-            request: *mut u8,
-            request_len: usize,
-            member: u64,
-            id: u32,
-            what: u8,
-        ) -> usize;
-
-        pub fn kajurnat_request_get(
-            request: *mut u8,
-            request_len: usize,
-            member: u64,
-            id: u32,
-            which: u8,
-            headers: *const u8,
-            headers_len: usize,
-        ) -> usize;
-
-        pub fn kajurnat_request_set(
-            request: *mut u8,
-            request_len: usize,
-            member: u64,
-            id: u32,
-            list: *const u8,
-            list_len: usize,
-        ) -> usize;
-
-        pub fn kajurnat_request_mode(
-            request: *mut u8,
-            request_len: usize,
-            member: u64,
-            mode: u8,
-        ) -> usize;
-
-        pub fn kajurnat_reply_read(
-            opcode: u16,
-            what: u8,
-            reply: *const u8,
-            reply_len: usize,
-            status: *mut u16,
-            qualifier: *mut u16,
-            sent_status: *mut u16,
-            sent_qualifier: *mut u16,
-        ) -> u8;
-    }
-}
+mod abi;
 
 /// The version of a card's bytes. It is raised whenever they change their
 /// meaning: bytes that were kept are a card for the same version only.
@@ -225,21 +87,44 @@ pub fn command(card: &mut [u8], request: &[u8], reply: &mut [u8]) -> usize {
     }
 }
 
-/// Makes one member fresh. Answers 0 done, 9 card not sound, 1 no such
-/// member.
+/// Hears one virtio-msg request, which reads or writes the configuration of a
+/// member, and returns the number of bytes of the response.
+///
+/// The bytes of `reply` past that number keep their values. Returns 0, the bus
+/// outcome, with nothing written and nothing changed, if `card` is not sound,
+/// the message is not one whole request of these two kinds for a device that
+/// the card has, or `reply` is too short for the response.
 #[must_use]
-pub fn reset_member(card: &mut [u8], member: u64) -> u8 {
-    // SAFETY: pointer and length are those of one slice, which is borrowed
-    // mutably for the call.
-    unsafe { abi::kajurnat_reset_member(card.as_mut_ptr(), card.len(), member) }
+pub fn message(card: &mut [u8], message: &[u8], reply: &mut [u8]) -> usize {
+    // SAFETY: as in `command`.
+    unsafe {
+        abi::kajurnat_message(
+            card.as_mut_ptr(),
+            card.len(),
+            message.as_ptr(),
+            message.len(),
+            reply.as_mut_ptr(),
+            reply.len(),
+        )
+    }
 }
 
-/// Makes the whole card fresh. Answers 0 done, 9 card not sound.
+/// Makes one member fresh, with this generation of its configuration. Answers
+/// 0 done, 9 card not sound, 1 no such member.
 #[must_use]
-pub fn reset_card(card: &mut [u8]) -> u8 {
+pub fn reset_member(card: &mut [u8], member: u64, generation: u32) -> u8 {
     // SAFETY: pointer and length are those of one slice, which is borrowed
     // mutably for the call.
-    unsafe { abi::kajurnat_reset_card(card.as_mut_ptr(), card.len()) }
+    unsafe { abi::kajurnat_reset_member(card.as_mut_ptr(), card.len(), member, generation) }
+}
+
+/// Makes the whole card fresh, with this generation of the configuration of
+/// every member. Answers 0 done, 9 card not sound.
+#[must_use]
+pub fn reset_card(card: &mut [u8], generation: u32) -> u8 {
+    // SAFETY: pointer and length are those of one slice, which is borrowed
+    // mutably for the call.
+    unsafe { abi::kajurnat_reset_card(card.as_mut_ptr(), card.len(), generation) }
 }
 
 /// Sets one part of one member, as the data path does.

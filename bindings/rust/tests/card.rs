@@ -190,7 +190,7 @@ fn a_reset_leaves_nothing_of_a_member() {
     card.store(1, PartType::VQ_CFG, 0, &QUEUE).unwrap();
     assert_ne!(capture(&mut card, 1).unwrap(), fresh);
 
-    card.reset_member(1).unwrap();
+    card.reset_member(1, 0).unwrap();
     let ended = refused(Status::ENXIO, Qualifier::INVALID_COMMAND);
     assert_eq!(capture(&mut card, 1), ended);
     card.send(Request::create(1, GET, Kind::Get)).unwrap();
@@ -201,7 +201,7 @@ fn a_reset_leaves_nothing_of_a_member() {
 fn a_reset_of_the_card_makes_it_fresh() {
     let mut card = ready_card();
     card.store(2, PartType::DEVICE_STATUS, 0, &[4]).unwrap();
-    card.reset();
+    card.reset(0);
     assert_eq!(card, fresh_card());
 }
 
@@ -210,8 +210,8 @@ fn a_bad_event_is_named_and_changes_nothing() {
     let mut card = ready_card();
     let before = card.clone();
     let no_member = Err(EventError::NoSuchMember);
-    assert_eq!(card.reset_member(0), no_member);
-    assert_eq!(card.reset_member(u64::MAX), no_member);
+    assert_eq!(card.reset_member(0, 0), no_member);
+    assert_eq!(card.reset_member(u64::MAX, 0), no_member);
     assert_eq!(card.store(3, PartType::VQ_CFG, 9, &[]), no_member);
     let no_part = Err(EventError::NoSuchPart);
     assert_eq!(card.store(1, PartType::VQ_CFG, 1, &[0; 32]), no_part);

@@ -14,7 +14,7 @@ fn use_card<B: AsMut<[u8]>>(card: &mut Card<B>) -> Result<(), Box<dyn Error>> {
     stop(card, 2)?;
     let parts = capture(card, 1)?;
     restore(card, 2, &parts)?;
-    card.reset_member(1)?;
+    card.reset_member(1, 0)?;
     card.command(Request::capture(2, GET), &mut [0; Reply::MAX])?;
     Ok(())
 }
@@ -40,7 +40,7 @@ fn a_card_is_the_same_in_any_memory() -> Result<(), Box<dyn Error>> {
     use_card(&mut boxed)?;
     assert_eq!(boxed, owned);
 
-    boxed.reset();
+    boxed.reset(0);
     assert_eq!(boxed, fresh_card());
     Ok(())
 }
@@ -50,7 +50,7 @@ fn a_lent_card_is_taken_up_again() -> Result<(), Box<dyn Error>> {
     let mut memory = fresh_card().into_bytes();
     make_ready(&mut Card::from_bytes(&mut memory)?)?;
     assert_eq!(memory, ready_card().as_bytes());
-    Card::from_bytes(&mut memory[..])?.reset();
+    Card::from_bytes(&mut memory[..])?.reset(0);
     assert_eq!(memory, fresh_card().as_bytes());
     Ok(())
 }

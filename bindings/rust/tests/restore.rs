@@ -202,12 +202,12 @@ fn a_reset_ends_a_restore() {
     let (mut card, parts) = card_and_parts();
     let mut restore = card.begin_restore(2).unwrap();
     restore.feed(&parts).unwrap();
-    restore.card().reset_member(2).unwrap();
+    restore.card().reset_member(2, 0).unwrap();
     assert_eq!(numbers(restore.feed(&parts)), NOTHING_BEGUN);
     assert_eq!(numbers(restore.finish(SET)), NOTHING_BEGUN);
     let mut restore = card.begin_restore(2).unwrap();
     restore.feed(&parts).unwrap();
-    restore.card().reset();
+    restore.card().reset(0);
     drop(restore);
     assert_eq!(card, fresh_card());
 }

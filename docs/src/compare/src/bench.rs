@@ -60,7 +60,7 @@ pub fn contestants(card: &Card) -> [Contestant; 3] {
 pub fn full_card() -> Card {
     let mut random = Random::new(1, 0);
     let setup = Setup::new(MEMBERS, QUEUES.into(), 8, 8, [3; 16]).expect("it is in range");
-    let mut card = Card::fresh(setup);
+    let mut card = Card::new(setup);
     card.in_use = SUPPORTED;
     for member in &mut card.members {
         fill(&mut random, member);

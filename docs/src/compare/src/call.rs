@@ -3,6 +3,7 @@
 use std::fmt;
 
 use plain_card::frame::{Frame, GROUP};
+use plain_card::message::Message;
 
 use crate::fields::Fields;
 use crate::memory::{Buffer, Place, Room};
@@ -19,10 +20,12 @@ pub enum Call {
     Card(Buffer),
     /// A command with a reply buffer.
     Command { request: Buffer, room: Room },
-    /// Reset of one member.
-    ResetMember(u64),
-    /// Reset of the whole card.
-    ResetCard,
+    /// A message with a reply buffer.
+    Message { message: Buffer, room: Room },
+    /// Reset of one member, with the generation to start from.
+    ResetMember { member: u64, generation: u32 },
+    /// Reset of the whole card, with the generation to start from.
+    ResetCard(u32),
     /// Card store.
     Store { member: u64, part_type: u16, selector: u64, value: Buffer },
     /// Begin of a restore in fragments.
@@ -48,7 +51,8 @@ impl Call {
     /// numbers that are read.
     pub fn room(&self) -> Room {
         match self {
-            Call::Command { room, .. } | Call::Build { room, .. } => *room,
+            Call::Command { room, .. } | Call::Message { room, .. } => *room,
+            Call::Build { room, .. } => *room,
             Call::Read { .. } => NUMBERS.into(),
             _ => 0.into(),
         }
@@ -59,6 +63,7 @@ impl Call {
         match self {
             Call::Setup { features, .. } => Some(("features", features)),
             Call::Command { request, .. } => Some(("request", request)),
+            Call::Message { message, .. } => Some(("message", message)),
             Call::Store { value, .. } => Some(("value", value)),
             Call::Feed { fragment, .. } => Some(("fragment", fragment)),
             Call::Build { list, .. } => Some(("list", list)),
@@ -76,6 +81,7 @@ impl Call {
                 let names = frame.group_type == GROUP && (0x0a..=0x11).contains(&frame.opcode);
                 names.then_some(frame.member)
             }
+            Call::Message { message, .. } => Some(Message::read(message)?.member()),
             Call::Store { member, .. } => Some(*member),
             Call::Begin(member) | Call::Drop(member) => Some(*member),
             Call::Feed { member, .. } | Call::Finish { member, .. } => Some(*member),
@@ -92,8 +98,8 @@ impl Call {
                 card.place = Place::USUAL;
             }
             Call::Card(bytes) => bytes.place = Place::USUAL,
-            Call::Command { request, room } => {
-                request.place = Place::USUAL;
+            Call::Command { request: sent, room } | Call::Message { message: sent, room } => {
+                sent.place = Place::USUAL;
                 room.place = Place::USUAL;
             }
             Call::Store { value, .. } => value.place = Place::USUAL,
@@ -146,8 +152,16 @@ impl fmt::Display for Call {
                 write!(f, "command of {} bytes: {request}", request.len())?;
                 write!(f, ", reply buffer of {room}")
             }
-            Call::ResetMember(member) => write!(f, "reset of member {member}"),
-            Call::ResetCard => write!(f, "reset of the whole card"),
+            Call::Message { message, room } => {
+                write!(f, "message of {} bytes: {message}", message.len())?;
+                write!(f, ", reply buffer of {room}")
+            }
+            Call::ResetMember { member, generation } => {
+                write!(f, "reset of member {member}, generation {generation}")
+            }
+            Call::ResetCard(generation) => {
+                write!(f, "reset of the whole card, generation {generation}")
+            }
             Call::Store { member, part_type, selector, value } => {
                 write!(f, "store, member {member}, type {part_type:#x}, selector {selector:#x}")?;
                 write!(f, ", value of {} bytes: {value}", value.len())
@@ -211,11 +225,22 @@ mod tests {
     }
 
     #[test]
+    fn a_whole_message_names_its_member() {
+        let named = |message: &[u8]| {
+            Call::Message { message: message.to_vec().into(), room: 0.into() }.named()
+        };
+        let read = [0, 5, 6, 0, 0, 0, 16, 0, 0, 0, 0, 0, 0, 0, 0, 0];
+        assert_eq!(named(&read), Some(7));
+        assert_eq!(named(&read[..15]), None);
+        assert_eq!(named(&[&[1], &read[1..]].concat()), None);
+    }
+
+    #[test]
     fn a_store_names_its_member_and_a_reset_does_not() {
         let value = vec![].into();
         let store = Call::Store { member: 99, part_type: 0, selector: 0, value };
         assert_eq!(store.named(), Some(99));
-        assert_eq!(Call::ResetMember(1).named(), None);
-        assert_eq!(Call::ResetCard.named(), None);
+        assert_eq!(Call::ResetMember { member: 1, generation: 0 }.named(), None);
+        assert_eq!(Call::ResetCard(0).named(), None);
     }
 }

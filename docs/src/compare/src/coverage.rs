@@ -4,6 +4,7 @@ use std::collections::BTreeMap;
 use std::fmt;
 
 use plain_card::frame::u16_at;
+use plain_card::message::{Asked, Message};
 use plain_card::opcode::Opcode;
 
 use crate::call::Call;
@@ -36,6 +37,9 @@ const RESTORE_ANSWERS: [&str; 9] =
     ["9", "22/5", "17/1", "6/1", "22/1", "22/2", "22/3", "11/7", "0/0"];
 const EVENTS: [&str; 5] =
     ["setup", "reset of a member", "reset of the card", "card store", "is sound"];
+const MESSAGES: [&str; 3] = ["message: read", "message: write", "other messages"];
+/// What becomes of a message.
+const RESPONSES: [&str; 3] = ["none", "length 0", "data"];
 const HOST: [&str; 2] = ["request built", "reply read"];
 
 /// How often a kind of call was answered in one way.
@@ -50,8 +54,9 @@ impl Coverage {
             Call::CardBytes(_) | Call::Card(_) => return,
             Call::Command { request, .. } => (command(request), status(seen)),
             Call::Setup { .. } => (EVENTS[0], seen.answer.to_string()),
-            Call::ResetMember(_) => (EVENTS[1], seen.answer.to_string()),
-            Call::ResetCard => (EVENTS[2], seen.answer.to_string()),
+            Call::Message { message, .. } => (message_kind(message), response(seen)),
+            Call::ResetMember { .. } => (EVENTS[1], seen.answer.to_string()),
+            Call::ResetCard(_) => (EVENTS[2], seen.answer.to_string()),
             Call::Store { .. } => (EVENTS[3], seen.answer.to_string()),
             Call::Begin(_) => (RESTORES[0], restore(seen)),
             Call::Feed { .. } => (RESTORES[1], restore(seen)),
@@ -99,6 +104,24 @@ fn command(request: &[u8]) -> &'static str {
     COMMANDS[row.unwrap_or(COMMANDS.len() - 1)]
 }
 
+/// The kind of a message, if it is a whole request.
+fn message_kind(message: &[u8]) -> &'static str {
+    match Message::read(message).map(|message| message.asked) {
+        Some(Asked::Read(..)) => MESSAGES[0],
+        Some(Asked::Write(..)) => MESSAGES[1],
+        None => MESSAGES[2],
+    }
+}
+
+fn response(seen: &Seen) -> String {
+    let row = match seen.answer {
+        0 => 0,
+        20 => 1,
+        _ => 2,
+    };
+    RESPONSES[row].into()
+}
+
 fn outcome(done: bool) -> String {
     OUTCOMES[usize::from(done)].into()
 }
@@ -123,6 +146,7 @@ impl fmt::Display for Coverage {
         self.table(f, &COMMANDS, &STATUSES)?;
         self.table(f, &RESTORES, &RESTORE_ANSWERS)?;
         self.table(f, &EVENTS, &ANSWERS)?;
+        self.table(f, &MESSAGES, &RESPONSES)?;
         self.table(f, &HOST, &OUTCOMES)
     }
 }

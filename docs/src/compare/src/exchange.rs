@@ -1,9 +1,9 @@
 //! Two neighbouring calls that name different members change places.
 //!
-//! Somewhere in a sequence stand two commands, card stores or calls of a restore
-//! that name different members, one right behind the other. In the other order
-//! each must get the reply it got, all other calls the same replies, and the
-//! card at the end is the same.
+//! Somewhere in a sequence stand two commands, messages, card stores or calls of
+//! a restore that name different members, one right behind the other. In the
+//! other order each must get the reply it got, all other calls the same replies,
+//! and the card at the end is the same.
 
 use std::fmt;
 
@@ -162,6 +162,7 @@ mod tests {
             Call::Feed { .. } => 2,
             Call::Finish { .. } => 3,
             Call::Drop(_) => 4,
+            Call::Message { .. } => 5,
             _ => 0,
         };
         let mut kinds = BTreeSet::new();
@@ -174,7 +175,7 @@ mod tests {
             kinds.insert(neighbours.each_ref().map(kind));
         }
         let members = Opcode::ALL.into_iter().filter(|opcode| opcode.names_member());
-        let all: Vec<u16> = members.map(|opcode| opcode as u16).chain(0..5).collect();
+        let all: Vec<u16> = members.map(|opcode| opcode as u16).chain(0..6).collect();
         for first in &all {
             for second in &all {
                 assert!(kinds.contains(&[*first, *second]), "{first:#x} {second:#x}");

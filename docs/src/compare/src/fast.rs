@@ -4,7 +4,7 @@
 //! plain card makes, soundness of the whole card included. All else is left to
 //! the plain card.
 
-use plain_card::bytes::{HEADER, RECORD};
+use plain_card::bytes::{HEADER, HELD, MODE, OBJECTS, RECORD, VALUES};
 use plain_card::exported;
 use plain_card::frame::{array_at, u16_at, u32_at, u64_at};
 use plain_card::holding::ROOM;
@@ -44,7 +44,7 @@ fn capture(card: &[u8], request: &[u8], reply: &mut [u8]) -> Option<usize> {
         return None;
     }
     let record = records[RECORD * (member as usize - 1)..].first_chunk::<RECORD>()?;
-    if record[1 + id as usize] != 1 {
+    if record[OBJECTS + id as usize] != 1 {
         return None;
     }
     match queues {
@@ -78,8 +78,10 @@ fn sound(header: &[u8; HEADER], records: &[u8]) -> bool {
     let features: [u8; 16] = array_at(header, 4);
     let ids = usize::from(gets + sets);
     records.chunks_exact(RECORD).all(|record| {
-        let objects: [u8; 16] = array_at(record, 1);
-        (record[0] < 2) & (u16_at(record, 17) <= 1 + ROOM as u16) & (record[19..35] == features)
+        let objects: [u8; 16] = array_at(record, OBJECTS);
+        (record[MODE] < 2)
+            & (u16_at(record, HELD) <= 1 + ROOM as u16)
+            & (record[VALUES..VALUES + 16] == features)
             && objects.iter().fold(true, |low, byte| low & (*byte <= 2))
             && objects[ids..].iter().all(|byte| *byte == 0)
             && sum(&objects, |byte| byte % 2) <= gets
@@ -94,7 +96,7 @@ const SIZE_AND_ENABLED: u64 = 0xffff_0000_ffff;
 /// pass of its own has no exit before its end.
 fn no_rings<const Q: usize>(records: &[u8]) -> bool {
     let bad = records.chunks_exact(RECORD).fold(0, |bad, record| {
-        (0..Q).fold(bad, |bad, queue| bad | no_ring(u64_at(record, 64 + 32 * queue)))
+        (0..Q).fold(bad, |bad, queue| bad | no_ring(u64_at(record, VALUES + 45 + 32 * queue)))
     });
     bad & SIZE_AND_ENABLED != 0
 }
@@ -117,7 +119,7 @@ fn write<const Q: usize>(record: &[u8; RECORD], reply: &mut [u8]) -> Option<usiz
     let reply = reply.get_mut(..length)?;
     let template = const { template(Q) };
     reply.copy_from_slice(&template[..length]);
-    let values = &record[19..];
+    let values = &record[VALUES..];
     let mut copy = |to: usize, from: usize, length: usize| {
         reply[to..to + length].copy_from_slice(&values[from..from + length]);
     };

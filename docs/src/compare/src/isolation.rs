@@ -50,7 +50,11 @@ impl Trial for Pair {
         let before: Vec<Turn> = (0..random.below(40))
             .map(|_| Turn::draw(random, &mut cards, member, favoured))
             .collect();
-        let reset = if random.chance(75) { Call::ResetMember(member) } else { Call::ResetCard };
+        let generation = draw::generation(random);
+        let reset = match random.chance(75) {
+            true => Call::ResetMember { member, generation },
+            false => Call::ResetCard(generation),
+        };
         apply(&mut cards[0], &reset);
         let after = draw_calls(random, &mut cards[0], favoured, 40);
         Pair { member, left, right, before, reset, after }

@@ -3,7 +3,9 @@
 
 use std::fmt;
 
-use plain_card::bytes::{self, HEADER, RECORD};
+use plain_card::bytes::{
+    self, CONFIGURATION, GENERATION, HEADER, HELD, HOLDING, OBJECTS, RECORD, VALUES,
+};
 use plain_card::Card;
 
 use crate::call::Call;
@@ -186,11 +188,15 @@ fn place(at: usize) -> String {
     let Some(at) = at.checked_sub(HEADER) else { return " (header)".into() };
     let member = 1 + at / RECORD;
     match at % RECORD {
-        0 => format!(" (mode of member {member})"),
-        object @ 1..17 => format!(" (object {} of member {member})", object - 1),
-        17 | 18 => format!(" (length held for member {member})"),
-        value @ 19..224 => format!(" (value byte {} of member {member})", value - 19),
-        held => format!(" (byte {} held for member {member})", held - 224),
+        at @ HOLDING.. => format!(" (byte {} held for member {member})", at - HOLDING),
+        GENERATION.. => format!(" (generation of member {member})"),
+        at @ CONFIGURATION.. => {
+            format!(" (configuration byte {} of member {member})", at - CONFIGURATION)
+        }
+        at @ VALUES.. => format!(" (value byte {} of member {member})", at - VALUES),
+        HELD.. => format!(" (length held for member {member})"),
+        at @ OBJECTS.. => format!(" (object {} of member {member})", at - OBJECTS),
+        _ => format!(" (mode of member {member})"),
     }
 }
 

@@ -3,6 +3,7 @@
 use std::fmt;
 
 use plain_card::bytes;
+use plain_card::configuration::Configuration;
 use plain_card::holding::Holding;
 use plain_card::member::{Member, Mode};
 use plain_card::part::{inventory, MAX_QUEUES};
@@ -40,7 +41,7 @@ fn sound_card(f: &mut fmt::Formatter, card: &Card) -> fmt::Result {
     let Setup { members: n, queues: q, gets: g, sets: s, features } = &card.setup;
     write!(f, "card N={n} Q={q} G={g} S={s}, features {}", Hex(features))?;
     write!(f, ", in use {:#x}, fresh but for:", card.in_use)?;
-    let fresh = Member::fresh(&card.setup);
+    let fresh = Member::fresh(&card.setup, 0);
     for (member, record) in (1..).zip(&card.members).filter(|(_, record)| **record != fresh) {
         write!(f, "\n    member {member}")?;
         difference(f, record, &fresh)?;
@@ -63,6 +64,10 @@ fn difference(f: &mut fmt::Formatter, record: &Member, fresh: &Member) -> fmt::R
         if value != fresh.values.get(part) {
             write!(f, ", {part:?} {}", Hex(value))?;
         }
+    }
+    let Configuration { bytes, generation } = &record.configuration;
+    if record.configuration != fresh.configuration {
+        write!(f, ", configuration {} of generation {generation}", Hex(bytes))?;
     }
     let Holding { held, room } = &record.holding;
     if let Some(held) = held {

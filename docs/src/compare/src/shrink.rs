@@ -28,7 +28,7 @@ pub fn shrink<T: Clone>(mut items: Vec<T>, shows: impl Fn(&[T]) -> bool) -> Vec<
 
 /// The card with as much of it fresh as still shows it.
 pub fn simplify(mut card: Card, shows: impl Fn(&Card) -> bool) -> Card {
-    let fresh = Member::fresh(&card.setup);
+    let fresh = Member::fresh(&card.setup, 0);
     for member in 0..card.members.len() {
         for change in changes(&card.members[member], &fresh) {
             let mut simpler = card.clone();
@@ -51,6 +51,7 @@ fn changes<'a>(record: &Member, fresh: &'a Member) -> Vec<Change<'a>> {
         Box::new(|record| record.values = fresh.values.clone()),
         Box::new(|record| record.objects = Objects::default()),
         Box::new(|record| record.mode = Mode::Running),
+        Box::new(|record| record.configuration = fresh.configuration.clone()),
         Box::new(|record| record.holding = Holding::default()),
         Box::new(|record| record.holding.room.fill(0)),
     ];

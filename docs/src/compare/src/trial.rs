@@ -98,7 +98,7 @@ impl Side {
     /// The reply and the card, with the reply read over the bytes written.
     pub fn see(&mut self, call: &Call) -> Seen {
         let mut seen = see(self.device.as_mut(), call);
-        if let Call::Command { .. } = call {
+        if let Call::Command { .. } | Call::Message { .. } = call {
             seen.reply.truncate(seen.answer);
         }
         self.violations.append(&mut seen.violations);

@@ -26,8 +26,11 @@ impl Device for Fast {
                 0
             }
             Call::Command { request, .. } => fast::command(card, request, reply.bytes_mut()),
-            Call::ResetMember(member) => exported::reset_member(card, *member).into(),
-            Call::ResetCard => exported::reset_card(card).into(),
+            Call::Message { message, .. } => exported::message(card, message, reply.bytes_mut()),
+            Call::ResetMember { member, generation } => {
+                exported::reset_member(card, *member, *generation).into()
+            }
+            Call::ResetCard(generation) => exported::reset_card(card, *generation).into(),
             Call::Store { member, part_type, selector, value } => {
                 exported::store(card, *member, *part_type, *selector, value).into()
             }

@@ -10,11 +10,14 @@ use plain_card::{bytes, exported, Card, Setup};
 
 /// The bytes of a card with a get object and every command in use.
 fn card() -> Vec<u8> {
-    let mut card = Card::fresh(Setup::new(2, 4, 1, 1, [3; 16]).unwrap());
+    let mut card = Card::new(Setup::new(2, 4, 1, 1, [3; 16]).unwrap());
     card.in_use = SUPPORTED;
     card.members[0].objects.put(0, Kind::Get);
     bytes::write(&card)
 }
+
+/// A message that reads the configuration of member 1.
+const READ: [u8; 16] = [0, 5, 0, 0, 0, 0, 16, 0, 0, 0, 0, 0, 12, 0, 0, 0];
 
 fn capture() -> Vec<u8> {
     Request::Get(1, 0, 1, &[]).bytes()
@@ -55,6 +58,32 @@ fn a_reply_buffer_is_long_enough() {
             |card| exported::command(card, &capture(), right),
         );
         assert_eq!(written, 453);
+        assert_eq!(left[..600], right[..600]);
+    }
+}
+
+#[test]
+fn a_message_is_no_whole_request() {
+    let mut huge = Huge::new();
+    let message = huge.starting_with(&READ);
+    let mut reply = [7; 40];
+    let written = same(
+        |card| raw::message(card, message, &mut reply),
+        |card| exported::message(card, message, &mut [7; 40]),
+    );
+    assert_eq!((written, reply), (0, [7; 40]));
+}
+
+#[test]
+fn a_reply_buffer_is_long_enough_for_a_response() {
+    let (mut left, mut right) = (Huge::new(), Huge::new());
+    for few in [0, 19, 31] {
+        let (left, right) = (left.starting_with(&vec![7; few]), right.starting_with(&vec![7; few]));
+        let written = same(
+            |card| raw::message(card, &READ, left),
+            |card| exported::message(card, &READ, right),
+        );
+        assert_eq!(written, 32);
         assert_eq!(left[..600], right[..600]);
     }
 }
@@ -108,8 +137,9 @@ fn a_card_is_not_sound() {
     let card = huge.starting_with(&card());
     let mut reply = [7; 600];
     assert_eq!(raw::command(card, &capture(), &mut reply), 0);
-    assert_eq!(raw::reset_member(card, 1), 9);
-    assert_eq!(raw::reset_card(card), 9);
+    assert_eq!(raw::message(card, &READ, &mut reply), 0);
+    assert_eq!(raw::reset_member(card, 1, 0), 9);
+    assert_eq!(raw::reset_card(card, 0), 9);
     assert_eq!(raw::store(card, 1, 0x101, 0, &[7; 16]), 9);
     assert_eq!(raw::restore_begin(card, 1), 9);
     assert_eq!(raw::restore_feed(card, 1, &[7; 16]), 9);

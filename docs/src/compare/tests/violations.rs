@@ -47,7 +47,7 @@ fn change_fragment(call: &Call, lending: &mut Lending) {
 }
 
 fn read_ahead_of_card(call: &Call, lending: &mut Lending) {
-    if *call == Call::ResetCard {
+    if let Call::ResetCard(_) = call {
         lending.card.read_beside(-1);
     }
 }
@@ -64,7 +64,7 @@ fn a_read_beside_the_request_is_shortened_to_one_command() {
 fn a_read_beside_the_card_keeps_the_card_where_it_shows() {
     let Difference { calls, what, .. } = difference(read_ahead_of_card);
     assert_eq!(what, "  a guard page beside the card was accessed\n");
-    let [Call::Card(_) | Call::Setup { .. }, Call::ResetCard] = &calls[..] else {
+    let [Call::Card(_) | Call::Setup { .. }, Call::ResetCard(_)] = &calls[..] else {
         panic!("{calls:?}")
     };
     let place = match &calls[0] {

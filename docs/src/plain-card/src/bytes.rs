@@ -6,10 +6,13 @@
 //! | device features | 16 | objects: 0 free, 1 get, 2 set | 16 |
 //! | list in use, little-endian | 8 | holding place, little-endian: 0 none, k + 1 open with k bytes | 2 |
 //! | | | values of the parts for Q = 4, in order | 205 |
+//! | | | configuration | 12 |
+//! | | | generation, little-endian | 4 |
 //! | | | holding place: its bytes | 1,024 |
 
 use crate::card::Card;
-use crate::frame::{array_at, u16_at, u64_at};
+use crate::configuration::{self, Configuration};
+use crate::frame::{array_at, u16_at, u32_at, u64_at};
 use crate::holding::{Holding, ROOM};
 use crate::member::{Member, Mode};
 use crate::object::{Kind, Objects, IDS};
@@ -21,14 +24,20 @@ use crate::values::Values;
 pub const HEADER: usize = 28;
 /// The length of a member's record.
 pub const RECORD: usize = HOLDING + ROOM;
+/// Where the mode stands in a record.
+pub const MODE: usize = 0;
 /// Where the objects stand in a record.
-const OBJECTS: usize = 1;
+pub const OBJECTS: usize = MODE + 1;
 /// Where it stands in a record whether a holding place is open.
-const HELD: usize = OBJECTS + IDS;
+pub const HELD: usize = OBJECTS + IDS;
 /// Where the values stand in a record.
-const VALUES: usize = HELD + 2;
+pub const VALUES: usize = HELD + 2;
+/// Where the configuration stands in a record.
+pub const CONFIGURATION: usize = VALUES + 205;
+/// Where the generation stands in a record.
+pub const GENERATION: usize = CONFIGURATION + configuration::LENGTH;
 /// Where the bytes of the holding place stand in a record.
-const HOLDING: usize = VALUES + 205;
+pub const HOLDING: usize = GENERATION + 4;
 
 /// The card that the bytes say, sound or not. Bytes of another length than the
 /// header's N asks for, a mode byte over 1 and an object byte over 2 say none.
@@ -50,9 +59,13 @@ pub fn read(bytes: &[u8]) -> Option<Card> {
 
 fn read_record(record: &[u8]) -> Option<Member> {
     Some(Member {
-        mode: read_mode(record[0])?,
+        mode: read_mode(record[MODE])?,
         objects: read_objects(&record[OBJECTS..HELD])?,
-        values: read_values(&record[VALUES..HOLDING]),
+        values: read_values(&record[VALUES..CONFIGURATION]),
+        configuration: Configuration {
+            bytes: array_at(record, CONFIGURATION),
+            generation: u32_at(record, GENERATION),
+        },
         holding: Holding {
             held: u16_at(record, HELD).checked_sub(1),
             room: array_at(record, HOLDING),
@@ -119,5 +132,7 @@ fn write_record(bytes: &mut Vec<u8>, member: &Member) {
     for part in inventory(MAX_QUEUES) {
         bytes.extend(member.values.get(part));
     }
+    bytes.extend(member.configuration.bytes);
+    bytes.extend(member.configuration.generation.to_le_bytes());
     bytes.extend(room);
 }

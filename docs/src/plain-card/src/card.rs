@@ -16,9 +16,15 @@ pub struct Card {
 }
 
 impl Card {
-    /// A fresh card: commands 0x0 and 0x1 in use, every member fresh.
-    pub fn fresh(setup: Setup) -> Card {
-        let members = vec![Member::fresh(&setup); usize::from(setup.members)];
+    /// A new card: fresh, with generation 0.
+    pub fn new(setup: Setup) -> Card {
+        Card::fresh(setup, 0)
+    }
+
+    /// A fresh card: commands 0x0 and 0x1 in use, every member fresh with the
+    /// one generation.
+    pub fn fresh(setup: Setup, generation: u32) -> Card {
+        let members = vec![Member::fresh(&setup, generation); usize::from(setup.members)];
         Card { setup, in_use: FRESH, members }
     }
 

@@ -6,18 +6,20 @@ use crate::part::Part;
 use crate::status::EventError;
 
 impl Card {
-    /// Reset of one member: makes it fresh and changes nothing else.
-    pub fn reset_member(&mut self, member: u64) -> Result<(), EventError> {
+    /// Reset of one member: makes it fresh, with the generation to start from,
+    /// and changes nothing else.
+    pub fn reset_member(&mut self, member: u64, generation: u32) -> Result<(), EventError> {
         EventError::NotSound.unless(self.is_sound())?;
         EventError::NoMember.unless(self.setup.has_member(member))?;
-        *self.member_mut(member) = Member::fresh(&self.setup);
+        *self.member_mut(member) = Member::fresh(&self.setup, generation);
         Ok(())
     }
 
-    /// Reset of the whole card: as fresh as after setup.
-    pub fn reset(&mut self) -> Result<(), EventError> {
+    /// Reset of the whole card: as fresh as after setup, with one generation
+    /// for all members to start from.
+    pub fn reset(&mut self, generation: u32) -> Result<(), EventError> {
         EventError::NotSound.unless(self.is_sound())?;
-        *self = Card::fresh(self.setup.clone());
+        *self = Card::fresh(self.setup.clone(), generation);
         Ok(())
     }
 

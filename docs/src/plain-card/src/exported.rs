@@ -32,7 +32,7 @@ pub fn setup(
         .try_into()
         .ok()
         .and_then(|features| Setup::new(members, queues, gets, sets, features))
-        .map(|setup| write(&Card::fresh(setup)))
+        .map(|setup| write(&Card::new(setup)))
         .filter(|fresh| fresh.len() == card.len());
     match fresh {
         Some(fresh) => {
@@ -59,14 +59,22 @@ pub fn command(card: &mut [u8], request: &[u8], reply: &mut [u8]) -> usize {
     written
 }
 
-/// Reset of one member.
-pub fn reset_member(card: &mut [u8], member: u64) -> u8 {
-    event(card, |card| card.reset_member(member))
+/// Hears a message; tells the bytes written to `reply`, 0 for the bus outcome.
+pub fn message(card: &mut [u8], message: &[u8], reply: &mut [u8]) -> usize {
+    let Some(mut plain) = read(card) else { return 0 };
+    let written = crate::message(&mut plain, message, reply);
+    card.copy_from_slice(&write(&plain));
+    written
 }
 
-/// Reset of the whole card.
-pub fn reset_card(card: &mut [u8]) -> u8 {
-    event(card, Card::reset)
+/// Reset of one member, with the generation to start from.
+pub fn reset_member(card: &mut [u8], member: u64, generation: u32) -> u8 {
+    event(card, |card| card.reset_member(member, generation))
+}
+
+/// Reset of the whole card, with the generation to start from.
+pub fn reset_card(card: &mut [u8], generation: u32) -> u8 {
+    event(card, |card| card.reset(generation))
 }
 
 /// Card store; `selector` is the eight bytes as a little-endian number.

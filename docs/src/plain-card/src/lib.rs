@@ -1,5 +1,5 @@
 //! An independent plain Rust card and host, written from document 01 and
-//! requests 1, 2, 5 and 6 of document 02 alone.
+//! requests 1, 2, 3, 5 and 6 of document 02 alone.
 //!
 //! It is the readable, executable version of these and the reference that the
 //! verified archive is compared with. It shares no code with the archive. Terms
@@ -10,12 +10,13 @@
 //!
 //! | module | holds |
 //! |---|---|
-//! | [`setup`], [`card`], [`member`], [`object`], [`part`], [`queue`], [`values`], [`holding`] | the card and what it is made of |
+//! | [`setup`], [`card`], [`member`], [`object`], [`part`], [`queue`], [`values`], [`holding`], [`configuration`] | the card and what it is made of |
 //! | [`frame`], [`opcode`], [`operation`] | from request bytes to what is asked: steps 2 to 7 |
 //! | [`list`] | lists of parts, asked and given: step 10 |
 //! | [`command`](mod@command), [`effect`] | the steps in order, and what a command does |
 //! | [`event`] | resets and card store |
 //! | [`restore`] | restore in fragments |
+//! | [`message`](mod@message) | configuration by message |
 //! | [`status`] | the numbers of the answers |
 //! | [`host`] | requests built from their fields, replies read |
 //! | [`bytes`], [`exported`] | the card as bytes, and the archive's functions over them |
@@ -26,6 +27,7 @@
 pub mod bytes;
 pub mod card;
 pub mod command;
+pub mod configuration;
 pub mod effect;
 pub mod event;
 pub mod exported;
@@ -34,6 +36,7 @@ pub mod holding;
 pub mod host;
 pub mod list;
 pub mod member;
+pub mod message;
 pub mod object;
 pub mod opcode;
 pub mod operation;
@@ -46,4 +49,5 @@ pub mod values;
 
 pub use card::Card;
 pub use command::command;
+pub use message::message;
 pub use setup::Setup;

@@ -1,5 +1,6 @@
 //! A member's record.
 
+use crate::configuration::Configuration;
 use crate::holding::Holding;
 use crate::object::Objects;
 use crate::setup::Setup;
@@ -15,8 +16,8 @@ pub enum Mode {
     Stopped,
 }
 
-/// The record of a member: its mode, its live objects, its parts and its
-/// holding place.
+/// The record of a member: its mode, its live objects, its parts, its
+/// configuration and its holding place.
 #[derive(Clone, Debug, PartialEq, Eq)]
 pub struct Member {
     /// Running or stopped.
@@ -25,18 +26,22 @@ pub struct Member {
     pub objects: Objects,
     /// The values of the parts.
     pub values: Values,
+    /// The configuration and its generation; no part.
+    pub configuration: Configuration,
     /// The holding place of a restore in fragments.
     pub holding: Holding,
 }
 
 impl Member {
     /// A fresh member runs, has no objects, has device features as in the
-    /// setup and every other part all zero. No holding place is open.
-    pub fn fresh(setup: &Setup) -> Member {
+    /// setup and every other part all zero. Its configuration is zero, with the
+    /// generation given. No holding place is open.
+    pub fn fresh(setup: &Setup, generation: u32) -> Member {
         Member {
             mode: Mode::Running,
             objects: Objects::default(),
             values: Values { device_features: setup.features, ..Values::default() },
+            configuration: Configuration::fresh(generation),
             holding: Holding::default(),
         }
     }

@@ -3,12 +3,14 @@
 mod common;
 
 use common::*;
+use plain_card::configuration::Configuration;
 use plain_card::{bytes, exported};
 
 /// The bytes of a card with N=2, Q=2, G=1, S=2 and both members in use.
 fn sample() -> Vec<u8> {
     let mut card = stopped(card(2, 2, 1, 2));
     card.store(2, 0x104, [1, 0, 0, 0, 0, 0, 0, 0], &queue(256, 9)).unwrap();
+    card.members[1].configuration = Configuration { bytes: [5; 12], generation: 0x0403_0201 };
     card.restore_begin(2).unwrap();
     card.restore_feed(2, &[6; 300]).unwrap();
     bytes::write(&card)
@@ -23,13 +25,15 @@ fn sound(card: &[u8]) -> bool {
     let mut reply = [PATTERN; 8];
     assert_eq!(exported::command(&mut copy, &[], &mut reply) != 0, sound);
     assert_eq!(exported::store(&mut copy, 0, 0, 0, &[]) != 9, sound);
-    assert_eq!(exported::reset_member(&mut copy, 0) != 9, sound);
+    let read = [0, 5, 0, 0, 0, 0, 16, 0, 0, 0, 0, 0, 0, 0, 0, 0];
+    assert_eq!(exported::message(&mut copy, &read, &mut [PATTERN; 20]) != 0, sound);
+    assert_eq!(exported::reset_member(&mut copy, 0, 0) != 9, sound);
     assert_eq!(exported::restore_begin(&mut copy, 0) != 9, sound);
     assert_eq!(exported::restore_feed(&mut copy, 0, &[]) != 9, sound);
     assert_eq!(exported::restore_finish(&mut copy, 0, 0) != 9, sound);
     assert_eq!(exported::restore_drop(&mut copy, 0) != 9, sound);
     assert_eq!(copy, card);
-    assert_eq!(exported::reset_card(&mut copy) != 9, sound);
+    assert_eq!(exported::reset_card(&mut copy, 0) != 9, sound);
     assert!(sound || (copy == card && reply == [PATTERN; 8]));
     sound
 }
@@ -44,19 +48,21 @@ fn with(at: usize, byte: u8) -> Vec<u8> {
 #[test]
 fn the_layout() {
     let card = sample();
-    assert_eq!(card.len(), 28 + 2 * 1248);
+    assert_eq!(card.len(), 28 + 2 * 1264);
     assert_eq!(card[..4], [2, 2, 1, 2]);
     assert_eq!(card[20..28], ALL.to_le_bytes());
     assert_eq!(card[28..33], [1, 1, 2, 0, 0]);
-    let second = &card[28 + 1248..];
+    let second = &card[28 + 1264..];
     assert_eq!(second[..17], [0; 17]);
     // A holding place of 300 bytes.
     assert_eq!(second[17..19], [45, 1]);
     // Queue 1 follows 16 + 16 + 4 + 4 + 2 + 2 + 1 value bytes and queue 0.
     assert_eq!(second[19 + 45 + 32..19 + 45 + 64], queue(256, 9));
     assert_eq!(second[19 + 45 + 64..224], [0; 205 - 45 - 64]);
-    assert_eq!(second[224..224 + 300], [6; 300]);
-    assert_eq!(second[224 + 300..], [0; 724]);
+    assert_eq!(second[224..236], [5; 12]);
+    assert_eq!(second[236..240], [1, 2, 3, 4]);
+    assert_eq!(second[240..240 + 300], [6; 300]);
+    assert_eq!(second[240 + 300..], [0; 724]);
 }
 
 #[test]
@@ -74,7 +80,7 @@ fn read_and_write_are_inverse() {
 fn the_length_is_exact() {
     let card = sample();
     assert!(sound(&card));
-    for length in [0, 27, 28, 28 + 1248, card.len() - 1] {
+    for length in [0, 27, 28, 28 + 1264, card.len() - 1] {
         assert!(!sound(&card[..length]));
     }
     assert!(!sound(&[card, vec![0]].concat()));
@@ -91,7 +97,7 @@ fn the_setup_is_in_range() {
     for members in 1..=20 {
         let mut header = bytes::write(&card(1, 1, 0, 0))[..28].to_vec();
         header[0] = members;
-        let card = [header, vec![0; 1248 * usize::from(members)]].concat();
+        let card = [header, vec![0; 1264 * usize::from(members)]].concat();
         assert_eq!(sound(&card), members <= 16);
     }
 }
@@ -129,7 +135,7 @@ fn device_features_are_those_of_the_setup() {
     for at in 0..16 {
         assert!(!sound(&with(4 + at, 1)));
         assert!(!sound(&with(28 + 19 + at, 1)));
-        assert!(!sound(&with(28 + 1248 + 19 + at, 1)));
+        assert!(!sound(&with(28 + 1264 + 19 + at, 1)));
     }
 }
 
@@ -139,14 +145,14 @@ fn other_values_are_free_and_carried() {
     let queues = 28 + 19 + 45..28 + 19 + 45 + 64;
     let ruled =
         |at: &usize| queues.contains(at) && [0, 1, 4, 5].contains(&((at - queues.start) % 32));
-    for at in (28 + 19 + 16..28 + 1248).filter(|at| !ruled(at)) {
+    for at in (28 + 19 + 16..28 + 1264).filter(|at| !ruled(at)) {
         let mut card = with(at, 0xff);
         assert!(sound(&card));
         let before = card.clone();
-        assert_eq!(exported::reset_member(&mut card, 2), 0);
-        assert_eq!(card[..28 + 1248], before[..28 + 1248]);
-        assert_eq!(exported::reset_member(&mut card, 1), 0);
-        assert_eq!(card[28 + 19 + 16..], [0; 2 * 1248 - 19 - 16][..]);
+        assert_eq!(exported::reset_member(&mut card, 2, 0), 0);
+        assert_eq!(card[..28 + 1264], before[..28 + 1264]);
+        assert_eq!(exported::reset_member(&mut card, 1, 0), 0);
+        assert_eq!(card[28 + 19 + 16..], [0; 2 * 1264 - 19 - 16][..]);
     }
 }
 
@@ -169,18 +175,18 @@ fn a_holding_place_holds_1024_bytes_at_most() {
 
 #[test]
 fn setup_makes_a_fresh_card_or_zeros() {
-    let mut card = vec![PATTERN; 28 + 2 * 1248];
+    let mut card = vec![PATTERN; 28 + 2 * 1264];
     assert_eq!(exported::setup(&mut card, 2, 1, 1, 1, &[0; 16]), 0);
     assert_eq!(card, bytes::write(&fresh()));
     let refused: [(u64, u64, u64, u64, usize, usize); 9] = [
         (0, 1, 1, 1, 16, 28),
-        (17, 1, 1, 1, 16, 28 + 17 * 1248),
-        (2, 0, 1, 1, 16, 28 + 2 * 1248),
-        (2, 5, 1, 1, 16, 28 + 2 * 1248),
-        (2, 1, 9, 1, 16, 28 + 2 * 1248),
-        (2, 1, 1, 9, 16, 28 + 2 * 1248),
-        (2, 1, 1, 1, 15, 28 + 2 * 1248),
-        (2, 1, 1, 1, 16, 28 + 2 * 1248 + 1),
+        (17, 1, 1, 1, 16, 28 + 17 * 1264),
+        (2, 0, 1, 1, 16, 28 + 2 * 1264),
+        (2, 5, 1, 1, 16, 28 + 2 * 1264),
+        (2, 1, 9, 1, 16, 28 + 2 * 1264),
+        (2, 1, 1, 9, 16, 28 + 2 * 1264),
+        (2, 1, 1, 1, 15, 28 + 2 * 1264),
+        (2, 1, 1, 1, 16, 28 + 2 * 1264 + 1),
         (2, 1, 1, 1, 16, 0),
     ];
     for (members, queues, gets, sets, features, length) in refused {
@@ -194,8 +200,8 @@ fn setup_makes_a_fresh_card_or_zeros() {
 
 #[test]
 fn the_length_of_a_card() {
-    assert_eq!(exported::card_bytes(1), 28 + 1248);
-    assert_eq!(exported::card_bytes(16), 28 + 16 * 1248);
+    assert_eq!(exported::card_bytes(1), 28 + 1264);
+    assert_eq!(exported::card_bytes(16), 28 + 16 * 1264);
     for members in [0, 17, 257, 1 << 32 | 1, u64::MAX] {
         assert_eq!(exported::card_bytes(members), 0);
     }

@@ -21,11 +21,11 @@ fn busy() -> Card {
 #[test]
 fn a_fresh_card() {
     let setup = Setup::new(3, 2, 1, 1, [7; 16]).unwrap();
-    let card = Card::fresh(setup.clone());
+    let card = Card::new(setup.clone());
     assert!(card.is_sound());
     assert_eq!((card.in_use, card.members.len()), (3, 3));
     for member in &card.members {
-        assert_eq!(member, &Member::fresh(&setup));
+        assert_eq!(member, &Member::fresh(&setup, 0));
         assert_eq!(member.mode, Mode::Running);
         assert_eq!(member.values.device_features, [7; 16]);
         assert_eq!(member.values.queues, [[0; 32]; 4]);
@@ -36,8 +36,8 @@ fn a_fresh_card() {
 fn reset_of_a_member_changes_nothing_else() {
     let before = busy();
     let mut card = before.clone();
-    assert_eq!(card.reset_member(1), Ok(()));
-    assert_eq!(card.members[0], Member::fresh(&card.setup));
+    assert_eq!(card.reset_member(1, 7), Ok(()));
+    assert_eq!(card.members[0], Member::fresh(&card.setup, 7));
     assert_eq!(card.members[1], before.members[1]);
     assert_eq!((&card.setup, card.in_use), (&before.setup, before.in_use));
 }
@@ -45,7 +45,9 @@ fn reset_of_a_member_changes_nothing_else() {
 #[test]
 fn reset_of_the_whole_card() {
     let mut card = busy();
-    assert_eq!(card.reset(), Ok(()));
+    assert_eq!(card.reset(7), Ok(()));
+    assert_eq!(card, Card::fresh(card.setup.clone(), 7));
+    assert_eq!(card.reset(0), Ok(()));
     assert_eq!(card, common::card(2, 2, 1, 1));
 }
 
@@ -78,7 +80,7 @@ fn refusals_in_their_order() {
     let before = busy();
     let mut card = before.clone();
     for member in [0, 3, 1 << 32 | 1, u64::MAX] {
-        assert_eq!(card.reset_member(member), Err(EventError::NoMember));
+        assert_eq!(card.reset_member(member, 7), Err(EventError::NoMember));
         assert_eq!(card.store(member, 0x999, [0; 8], &[]), Err(EventError::NoMember));
     }
     for part_type in [0x100, 0x106, 0x600] {
@@ -99,8 +101,8 @@ fn an_unsound_card_answers_9_first() {
     let mut card = busy();
     card.in_use = 4;
     let before = card.clone();
-    assert_eq!(card.reset(), Err(EventError::NotSound));
-    assert_eq!(card.reset_member(9), Err(EventError::NotSound));
+    assert_eq!(card.reset(7), Err(EventError::NotSound));
+    assert_eq!(card.reset_member(9, 7), Err(EventError::NotSound));
     assert_eq!(card.store(9, 0x999, [0; 8], &[]), Err(EventError::NotSound));
     assert_eq!(card, before);
 }

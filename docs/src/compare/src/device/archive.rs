@@ -23,8 +23,8 @@ pub type Misuse = fn(&Call, &mut Lending);
 pub struct Lending<'a> {
     /// The card.
     pub card: &'a mut Lent,
-    /// What the call only reads: request, features, value, fragment, list or
-    /// reply.
+    /// What the call only reads: request, message, features, value, fragment,
+    /// list or reply.
     pub input: &'a mut Lent,
     /// The buffer that is written besides the card.
     pub reply: &'a mut Lent,
@@ -49,8 +49,11 @@ impl Archive {
             }
             Call::Card(_) => 0,
             Call::Command { .. } => raw::command(card, input, reply),
-            Call::ResetMember(member) => raw::reset_member(card, *member).into(),
-            Call::ResetCard => raw::reset_card(card).into(),
+            Call::Message { .. } => raw::message(card, input, reply),
+            Call::ResetMember { member, generation } => {
+                raw::reset_member(card, *member, *generation).into()
+            }
+            Call::ResetCard(generation) => raw::reset_card(card, *generation).into(),
             Call::Store { member, part_type, selector, .. } => {
                 raw::store(card, *member, *part_type, *selector, input).into()
             }

@@ -3,7 +3,7 @@
 use plain_card::bytes;
 use plain_card::exported;
 use plain_card::status::{answer, restore_answer, EventError, RestoreError};
-use plain_card::{command, Card, Setup};
+use plain_card::{command, message, Card, Setup};
 
 use super::{read_into, Device};
 use crate::call::Call;
@@ -54,8 +54,14 @@ impl Plain {
                 Plain::Card(card) => command(card, request, reply),
                 Plain::NoCard(_) => 0,
             },
-            Call::ResetMember(member) => self.event(|card| card.reset_member(*member)),
-            Call::ResetCard => self.event(Card::reset),
+            Call::Message { message: sent, .. } => match self {
+                Plain::Card(card) => message(card, sent, reply),
+                Plain::NoCard(_) => 0,
+            },
+            Call::ResetMember { member, generation } => {
+                self.event(|card| card.reset_member(*member, *generation))
+            }
+            Call::ResetCard(generation) => self.event(|card| card.reset(*generation)),
             Call::Store { member, part_type, selector, value } => {
                 self.event(|card| card.store(*member, *part_type, selector.to_le_bytes(), value))
             }
@@ -77,7 +83,7 @@ impl Plain {
         let setup = features.try_into().ok().and_then(|features| Setup::new(n, q, g, s, features));
         match setup {
             Some(setup) if length == exported::card_bytes(n) => {
-                (answer(Ok(())), Plain::Card(Card::fresh(setup)))
+                (answer(Ok(())), Plain::Card(Card::new(setup)))
             }
             _ => (answer(Err(EventError::BadSetup)), Plain::from_bytes(&vec![0; length])),
         }

@@ -1,18 +1,15 @@
 //! Random setups and cards.
 
-use plain_card::bytes::{self, HEADER, RECORD};
-use plain_card::holding::ROOM;
+use plain_card::bytes::{self, HEADER, HELD, HOLDING, MODE, OBJECTS, RECORD, VALUES};
+use plain_card::configuration::Configuration;
 use plain_card::member::{Member, Mode};
 use plain_card::object::{Kind, IDS};
 use plain_card::opcode::SUPPORTED;
 use plain_card::part::{inventory, Part, MAX_QUEUES};
 use plain_card::{Card, Setup};
 
-use super::{length, restore, value};
+use super::{generation, length, restore, value};
 use crate::random::Random;
-
-/// The length of a record ahead of the bytes of its holding place.
-const FIELDS: usize = RECORD - ROOM;
 
 /// Where the queues stand among the values of a record.
 const FIRST_QUEUE: usize = 45;
@@ -34,7 +31,7 @@ pub fn sound_card(random: &mut Random) -> Card {
     let [members, queues, gets, sets] = setup_numbers(random);
     let features = random.bytes(16).try_into().expect("there are 16 bytes");
     let setup = Setup::new(members, queues, gets, sets, features).expect("it is in range");
-    let mut card = Card::fresh(setup);
+    let mut card = Card::new(setup);
     card.in_use = match random.weighted(&[70, 15, 10, 5]) {
         0 => SUPPORTED,
         1 => random.bits() & SUPPORTED | 0b11,
@@ -49,7 +46,7 @@ pub fn sound_card(random: &mut Random) -> Card {
 
 /// A record that may stand in a sound card of this setup.
 pub fn other_record(random: &mut Random, setup: &Setup) -> Member {
-    let mut member = Member::fresh(setup);
+    let mut member = Member::fresh(setup, 0);
     if random.chance(50) {
         member.mode = Mode::Stopped;
     }
@@ -64,6 +61,10 @@ pub fn other_record(random: &mut Random, setup: &Setup) -> Member {
     }
     if random.chance(30) {
         member.holding = restore::holding(random, setup);
+    }
+    if random.chance(70) {
+        let bytes = std::array::from_fn(|_| random.byte());
+        member.configuration = Configuration { bytes, generation: generation(random) };
     }
     for part in inventory(MAX_QUEUES).filter(|part| *part != Part::DeviceFeatures) {
         if random.chance(50) {
@@ -106,7 +107,7 @@ pub fn any_bytes(random: &mut Random) -> Vec<u8> {
 fn any_place(random: &mut Random, length: usize) -> usize {
     let at = random.below(length);
     match at.checked_sub(HEADER) {
-        Some(at) if random.chance(80) => HEADER + at / RECORD * RECORD + at % RECORD % FIELDS,
+        Some(at) if random.chance(80) => HEADER + at / RECORD * RECORD + at % RECORD % HOLDING,
         _ => at,
     }
 }
@@ -117,7 +118,7 @@ fn break_rule(random: &mut Random, card: &mut [u8]) {
     let last = (card.len() - HEADER) / RECORD - 1;
     let member = if random.chance(40) { last } else { random.below(last + 1) };
     let record = HEADER + RECORD * member;
-    let (objects, held, features) = (record + 1, record + 17, record + 19);
+    let [mode, objects, held, features] = [MODE, OBJECTS, HELD, VALUES].map(|at| record + at);
     let queues = usize::from(card[1]);
     let valid = usize::from(card[2] + card[3]);
     match random.below(12) {
@@ -125,13 +126,13 @@ fn break_rule(random: &mut Random, card: &mut [u8]) {
         1 => card[2 + random.below(2)] = random.pick(&[9, 16, 255]),
         2 => card[4 + random.below(16)] ^= 1 << random.below(8),
         3 => card[20 + random.below(8)] |= 1 << random.below(8),
-        4 => card[record] = random.pick(&[2, 3, 128, 255]),
+        4 => card[mode] = random.pick(&[2, 3, 128, 255]),
         5 => card[objects + random.below(IDS)] = random.pick(&[3, 4, 128, 255]),
         6 => card[objects + valid.min(IDS - 1)..held].fill(1 + random.byte() % 2),
         7 => card[objects..objects + valid].fill(1 + random.byte() % 2),
         8 => {
             let number: u16 = random.pick(&[1026, 1027, 1280, 2049, 0x8000, 0xffff]);
-            card[held..features].copy_from_slice(&number.to_le_bytes());
+            card[held..held + 2].copy_from_slice(&number.to_le_bytes());
         }
         9 => card[features + random.below(16)] ^= 1 << random.below(8),
         _ => {
@@ -156,7 +157,7 @@ fn change_length(random: &mut Random, card: &mut Vec<u8>) {
 /// Any number of fresh members; they are a sound card from 1 to 16.
 fn fresh_bytes(members: usize) -> Vec<u8> {
     let setup = Setup::new(1, 1, 1, 1, [0; 16]).expect("it is in range");
-    let mut card = bytes::write(&Card::fresh(setup));
+    let mut card = bytes::write(&Card::new(setup));
     card[0] = members as u8;
     card.resize(HEADER + RECORD * members, 0);
     card

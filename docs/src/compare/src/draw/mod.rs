@@ -5,12 +5,14 @@ mod command;
 mod host;
 mod length;
 mod list;
+mod message;
 mod restore;
 mod spoil;
 mod value;
 
 pub use card::{any_bytes, other_record, setup_numbers, sound_card};
 pub use list::{asked, given};
+pub use message::generation;
 pub use restore::{list_to_restore, set_id};
 pub use value::good as good_value;
 
@@ -105,16 +107,20 @@ pub fn next(random: &mut Random, card: Option<&Card>, favoured: Favoured) -> Cal
     }
 }
 
-/// The next command, card event or call of a restore on a card.
+/// The next command, message, card event or call of a restore on a card.
 pub fn on_card(random: &mut Random, card: &Card, favoured: Favoured) -> Call {
     // Without list use nothing but a reset changes the list again.
     let locked = card.in_use & Opcode::ListUse.bit() == 0;
-    match random.weighted(&[80, 12, 30, 5, if locked { 20 } else { 1 }]) {
+    match random.weighted(&[80, 12, 30, 16, 5, if locked { 20 } else { 1 }]) {
         0 => command::command(random, card, favoured),
         1 => store(random, card, favoured),
         2 => restore::restore(random, card, favoured),
-        3 => Call::ResetMember(any_member(random, card, favoured)),
-        _ => Call::ResetCard,
+        3 => message::message(random, card, favoured),
+        4 => {
+            let member = any_member(random, card, favoured);
+            Call::ResetMember { member, generation: generation(random) }
+        }
+        _ => Call::ResetCard(generation(random)),
     }
 }
 

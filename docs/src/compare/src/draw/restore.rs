@@ -274,7 +274,7 @@ mod tests {
         let mut random = Random::new(1, 0);
         let mut held = [false; ROOM + 1];
         let mut long = 0;
-        for _ in 0..20_000 {
+        for _ in 0..40_000 {
             let card = ready(&mut random);
             let fragment = fragment(&mut random, &card, &[]);
             long += usize::from(fragment.len() > 1 << 16);

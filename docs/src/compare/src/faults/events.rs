@@ -51,51 +51,44 @@ pub const FAULTS: &[Fault] = &[
     fault("card bytes: a length for 17 members", Plant::Leave(length_of_17)),
 ];
 
-/// The cards before and after a reset of one member that was done.
-fn reset<'a>(outcome: &'a mut Outcome) -> Option<(&'a Card, &'a mut Card, u64)> {
-    let Call::ResetMember(member) = outcome.call else { return None };
-    let done = outcome.done();
-    outcome.cards().filter(|_| done).map(|(before, after)| (before, after, *member))
-}
-
 fn reset_keeps_queues(outcome: &mut Outcome) {
-    if let Some((before, after, member)) = reset(outcome) {
+    if let Some((before, after, member)) = outcome.reset() {
         after.member_mut(member).values.queues = before.member(member).values.queues;
     }
 }
 
 fn reset_clears_list(outcome: &mut Outcome) {
-    if let Some((_, after, _)) = reset(outcome) {
+    if let Some((_, after, _)) = outcome.reset() {
         after.in_use = FRESH;
     }
 }
 
 fn reset_keeps_mode(outcome: &mut Outcome) {
-    if let Some((before, after, member)) = reset(outcome) {
+    if let Some((before, after, member)) = outcome.reset() {
         after.member_mut(member).mode = before.member(member).mode;
     }
 }
 
 fn reset_keeps_objects(outcome: &mut Outcome) {
-    if let Some((before, after, member)) = reset(outcome) {
+    if let Some((before, after, member)) = outcome.reset() {
         after.member_mut(member).objects = before.member(member).objects.clone();
     }
 }
 
 fn reset_past_8(outcome: &mut Outcome) {
-    if let Some((before, after, member @ 9..)) = reset(outcome) {
+    if let Some((before, after, member @ 9..)) = outcome.reset() {
         after.member_mut(member).objects = before.member(member).objects.clone();
     }
 }
 
 fn reset_16(outcome: &mut Outcome) {
-    if let Some((before, after, 16)) = reset(outcome) {
+    if let Some((before, after, 16)) = outcome.reset() {
         after.member_mut(16).values.notifies = before.member(16).values.notifies;
     }
 }
 
 fn reset_next(outcome: &mut Outcome) {
-    if let Some((_, after, member)) = reset(outcome) {
+    if let Some((_, after, member)) = outcome.reset() {
         if after.setup.has_member(member + 1) {
             *after.member_mut(member + 1) = after.member(member).clone();
         }
@@ -103,15 +96,13 @@ fn reset_next(outcome: &mut Outcome) {
 }
 
 fn card_keeps_list(outcome: &mut Outcome) {
-    if let (Call::ResetCard, true, Some((before, after))) =
-        (outcome.call, outcome.done(), outcome.cards())
-    {
+    if let Some((before, after)) = outcome.card_reset() {
         after.in_use = before.in_use;
     }
 }
 
 fn reset_keeps_beyond(outcome: &mut Outcome) {
-    if let Some((before, after, member)) = reset(outcome) {
+    if let Some((before, after, member)) = outcome.reset() {
         let queues = usize::from(after.setup.queues);
         let old = &before.member(member).values;
         let new = &mut after.member_mut(member).values;

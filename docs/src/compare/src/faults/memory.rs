@@ -12,6 +12,9 @@ pub const FAULTS: &[Fault] = &[
     fault("memory: byte behind the value read", Plant::Misuse(value_behind)),
     fault("memory: byte behind the features read", Plant::Misuse(features_behind)),
     fault("memory: byte behind the fragment read", Plant::Misuse(fragment_behind)),
+    fault("memory: byte behind the message read", Plant::Misuse(message_behind)),
+    fault("memory: message changed", Plant::Misuse(message_changed)),
+    fault("memory: byte behind the response written", Plant::Misuse(response_written)),
     fault("memory: byte behind the card read", Plant::Misuse(card_behind)),
     fault("memory: byte ahead of the card read", Plant::Misuse(card_ahead)),
     fault("memory: byte behind the card written", Plant::Misuse(card_written)),
@@ -32,16 +35,16 @@ pub const FAULTS: &[Fault] = &[
     fault("memory: reply to read changed", Plant::Misuse(reply_read_changed)),
 ];
 
-/// The request of a command, the value of a store, the features of a setup or
-/// the fragment of a feed, if that is what the call reads.
+/// The request of a command, the message, the value of a store, the features of
+/// a setup or the fragment of a feed, if that is what the call reads.
 fn input<'a>(name: &str, call: &Call, lending: &'a mut Lending) -> Option<&'a mut Lent> {
     call.input().filter(|(input, _)| *input == name).map(|_| &mut *lending.input)
 }
 
 /// Whether the call is one that is lent the card.
 fn on_card(call: &Call) -> bool {
-    let event = matches!(call, Call::ResetMember(_) | Call::ResetCard | Call::Store { .. });
-    event || matches!(call, Call::Setup { .. } | Call::Command { .. })
+    let event = matches!(call, Call::ResetMember { .. } | Call::ResetCard(_) | Call::Store { .. });
+    event || matches!(call, Call::Setup { .. } | Call::Command { .. } | Call::Message { .. })
 }
 
 fn read_behind(lent: &Lent) {
@@ -96,6 +99,24 @@ fn features_behind(call: &Call, lending: &mut Lending) {
 fn fragment_behind(call: &Call, lending: &mut Lending) {
     if let Some(fragment) = input("fragment", call, lending) {
         read_behind(fragment);
+    }
+}
+
+fn message_behind(call: &Call, lending: &mut Lending) {
+    if let Some(message) = input("message", call, lending) {
+        read_behind(message);
+    }
+}
+
+fn message_changed(call: &Call, lending: &mut Lending) {
+    if let Some(message) = input("message", call, lending) {
+        change(message);
+    }
+}
+
+fn response_written(call: &Call, lending: &mut Lending) {
+    if let Call::Message { .. } = call {
+        write_behind(lending.reply);
     }
 }
 
@@ -173,7 +194,7 @@ fn reply_offset(call: &Call, lending: &mut Lending) {
 }
 
 fn card_offset(call: &Call, lending: &mut Lending) {
-    if matches!(call, Call::ResetCard) && lending.card.offset() == 15 {
+    if matches!(call, Call::ResetCard(_)) && lending.card.offset() == 15 {
         change_first(lending.card);
     }
 }

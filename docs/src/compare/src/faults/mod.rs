@@ -16,6 +16,8 @@ mod frame;
 mod host;
 mod length;
 mod memory;
+mod message;
+mod message_frame;
 mod objects;
 mod order;
 mod parts;
@@ -235,6 +237,8 @@ pub fn all() -> Vec<&'static Fault> {
         queue::FAULTS,
         events::FAULTS,
         restore::FAULTS,
+        message::FAULTS,
+        message_frame::FAULTS,
         exchange::FAULTS,
         host::FAULTS,
         soundness::FAULTS,

@@ -32,7 +32,7 @@ pub const FAULTS: &[Fault] = &[
 /// Create is refused once as many objects as may live have ever been made.
 fn every_id_counts(outcome: &mut Outcome) {
     match outcome.call {
-        Call::ResetMember(member) => outcome.memory.made.retain(|(m, _), _| m != member),
+        Call::ResetMember { member, .. } => outcome.memory.made.retain(|(m, _), _| m != member),
         Call::Command { .. } | Call::Store { .. } => {}
         _ => outcome.memory.made.clear(),
     }

@@ -282,9 +282,7 @@ fn destroy_drops(outcome: &mut Outcome) {
 
 /// The place of a member before and after its reset.
 fn reset<'a>(outcome: &'a mut Outcome) -> Option<(&'a Holding, &'a mut Holding)> {
-    let Call::ResetMember(member) = *outcome.call else { return None };
-    let done = outcome.done();
-    let (before, after) = outcome.cards().filter(|_| done)?;
+    let (before, after, member) = outcome.reset()?;
     Some((&before.member(member).holding, &mut after.member_mut(member).holding))
 }
 
@@ -301,9 +299,7 @@ fn reset_keeps_bytes(outcome: &mut Outcome) {
 }
 
 fn card_keeps(outcome: &mut Outcome) {
-    if let (Call::ResetCard, true, Some((before, after))) =
-        (outcome.call, outcome.done(), outcome.cards())
-    {
+    if let Some((before, after)) = outcome.card_reset() {
         for (after, before) in after.members.iter_mut().zip(&before.members) {
             after.holding = before.holding.clone();
         }

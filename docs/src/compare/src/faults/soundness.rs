@@ -1,6 +1,6 @@
 //! Cards that are not sound, taken for sound ones.
 
-use plain_card::bytes::{HEADER, RECORD};
+use plain_card::bytes::{HEADER, HELD, HOLDING, MODE, OBJECTS, RECORD, VALUES};
 use plain_card::frame::u16_at;
 use plain_card::holding::ROOM;
 use plain_card::opcode::SUPPORTED;
@@ -52,12 +52,12 @@ fn records(card: &mut [u8]) -> impl Iterator<Item = &mut [u8]> {
 }
 
 fn mode_byte(card: &mut Vec<u8>) {
-    records(card).for_each(|record| record[0] = record[0].min(1));
+    records(card).for_each(|record| record[MODE] = record[MODE].min(1));
 }
 
 fn object_byte(card: &mut Vec<u8>) {
     for record in records(card) {
-        for object in record[1..17].iter_mut().filter(|object| **object > 2) {
+        for object in record[OBJECTS..HELD].iter_mut().filter(|object| **object > 2) {
             *object = 0;
         }
     }
@@ -66,21 +66,29 @@ fn object_byte(card: &mut Vec<u8>) {
 fn ids(card: &mut Vec<u8>) {
     if let [_, _, gets @ 0..=8, sets @ 0..=8, ..] = card[..] {
         let valid = usize::from(gets + sets);
-        records(card).for_each(|record| record[1 + valid..17].fill(0));
+        records(card).for_each(|record| record[OBJECTS + valid..HELD].fill(0));
     }
 }
 
 fn gets(card: &mut Vec<u8>) {
     let limit = usize::from(card.get(2).copied().unwrap_or(0));
     for record in records(card) {
-        record[1..17].iter_mut().filter(|object| **object == 1).skip(limit).for_each(|o| *o = 0);
+        record[OBJECTS..HELD]
+            .iter_mut()
+            .filter(|object| **object == 1)
+            .skip(limit)
+            .for_each(|o| *o = 0);
     }
 }
 
 fn sets(card: &mut Vec<u8>) {
     let limit = usize::from(card.get(3).copied().unwrap_or(0));
     for record in records(card) {
-        record[1..17].iter_mut().filter(|object| **object == 2).skip(limit).for_each(|o| *o = 0);
+        record[OBJECTS..HELD]
+            .iter_mut()
+            .filter(|object| **object == 2)
+            .skip(limit)
+            .for_each(|o| *o = 0);
     }
 }
 
@@ -94,7 +102,7 @@ fn setup_alone(card: &mut Vec<u8>) {
 fn last_features(card: &mut Vec<u8>) {
     let Some(features) = card.get(4..20).map(<[u8]>::to_vec) else { return };
     if let Some(record) = records(card).nth(15) {
-        record[19..35].copy_from_slice(&features);
+        record[VALUES..VALUES + 16].copy_from_slice(&features);
     }
 }
 
@@ -102,42 +110,42 @@ fn past_8(card: &mut Vec<u8>) {
     let Some(features) = card.get(4..20).map(<[u8]>::to_vec) else { return };
     for record in records(card).skip(8) {
         record.fill(0);
-        record[19..35].copy_from_slice(&features);
+        record[VALUES..VALUES + 16].copy_from_slice(&features);
     }
 }
 
 fn stopped_last(card: &mut Vec<u8>) {
-    if let Some(record) = records(card).last().filter(|record| record[0] == 1) {
-        record[0] = 2;
+    if let Some(record) = records(card).last().filter(|record| record[MODE] == 1) {
+        record[MODE] = 2;
     }
 }
 
 fn held(card: &mut Vec<u8>) {
-    for record in records(card).filter(|record| u16_at(record, 17) > MOST) {
-        record[17..19].copy_from_slice(&MOST.to_le_bytes());
+    for record in records(card).filter(|record| u16_at(record, HELD) > MOST) {
+        record[HELD..HELD + 2].copy_from_slice(&MOST.to_le_bytes());
     }
 }
 
 fn held_1025(card: &mut Vec<u8>) {
-    for record in records(card).filter(|record| u16_at(record, 17) == MOST + 1) {
-        record[17..19].copy_from_slice(&MOST.to_le_bytes());
+    for record in records(card).filter(|record| u16_at(record, HELD) == MOST + 1) {
+        record[HELD..HELD + 2].copy_from_slice(&MOST.to_le_bytes());
     }
 }
 
 /// A card with other bytes than zero behind those held counts as not sound.
 fn bytes_held(card: &mut Vec<u8>) {
     for record in records(card) {
-        let held = usize::from(u16_at(record, 17)).saturating_sub(1);
-        let behind = record.get(RECORD - ROOM + held..).unwrap_or_default();
+        let held = usize::from(u16_at(record, HELD)).saturating_sub(1);
+        let behind = record.get(HOLDING + held..).unwrap_or_default();
         if behind.iter().any(|byte| *byte != 0) {
-            record[0] = 2;
+            record[MODE] = 2;
         }
     }
 }
 
 /// The queues of a record, those beyond Q too.
 fn queues_of(record: &mut [u8]) -> impl Iterator<Item = &mut [u8]> {
-    record[64..192].chunks_exact_mut(32)
+    record[VALUES + 45..VALUES + 173].chunks_exact_mut(32)
 }
 
 /// A queue gets a value that it may have.
@@ -163,7 +171,7 @@ fn first_member(card: &mut Vec<u8>) {
 fn queues_beyond(card: &mut Vec<u8>) {
     for record in records(card) {
         if !queues_of(record).all(|queue| queue::allowed(queue)) {
-            record[0] = 2;
+            record[MODE] = 2;
         }
     }
 }
@@ -176,7 +184,7 @@ fn queues(card: &mut Vec<u8>) {
 
 fn features(card: &mut Vec<u8>) {
     if let Some(features) = card.get(4..20).map(<[u8]>::to_vec) {
-        records(card).for_each(|record| record[19..35].copy_from_slice(&features));
+        records(card).for_each(|record| record[VALUES..VALUES + 16].copy_from_slice(&features));
     }
 }
 

@@ -99,6 +99,20 @@ impl Outcome<'_> {
         }
     }
 
+    /// The cards before and after a reset of one member that was done, and the
+    /// member.
+    pub fn reset(&mut self) -> Option<(&Card, &mut Card, u64)> {
+        let Call::ResetMember { member, .. } = *self.call else { return None };
+        let done = self.done();
+        self.cards().filter(|_| done).map(|(before, after)| (before, after, member))
+    }
+
+    /// The cards before and after a reset of the whole card that was done.
+    pub fn card_reset(&mut self) -> Option<(&Card, &mut Card)> {
+        let done = matches!(self.call, Call::ResetCard(_)) && self.done();
+        self.cards().filter(|_| done)
+    }
+
     /// Member and operation, if the call is a command that steps 1 to 7 let
     /// pass.
     pub fn operation(&self) -> Option<(u64, Operation<'_>)> {
@@ -124,8 +138,8 @@ impl Outcome<'_> {
 
     /// Whether the call is an event that was done.
     pub fn done(&self) -> bool {
-        let event =
-            matches!(self.call, Call::ResetMember(_) | Call::ResetCard | Call::Store { .. });
+        let reset = matches!(self.call, Call::ResetMember { .. } | Call::ResetCard(_));
+        let event = reset || matches!(self.call, Call::Store { .. });
         event && *self.answer == 0
     }
 }

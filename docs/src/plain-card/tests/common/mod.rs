@@ -29,7 +29,7 @@ pub fn fresh() -> Card {
 }
 
 pub fn card(members: u64, queues: u64, gets: u64, sets: u64) -> Card {
-    Card::fresh(Setup::new(members, queues, gets, sets, [0; 16]).unwrap())
+    Card::new(Setup::new(members, queues, gets, sets, [0; 16]).unwrap())
 }
 
 /// A card with all commands in use.

@@ -1,0 +1,151 @@
+//! The functions as the archive exports them. A slice is a pointer and a
+//! length.
+
+extern "C" {
+    pub fn kajurnat_version() -> u32;
+
+    pub fn kajurnat_is_sound(card: *const u8, card_len: usize) -> u8;
+
+    pub fn kajurnat_card_bytes(members: u64) -> usize;
+
+    pub fn kajurnat_setup(
+        card: *mut u8,
+        card_len: usize,
+        members: u64,
+        queues: u64,
+        gets: u64,
+        sets: u64,
+        features: *const u8,
+        features_len: usize,
+    ) -> u8;
+
+    pub fn kajurnat_command(
+        card: *mut u8,
+        card_len: usize,
+        request: *const u8,
+        request_len: usize,
+        reply: *mut u8,
+        reply_len: usize,
+    ) -> usize;
+
+    pub fn kajurnat_message(
+        card: *mut u8,
+        card_len: usize,
+        message: *const u8,
+        message_len: usize,
+        reply: *mut u8,
+        reply_len: usize,
+    ) -> usize;
+
+    pub fn kajurnat_reset_member(
+        card: *mut u8,
+        card_len: usize,
+        member: u64,
+        generation: u32,
+    ) -> u8;
+
+    pub fn kajurnat_reset_card(card: *mut u8, card_len: usize, generation: u32) -> u8;
+
+    pub fn kajurnat_store(
+        card: *mut u8,
+        card_len: usize,
+        member: u64,
+        part_type: u16,
+        selector: u64,
+        value: *const u8,
+        value_len: usize,
+    ) -> u8;
+
+    pub fn kajurnat_restore_begin(card: *mut u8, card_len: usize, member: u64) -> u32;
+
+    pub fn kajurnat_restore_feed(
+        card: *mut u8,
+        card_len: usize,
+        member: u64,
+        fragment: *const u8,
+        fragment_len: usize,
+    ) -> u32;
+
+    pub fn kajurnat_restore_finish(card: *mut u8, card_len: usize, member: u64, id: u32) -> u32;
+
+    pub fn kajurnat_restore_drop(card: *mut u8, card_len: usize, member: u64) -> u32;
+
+    pub fn kajurnat_request_list_query(request: *mut u8, request_len: usize) -> usize;
+
+    pub fn kajurnat_request_list_use(request: *mut u8, request_len: usize, mask: u64) -> usize;
+
+    pub fn kajurnat_request_create(
+        request: *mut u8,
+        request_len: usize,
+        member: u64,
+        id: u32,
+        kind: u8,
+    ) -> usize;
+
+    pub fn kajurnat_request_modify(
+        request: *mut u8,
+        request_len: usize,
+        member: u64,
+        id: u32,
+        kind: u8,
+    ) -> usize;
+
+    pub fn kajurnat_request_query(
+        request: *mut u8,
+        request_len: usize,
+        member: u64,
+        id: u32,
+    ) -> usize;
+
+    pub fn kajurnat_request_destroy(
+        request: *mut u8,
+        request_len: usize,
+        member: u64,
+        id: u32,
+    ) -> usize;
+
+    pub fn kajurnat_request_metadata(
+        request: *mut u8,
+        request_len: usize,
+        member: u64,
+        id: u32,
+        what: u8,
+    ) -> usize;
+
+    pub fn kajurnat_request_get(
+        request: *mut u8,
+        request_len: usize,
+        member: u64,
+        id: u32,
+        which: u8,
+        headers: *const u8,
+        headers_len: usize,
+    ) -> usize;
+
+    pub fn kajurnat_request_set(
+        request: *mut u8,
+        request_len: usize,
+        member: u64,
+        id: u32,
+        list: *const u8,
+        list_len: usize,
+    ) -> usize;
+
+    pub fn kajurnat_request_mode(
+        request: *mut u8,
+        request_len: usize,
+        member: u64,
+        mode: u8,
+    ) -> usize;
+
+    pub fn kajurnat_reply_read(
+        opcode: u16,
+        what: u8,
+        reply: *const u8,
+        reply_len: usize,
+        status: *mut u16,
+        qualifier: *mut u16,
+        sent_status: *mut u16,
+        sent_qualifier: *mut u16,
+    ) -> u8;
+}
