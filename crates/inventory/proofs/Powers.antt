@@ -61,28 +61,28 @@ power-tested k n z h =
     by-cases (powerBelow k n) (λ e. eq-eqb _ _ (power-shares-none k n e) ∙ sym e)
     (λ e. ne-eqb _ _ (λ q. let c = sym (shares-none k n z h q) ∙ e in let y : _≡_ {A = ℕ} 0 1 = cc in omega arith) ∙ sym e)
 
--- ---- the enabled field stands from bit 32 on ----
+-- ---- the enabled field stands from bit 16 on ----
 
 -- size 0 shares with the enabled field whatever that has
-no-size : (e : ℕ) → e < 2 ^ 16 → eqb (bitAnd (e * 2 ^ 32 + 0) (2 ^ 48 - 1)) 0 ≡ ringSize 0 e
+no-size : (e : ℕ) → e < 2 ^ 16 → eqb (bitAnd (e * 2 ^ 16 + 0) (2 ^ 32 - 1)) 0 ≡ ringSize 0 e
 unfolding ringSize powerBelow _or_ _and_
 no-size e h =
-    let d : (e * 2 ^ 32 + 0) % 2 ^ 48 ≡ e * 2 ^ 32 = omega arith in
-    ap (λ x. eqb x 0) (and-mask (e * 2 ^ 32 + 0) 48 ∙ d)
+    let d : (e * 2 ^ 16 + 0) % 2 ^ 32 ≡ e * 2 ^ 16 = omega arith in
+    ap (λ x. eqb x 0) (and-mask (e * 2 ^ 16 + 0) 32 ∙ d)
     ∙ by-cases (eqb e 0)
-    (λ q. let z : e ≡ 0 = eqb-true e 0 q in eq-eqb (e * 2 ^ 32) 0 (omega arith) ∙ sym q)
-    (λ q. ne-eqb (e * 2 ^ 32) 0 (λ y. eqb-false e 0 q (omega arith)) ∙ sym q)
+    (λ q. let z : e ≡ 0 = eqb-true e 0 q in eq-eqb (e * 2 ^ 16) 0 (omega arith) ∙ sym q)
+    (λ q. ne-eqb (e * 2 ^ 16) 0 (λ y. eqb-false e 0 q (omega arith)) ∙ sym q)
 
 -- any other with itself alone
-some-size : (s e : ℕ) → (s ≡ 0 → ⊥) → s < 2 ^ 16 → e < 2 ^ 16 → eqb (bitAnd (e * 2 ^ 32 + s) (s + (2 ^ 48 - 1))) 0 ≡ ringSize s e
+some-size : (s e : ℕ) → (s ≡ 0 → ⊥) → s < 2 ^ 16 → e < 2 ^ 16 → eqb (bitAnd (e * 2 ^ 16 + s) (s + (2 ^ 32 - 1))) 0 ≡ ringSize s e
 unfolding ringSize
 some-size s e n h g =
-    let t : s + (2 ^ 48 - 1) ≡ 2 ^ 16 * 2 ^ 32 + (s - 1) = omega arith in
+    let t : s + (2 ^ 32 - 1) ≡ 2 ^ 16 * 2 ^ 16 + (s - 1) = omega arith in
     let c : bitAnd e (2 ^ 16) ≡ 0 = and-comm e (2 ^ 16) ∙ and-shifted 1 16 e g in
-    let b : bitAnd (e * 2 ^ 32 + s) (s + (2 ^ 48 - 1)) ≡ bitAnd s (s - 1) =
-    ap (bitAnd (e * 2 ^ 32 + s)) t ∙ and-block 32 e (2 ^ 16) s (s - 1) (omega arith) (omega arith) ∙ rw c (omega arith) in
+    let b : bitAnd (e * 2 ^ 16 + s) (s + (2 ^ 32 - 1)) ≡ bitAnd s (s - 1) =
+    ap (bitAnd (e * 2 ^ 16 + s)) t ∙ and-block 16 e (2 ^ 16) s (s - 1) (omega arith) (omega arith) ∙ rw c (omega arith) in
     ap (λ x. eqb x 0) b ∙ power-tested 16 s (omega arith) h ∙ sym (rw (ne-eqb s 0 n, false-and (eqb e 0)) (or-false _))
 
-pub ring-tested : (s e : ℕ) → s < 2 ^ 16 → e < 2 ^ 16 → eqb (bitAnd (e * 2 ^ 32 + s) (s + (2 ^ 48 - 1))) 0 ≡ ringSize s e
+pub ring-tested : (s e : ℕ) → s < 2 ^ 16 → e < 2 ^ 16 → eqb (bitAnd (e * 2 ^ 16 + s) (s + (2 ^ 32 - 1))) 0 ≡ ringSize s e
 ring-tested s e h g =
     by-cases (eqb s 0) (λ q. rw (eqb-true s 0 q) (no-size e g)) (λ q. some-size s e (eqb-false s 0 q) h g)

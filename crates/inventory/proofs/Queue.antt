@@ -2,20 +2,19 @@
 use mathlib.Core.Path.{_≡_, refl, sym, _∙_, ap}
 use mathlib.Core.Bool.{true, false, not}
 use mathlib.Core.List.{List}
-use Prim.Native.Nat.{ℕ, zero, suc, _+_, _-_, _*_, _%_, _^_, _<_}
+use Prim.Native.Nat.{ℕ, zero, suc, _+_, _*_, _^_, _≤_, _<_}
 use native.Mathlib.Nat.{add-zero}
 use native.Mathlib.Omega.{arith}
 use lib.Dec.{leb, ltb, eqb}
-use lib.ListN.{length, getD}
+use lib.ListN.{length}
 use lib.Seq.{take-all}
-use lib.Bits.{bitAnd, bitOr, and-mask, and-block, and-zero-r, and-le-l, and-le-r, or-add-and}
-use borrow.Author.Tests.{eqb-true, eqb-false, eq-eqb, ne-eqb, ltb-true, ltb-false, lt-ltb, leb-false, lt-leb, le-leb}
-use Rattle.theory.specs.Logic.{if_then_else_, unless_answer_then_, _and_, _or_}
+use lib.Bits.{bitAnd, bitOr, and-le-l, and-le-r, or-add-and}
+use borrow.Author.Tests.{eqb-true, eqb-false, eq-eqb, ne-eqb, ltb-true, lt-ltb, leb-false, lt-leb, le-leb}
+use Rattle.theory.specs.Logic.{unless_answer_then_, _and_, _or_}
 use Rattle.theory.specs.Bytes.{bytesAt}
 use Rattle.theory.proofs.Tests.{by-cases, unless-cases, both, and-i, true-and, false-and, false-or, or-true, true-or}
 use Rattle.theory.proofs.Bytes.{length-bytesAt, bytesAt-bytesAt}
 use Rattle.wire.specs.Le.{number}
-use Rattle.wire.proofs.Le.{number-below, number-append}
 use Rattle.inventory.specs.Inventory.{queue, row, rows, rowAt, rowCount, present, offsetOf, valuesSize}
 use Rattle.inventory.specs.Queue.{ringSize, queueSize, enabledAt, queueAllowed, valueAllowed, queueRow, queueValue, queuesAllowed}
 use Rattle.inventory.proofs.Rules.{table, every-row, row-within}
@@ -23,67 +22,27 @@ use Rattle.inventory.proofs.Powers.{ring-tested}
 
 -- ---- as the code tests it ----
 
--- the first eight bytes of a value, as a number, hold its size and its enabled field
-module _ (l : List ℕ) (small : (i : ℕ) → getD l i 0 < 256) (at : ℕ) where
-  abbrev size : ℕ
-  size = number at 2 l
+pub fault-tested : (s e : ℕ) → s < 2 ^ 16 → e < 2 ^ 16 → eqb (bitAnd (65536 * e + s) (s + 0xffffffff)) 0 ≡ ringSize s e
+fault-tested s e h g = let d : 65536 * e + s ≡ e * 2 ^ 16 + s = omega arith in rw d (ring-tested s e h g)
 
-  abbrev enabled : ℕ
-  enabled = number (at + enabledAt) 2 l
+-- one queue
+module _ (q k : ℕ) (l : List ℕ) (at : ℕ) where
+  pub fault-absent : q ≤ k → eqb 0 0 ≡ leb q k or queueAllowed (bytesAt at queueSize l)
+  fault-absent h = rw (le-leb q k h) (sym (true-or _))
 
-  abbrev between : ℕ
-  between = number (at + 2) 2 l
-
-  abbrev rest : ℕ
-  rest = number (at + 6) 2 l
-
-  word-is : number at 8 l ≡ (rest * 2 ^ 16 + enabled) * 2 ^ 32 + (between * 2 ^ 16 + size)
-  word-is =
-      let a : at + 2 + 2 ≡ at + enabledAt = omega arith in
-      let b : at + enabledAt + 2 ≡ at + 6 = omega arith in
-      rw (number-append at 2 6 l, number-append (at + 2) 2 4 l, a, number-append (at + enabledAt) 2 2 l, b) (omega arith)
-
-  fields : bitAnd (number at 8 l) 0xffff0000ffff ≡ enabled * 2 ^ 32 + size
-  fields =
-      let s = number-below l small 2 at in
-      let v = number-below l small 2 (at + 2) in
-      let f = number-below l small 2 (at + enabledAt) in
-      let x : (rest * 2 ^ 16 + enabled) % 2 ^ 16 ≡ enabled = omega arith in
-      let y : (between * 2 ^ 16 + size) % 2 ^ 16 ≡ size = omega arith in
-      ap (λ n. bitAnd n 0xffff0000ffff) word-is
-      ∙ and-block 32 (rest * 2 ^ 16 + enabled) (2 ^ 16 - 1) (between * 2 ^ 16 + size) (2 ^ 16 - 1) (omega arith) (omega arith)
-      ∙ rw (and-mask (rest * 2 ^ 16 + enabled) 16, and-mask (between * 2 ^ 16 + size) 16, x, y)
-
-  low : number at 8 l % 65536 ≡ size
-  low = omega (arith, word-is, number-below l small 2 at)
-
-  allowed-is : ringSize size enabled ≡ queueAllowed (bytesAt at queueSize l)
+  pub fault-read : k < q → (s e r : ℕ) → s ≡ number at 2 l → e ≡ number (at + enabledAt) 2 l → eqb r 0 ≡ ringSize s e
+      → eqb r 0 ≡ leb q k or queueAllowed (bytesAt at queueSize l)
   unfolding queueAllowed number
-  allowed-is =
-      rw (bytesAt-bytesAt 0 2 at queueSize l (omega arith), bytesAt-bytesAt enabledAt 2 at queueSize l (omega arith), add-zero)
-
-  pub fault-read : (q k w m r : ℕ) → w ≡ number at 8 l → m ≡ (if ltb k q then 0xffff0000ffff else 0)
-      → r ≡ bitAnd (bitAnd w m) (w % 65536 + 0xffffffffffff) → eqb r 0 ≡ leb q k or queueAllowed (bytesAt at queueSize l)
-  unfolding if_then_else_
-  fault-read q k w m r e f g =
-      by-cases (ltb k q)
-      (λ t.
-      let h : m ≡ 0xffff0000ffff = f ∙ rw t in
-      let n : leb q k ≡ false = lt-leb q k (ltb-true k q t) in
-      let z : r ≡ bitAnd (enabled * 2 ^ 32 + size) (size + (2 ^ 48 - 1)) = g ∙ rw (h, e, fields, low) in
-      ap (λ x. eqb x 0) z
-      ∙ ring-tested size enabled (number-below l small 2 at) (number-below l small 2 (at + enabledAt))
-      ∙ allowed-is ∙ rw n (sym (false-or _)))
-      (λ t.
-      let h : m ≡ 0 = f ∙ rw t in
-      let n : leb q k ≡ true = le-leb q k (ltb-false k q t) in
-      let z : r ≡ 0 = g ∙ rw (h, and-zero-r w) in
-      ap (λ x. eqb x 0) z ∙ rw n (sym (true-or _)))
+  fault-read h s e r x y t =
+      rw (lt-leb q k h, false-or, bytesAt-bytesAt 0 2 at queueSize l (omega arith), bytesAt-bytesAt enabledAt 2 at queueSize l (omega arith), add-zero, ← x, ← y) t
 
 -- a whole value, which is that of the only queue
 pub value-read : (l : List ℕ) (r : ℕ) → length l ≡ queueSize → eqb r 0 ≡ leb 1 0 or queueAllowed (bytesAt 0 queueSize l)
     → eqb r 0 ≡ queueAllowed l
 value-read l r n e = e ∙ false-or _ ∙ ap queueAllowed (take-all queueSize l (omega arith))
+
+pub four-read : (q : ℕ) (l : List ℕ) (r : ℕ) → q ≡ 4 → eqb r 0 ≡ queuesAllowed 4 l → eqb r 0 ≡ queuesAllowed q l
+four-read q l r e t = rw e t
 
 -- the four queues
 none-both : (a b : ℕ) → eqb (bitOr a b) 0 ≡ eqb a 0 and eqb b 0

@@ -2,14 +2,14 @@
 // binds the tables first, since each read of a constant table builds it anew.
 ghost use mathlib.Core.Path.{_≡_};
 ghost use Prim.Native.Nat.{_+_, _*_, _^_, _≤_, _<_};
-ghost use lib.Dec.{leb, ltb, eqb};
+ghost use lib.Dec.{leb, eqb};
 ghost use lib.ListN.{length};
-ghost use Rattle.theory.specs.Logic.{if_then_else_, _or_, indicator};
+ghost use Rattle.theory.specs.Logic.{_or_, indicator};
 ghost use Rattle.theory.specs.Bytes.{bytesAt, put};
 ghost use Rattle.inventory.specs.Inventory.{row, rowAt, rowCount, deviceFeatures, offsetOf, present, selectorOf, placeOf, partCount, partsSize, valuesSize};
 ghost use Rattle.inventory.specs.Worked.{nthOf, fieldAt, queueRows};
 ghost use Rattle.inventory.specs.Header.{headerOf, headerSize};
-ghost use Rattle.inventory.specs.Queue.{queueSize, queueAllowed, valueAllowed, queuesAllowed};
+ghost use Rattle.inventory.specs.Queue.{ringSize, queueSize, queueAllowed, valueAllowed, queuesAllowed};
 
 // The types of parts.
 pub const DEVICE_FEATURES: u16 = 0x100;
@@ -242,30 +242,46 @@ pub fn parts_size(queues: u8) -> u32
 
 // ---- queue sizes, SPEC 13.5 ----
 
+// The value of a queue: its size stands first, its enabled field from byte 4 on, two bytes each.
 const QUEUE_SIZE: usize = 32;
 
-// The first eight bytes of a queue's value, as a number: the bits of its size and of its enabled field, and all up to the
-// last of them.
-const QUEUE_FIELDS: u64 = 0xffff_0000_ffff;
+const ENABLED_AT: usize = 4;
 
-const UP_TO_ENABLED: u64 = 0xffff_ffff_ffff;
+// The number before 0, in four bytes.
+const BEFORE_ZERO: u64 = 0xffff_ffff;
 
-// The fields of queue k that count: none, where a member with so many queues has not got it.
-fn fields_of(queues: u8, k: u8) -> u64
-    ensures { λ r. ⌜ r ≡ (if ltb k queues then 0xffff0000ffff else 0) ⌝ }
+// The bits that speak against a size and an enabled field: none, if a ring can have them. A size has no bit in common with
+// the number before it exactly if it is a power of two. The enabled field stands above the size, where the number before 0
+// alone has bits. No branch, and fewer instructions than a count of bits.
+fn fault(size: u16, enabled: u16) -> u64
+    ensures { λ r. ⌜ eqb r 0 ≡ ringSize size enabled ⌝ }
 {
-    if k < queues { QUEUE_FIELDS } else { 0 }
+    (TWO_BYTES * (enabled as u64) + size as u64) & (size as u64 + BEFORE_ZERO)
 }
 
-// What speaks against the value at a place as that of queue k: 0 where nothing does. A size has no bit in common with the
-// number before it exactly if it is a power of two. The number before 0 is taken as one with all bits up to those of the
-// enabled field, and that before any other size has none of these. No branch, and fewer instructions than a count of bits.
-fn fault(queues: u8, k: u8, values: &[u8], at: usize) -> u64
+// Those of the value at a place: none, if it is that of a queue k which a member with so many has not got.
+fn fault_at(queues: u8, k: u8, values: &[u8], at: usize) -> u64
     requires { ⌜ at + queueSize ≤ length (now values) ⌝ }
     ensures { λ r. ⌜ eqb r 0 ≡ leb queues k or queueAllowed (bytesAt at queueSize (now (values .entry))) ⌝ }
 {
-    let word = wire::read_u64(values, at);
-    word & fields_of(queues, k) & (word % TWO_BYTES + UP_TO_ENABLED)
+    if queues <= k {
+        return 0;
+    }
+    fault(
+        wire::read_u16(values, at),
+        wire::read_u16(values, at + ENABLED_AT),
+    )
+}
+
+// Those of all queues, whose values start where OFFSETS says.
+fn faults(queues: u8, values: &[u8]) -> u64
+    requires { ⌜ length (now values) ≡ valuesSize ⌝ }
+    ensures { λ r. ⌜ eqb r 0 ≡ queuesAllowed queues (now (values .entry)) ⌝ }
+{
+    fault_at(queues, 0, values, 45)
+        | fault_at(queues, 1, values, 77)
+        | fault_at(queues, 2, values, 109)
+        | fault_at(queues, 3, values, 141)
 }
 
 // Whether a part of this type may have this value.
@@ -278,18 +294,17 @@ pub fn is_value_allowed(t: u16, value: &[u8]) -> bool
     if value.len() != QUEUE_SIZE {
         return true;
     }
-    fault(1, 0, value, 0) == 0
+    fault_at(1, 0, value, 0) == 0
 }
 
-// Whether the values of a member with so many queues have an allowed one for each: they start where OFFSETS says. All four
-// are tested, with no branch.
+// Whether the values of a member with so many queues have an allowed one for each. With four queues, which is the most, the
+// compiler leaves out the tests of whether one is there.
 pub fn are_queues_allowed(queues: u8, values: &[u8]) -> bool
     requires { ⌜ length (now values) ≡ valuesSize ⌝ }
     ensures { λ r. ⌜ r ≡ queuesAllowed queues (now (values .entry)) ⌝ }
 {
-    let faults = fault(queues, 0, values, 45)
-        | fault(queues, 1, values, 77)
-        | fault(queues, 2, values, 109)
-        | fault(queues, 3, values, 141);
-    faults == 0
+    if queues == 4 {
+        return faults(4, values) == 0;
+    }
+    faults(queues, values) == 0
 }
