@@ -80,11 +80,11 @@ module _ (c r : List ℕ) (x : Ask) (m : ℕ) (e : x ≡ askIn c r) where
   pub read-member : (op : ReadOp) → x ≡ Read m op → isMember c m ≡ true
   unfolding askIn
   read-member op f =
-      let g = asked (setupOf c .members) (setupOf c .gets + setupOf c .sets) r (inUseOf c) (Read m op) (sym e ∙ f) in
+      let g = asked (setupOf c .members) (setupOf c .gets + setupOf c .sets) _ r (inUseOf c) (Read m op) (sym e ∙ f) in
       inside 1 (setupOf c .members) m (g .0 .low) (g .0 .high)
 
   pub change-member : (op : ChangeOp) → x ≡ Change m op → isMember c m ≡ true
   unfolding askIn
   change-member op f =
-      let g = asked (setupOf c .members) (setupOf c .gets + setupOf c .sets) r (inUseOf c) (Change m op) (sym e ∙ f) in
+      let g = asked (setupOf c .members) (setupOf c .gets + setupOf c .sets) _ r (inUseOf c) (Change m op) (sym e ∙ f) in
       inside 1 (setupOf c .members) m (g .0 .low) (g .0 .high)

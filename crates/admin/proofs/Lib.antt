@@ -3,3 +3,4 @@ pub mod OfSound
 pub mod OfRequest
 pub mod Arms
 pub mod Respond
+pub mod Marks

@@ -8,7 +8,7 @@ use lib.ListN.{length}
 use Rattle.card.specs.declared.Setup.{Setup}
 use Rattle.inventory.specs.Inventory.{valuesSize}
 use Rattle.member.specs.Record.{memberSize, memberOf}
-use Rattle.card.specs.Layout.{cardHeaderSize, setupOf, isMember, HasRecord, memberBytesIn, memberIn}
+use Rattle.card.specs.Layout.{cardHeaderSize, cardSize, setupOf, isMember, HasRecord, memberBytesIn, memberIn}
 use Rattle.card.specs.Sound.{isSound}
 use Rattle.card.proofs.ReadLaws.{lent-long}
 use Rattle.card.proofs.SoundLaws.{sound-of, sound-long, sound-has, sound-member-in}
@@ -16,6 +16,9 @@ use Rattle.card.proofs.SoundLaws.{sound-of, sound-long, sound-has, sound-member
 module _ (c : List ℕ) (s : isSound c ≡ true) where
   pub header-there : cardHeaderSize ≤ length c
   header-there = sound-long c (sound-of c s)
+
+  pub length-there : length c ≡ cardSize (setupOf c .members)
+  length-there = sound-of c s .long
 
   pub record-there : (m : ℕ) → isMember c m ≡ true → HasRecord c m
   record-there m = sound-has c (sound-of c s) m

@@ -1,8 +1,8 @@
 -- A command, as its steps: what is here is all that the other proofs use of the definition of `respond`. Assumes nothing.
-use mathlib.Core.Path.{_≡_}
+use mathlib.Core.Path.{_≡_, refl}
 use mathlib.Core.Bool.{true, false}
 use mathlib.Core.List.{List, []}
-use Prim.Native.Nat.{ℕ, _≤_}
+use Prim.Native.Nat.{ℕ, _+_, _≤_}
 use lib.Dec.{leb}
 use lib.ListN.{length}
 use borrow.Author.Tests.{leb-true, le-leb}
@@ -10,9 +10,24 @@ use Rattle.theory.specs.Logic.{if_then_else_, unless_answer_then_, _and_}
 use Rattle.theory.proofs.Tests.{both, if-cases, unless-cases}
 use Rattle.protocol.specs.declared.Answer.{Answer}
 use Rattle.protocol.specs.Answers.{isDone}
+use Rattle.card.specs.Layout.{setupOf, inUseOf, isMarked}
 use Rattle.card.specs.Sound.{isSound}
+use Rattle.frame.specs.declared.Ask.{Ask}
+use Rattle.frame.specs.Frame.{targetOf}
+use Rattle.frame.proofs.Asked.{Named, Facts, asked}
 use Rattle.reply.specs.Reply.{finalOf, replyOf, replied}
 use Rattle.admin.specs.Command.{askIn, Effect, perform, conclude, respond}
+
+-- what is known of a request by what it asks of a card
+abbrev pub NamedIn : List ℕ → List ℕ → ℕ → Type 0
+NamedIn c r m = Named (setupOf c .members) (isMarked c (targetOf r)) r m
+
+abbrev pub FactsIn : List ℕ → List ℕ → Ask → Type 0
+FactsIn c r a = Facts (setupOf c .members) (setupOf c .gets + setupOf c .sets) (isMarked c (targetOf r)) r a
+
+pub asked-of : (c r : List ℕ) → FactsIn c r (askIn c r)
+unfolding askIn
+asked-of c r = asked _ _ _ r (inUseOf c) _ refl
 
 -- steps 11 and 12: the answer in the end, the card after and the reply
 abbrev pub lastAnswer : ℕ → Effect → Answer

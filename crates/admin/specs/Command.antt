@@ -14,18 +14,19 @@ use Rattle.reads.specs.declared.Reading.{Reading}
 use Rattle.changes.specs.declared.Changed.{Changed}
 use Rattle.changes.specs.Changes.{changeOf}
 use Rattle.reads.specs.Reads.{readOf}
-use Rattle.card.specs.Layout.{setupOf, inUseOf, withInUse, memberIn, withMember}
+use Rattle.card.specs.Layout.{setupOf, inUseOf, withInUse, memberIn, withMember, isMarked}
 use Rattle.card.specs.Sound.{isSound}
 use Rattle.frame.specs.declared.Ask.{Ask}
 use Rattle.frame.specs.declared.Ask.the-variants.{Refused, QueryList, UseList, Read, Change}
-use Rattle.frame.specs.Frame.{askedList, givenList}
+use Rattle.frame.specs.Frame.{targetOf, askedList, givenList}
 use Rattle.frame.specs.Ask.{askOf}
 use Rattle.reply.specs.Result.{resultOf}
 use Rattle.reply.specs.Reply.{headSize, finalOf, replied, written}
 
 -- steps 2 to 7: what a request asks of this card
 unfoldable pub askIn : List ℕ → List ℕ → Ask
-askIn c r = askOf (setupOf c .members) (setupOf c .gets + setupOf c .sets) (inUseOf c) r
+askIn c r =
+    askOf (setupOf c .members) (setupOf c .gets + setupOf c .sets) (inUseOf c) (isMarked c (targetOf r)) r
 
 -- what a command comes to before its reply is known to fit: its answer, the card if it stands, the result
 pub record Effect : Type 0 where

@@ -19,7 +19,8 @@ fn asked(card: &[u8], request: &[u8]) -> Ask
 {
     let s = card::setup_of(card);
     let ids = s.gets + s.sets;
-    frame::decode(s.members, ids, card::in_use(card), request)
+    let marked = card::is_marked(card, frame::member_of(request));
+    frame::decode(s.members, ids, card::in_use(card), marked, request)
 }
 
 // A request from a place on; nothing where it is shorter.

@@ -23,7 +23,7 @@ use Rattle.member.specs.Member.{featuresSize, freshOf}
 use Rattle.member.proofs.Record.{Shaped, length-member, member-back}
 use Rattle.member.proofs.Sound.{sound-fresh}
 use Rattle.card.specs.declared.Setup.{Setup}
-use Rattle.card.specs.Layout.{featuresAt, inUseAt, cardHeaderSize, memberBytesAt, configurationAt, configurationSize, generationAt, generationSize, holdingAt, recordSize, cardSize, setupIn, setupOf, inUseOf, withInUse, recordAt, HasRecord, recordBytes, withRecordBytes, memberBytesIn, memberIn, withMember, configurationIn, generationIn, withConfiguration, noConfiguration, holdingIn, withHolding, noBytes, freshRecord, withFresh, freshHeader, freshCard}
+use Rattle.card.specs.Layout.{featuresAt, inUseAt, cardHeaderSize, memberBytesAt, configurationAt, configurationSize, generationAt, generationSize, holdingAt, recordSize, cardSize, setupIn, setupOf, inUseOf, withInUse, recordAt, HasRecord, recordBytes, withRecordBytes, memberBytesIn, memberIn, withMember, configurationIn, generationIn, withConfiguration, noConfiguration, holdingIn, withHolding, noBytes, recordOf, withRecord, freshRecord, freshHeader, freshCard}
 
 -- ---- bytes of a record ----
 
@@ -243,22 +243,21 @@ pub no-configuration-long : length noConfiguration ≡ configurationSize
 unfolding noConfiguration
 no-configuration-long = length-replicate {A = ℕ} configurationSize 0
 
--- f is the device features, g the generation
 pub fresh-shaped : (f : List ℕ) → length f ≡ featuresSize → Shaped (freshOf f)
 fresh-shaped f e = sound-fresh 0 0 0 f e .shaped
 
-module _ (f : List ℕ) (g : ℕ) (e : length f ≡ featuresSize) where
-  pub fresh-record-long : length (freshRecord f g) ≡ recordSize
-  unfolding freshRecord
-  fresh-record-long =
-      let n = length-member _ (fresh-shaped f e) in
+module _ (x : Member) (g : ℕ) (s : Shaped x) where
+  pub record-long : length (recordOf x g) ≡ recordSize
+  unfolding recordOf
+  record-long =
+      let n = length-member x s in
       let b = length-bytes generationSize g in
       rw (length-append, length-append, length-append) (omega (arith, no-configuration-long, no-bytes-long))
 
   -- its front is the member's
-  fresh-front : bytesAt memberBytesAt memberSize (freshRecord f g) ≡ memberBytes (freshOf f)
-  unfolding freshRecord
-  fresh-front = take-at (memberBytes (freshOf f)) _ memberSize (length-member _ (fresh-shaped f e))
+  record-front : bytesAt memberBytesAt memberSize (recordOf x g) ≡ memberBytes x
+  unfolding recordOf
+  record-front = take-at (memberBytes x) _ memberSize (length-member x s)
 
 numbers-long : (s : Setup) → length (s .features) ≡ featuresSize → length (numbersOf s) ≡ inUseAt
 unfolding numbersOf
@@ -269,7 +268,7 @@ module _ (s : Setup) (g : ℕ) (e : length (s .features) ≡ featuresSize) where
   unfolding recordsOf
   length-fresh =
       let n = length-bytes 8 freshMask in
-      let f = length-repeat (s .members) recordSize (freshRecord (s .features) g) (fresh-record-long (s .features) g e) in
+      let f = length-repeat (s .members) recordSize (freshRecord (s .features) g) (record-long _ g (fresh-shaped (s .features) e)) in
       rw (fresh-laid s g, length-append, length-append) (omega (arith, numbers-long s e))
 
   pub setup-fresh : setupOf (freshCard s g) ≡ s
@@ -285,10 +284,10 @@ module _ (s : Setup) (g : ℕ) (e : length (s .features) ≡ featuresSize) where
   record-fresh m l h =
       rw (fresh-laid s g, add-zero)
       (records-laid (numbersOf s) freshMask (recordsOf s g) (numbers-long s e) (recordSize * (m - 1)) recordSize
-      ∙ bytesAt-repeat (s .members) recordSize (m - 1) (freshRecord (s .features) g) (fresh-record-long (s .features) g e) (omega arith))
+      ∙ bytesAt-repeat (s .members) recordSize (m - 1) (freshRecord (s .features) g) (record-long _ g (fresh-shaped (s .features) e)) (omega arith))
 
   pub member-bytes-fresh : (m : ℕ) → 1 ≤ m → m ≤ s .members → memberBytesIn (freshCard s g) m ≡ memberBytes (freshOf (s .features))
-  member-bytes-fresh m l h = member-front (freshCard s g) m _ (record-fresh m l h) ∙ fresh-front (s .features) g e
+  member-bytes-fresh m l h = member-front (freshCard s g) m _ (record-fresh m l h) ∙ record-front _ g (fresh-shaped (s .features) e)
 
 -- ---- a member ----
 
@@ -308,6 +307,10 @@ module _ (c : List ℕ) (m : ℕ) (x : Member) where
   pub member-same : HasRecord c m → Shaped x → memberIn (withMember c m x) m ≡ x
   unfolding withMember memberIn
   member-same h s = ap memberOf (bytes-same c m memberBytesAt memberSize (memberBytes x) h (omega arith) (length-member x s)) ∙ member-back x s
+
+  pub member-other : (k : ℕ) → 1 ≤ m → 1 ≤ k → k ≢ m → memberIn (withMember c m x) k ≡ memberIn c k
+  unfolding withMember memberIn
+  member-other k l h e = ap memberOf (bytes-other c m memberBytesAt memberSize (memberBytes x) (omega arith) l k memberBytesAt memberSize (omega arith) h e)
 
 -- ---- the bytes of a holding place ----
 
@@ -356,76 +359,86 @@ module _ (c : List ℕ) (m : ℕ) (x : List ℕ) where
   unfolding withHolding withMember
   holding-swap y = bytes-apart c m memberBytesAt memberSize (memberBytes y) holdingAt holdingSize x (omega arith)
 
--- ---- a fresh record ----
+-- ---- a whole record ----
 
-module _ (c : List ℕ) (m : ℕ) (f : List ℕ) (g : ℕ) where
-  pub fresh-bytes : withFresh c m f g ≡ withRecordBytes c m 0 recordSize (freshRecord f g)
-  unfolding withFresh
-  fresh-bytes = refl
+module _ (c : List ℕ) (m : ℕ) (y : Member) (g : ℕ) where
+  pub record-bytes : withRecord c m y g ≡ withRecordBytes c m 0 recordSize (recordOf y g)
+  unfolding withRecord
+  record-bytes = refl
 
-  pub length-with-fresh : length (withFresh c m f g) ≡ length c
-  unfolding withFresh
-  length-with-fresh = length-with-bytes c m 0 recordSize (freshRecord f g)
+  pub length-with-record : length (withRecord c m y g) ≡ length c
+  unfolding withRecord
+  length-with-record = length-with-bytes c m 0 recordSize (recordOf y g)
 
-  pub setup-with-fresh : setupOf (withFresh c m f g) ≡ setupOf c
-  unfolding withFresh
-  setup-with-fresh = setup-with-bytes c m 0 recordSize (freshRecord f g)
+  pub setup-with-record : setupOf (withRecord c m y g) ≡ setupOf c
+  unfolding withRecord
+  setup-with-record = setup-with-bytes c m 0 recordSize (recordOf y g)
 
-  pub use-with-fresh : inUseOf (withFresh c m f g) ≡ inUseOf c
-  unfolding withFresh
-  use-with-fresh = use-with-bytes c m 0 recordSize (freshRecord f g)
+  pub use-with-record : inUseOf (withRecord c m y g) ≡ inUseOf c
+  unfolding withRecord
+  use-with-record = use-with-bytes c m 0 recordSize (recordOf y g)
 
   -- another record is as it was, and so is another member
-  pub fresh-apart : (k at n : ℕ) → at + n ≤ recordSize → 1 ≤ m → 1 ≤ k → k ≢ m → recordBytes (withFresh c m f g) k at n ≡ recordBytes c k at n
-  unfolding withFresh
-  fresh-apart k at n i l h e = bytes-other c m 0 recordSize (freshRecord f g) (omega arith) l k at n i h e
+  pub record-apart : (k at n : ℕ) → at + n ≤ recordSize → 1 ≤ m → 1 ≤ k → k ≢ m → recordBytes (withRecord c m y g) k at n ≡ recordBytes c k at n
+  unfolding withRecord
+  record-apart k at n i l h e = bytes-other c m 0 recordSize (recordOf y g) (omega arith) l k at n i h e
 
-  pub fresh-other : (k : ℕ) → 1 ≤ m → 1 ≤ k → k ≢ m → memberIn (withFresh c m f g) k ≡ memberIn c k
+  pub record-other : (k : ℕ) → 1 ≤ m → 1 ≤ k → k ≢ m → memberIn (withRecord c m y g) k ≡ memberIn c k
   unfolding memberIn
-  fresh-other k l h n = ap memberOf (fresh-apart k memberBytesAt memberSize (omega arith) l h n)
+  record-other k l h n = ap memberOf (record-apart k memberBytesAt memberSize (omega arith) l h n)
 
   -- bytes of another record, and the list in use, are put in either order
-  pub fresh-swap : (k at n : ℕ) (x : List ℕ) → 1 ≤ m → at + n ≤ recordSize → 1 ≤ k → k ≢ m
-      → withRecordBytes (withFresh c m f g) k at n x ≡ withFresh (withRecordBytes c k at n x) m f g
-  unfolding withFresh
-  fresh-swap k at n x l i h e = bytes-swap c m 0 recordSize (freshRecord f g) (omega arith) l k at n x i h e
+  pub record-swap : (k at n : ℕ) (x : List ℕ) → 1 ≤ m → at + n ≤ recordSize → 1 ≤ k → k ≢ m
+      → withRecordBytes (withRecord c m y g) k at n x ≡ withRecord (withRecordBytes c k at n x) m y g
+  unfolding withRecord
+  record-swap k at n x l i h e = bytes-swap c m 0 recordSize (recordOf y g) (omega arith) l k at n x i h e
 
-  pub fresh-use : (mask : ℕ) → withInUse (withFresh c m f g) mask ≡ withFresh (withInUse c mask) m f g
-  unfolding withFresh
-  fresh-use mask = use-swap c mask m 0 recordSize (freshRecord f g)
+  pub record-use : (mask : ℕ) → withInUse (withRecord c m y g) mask ≡ withRecord (withInUse c mask) m y g
+  unfolding withRecord
+  record-use mask = use-swap c mask m 0 recordSize (recordOf y g)
 
-  pub fresh-none : length c ≡ cardSize (setupOf c .members) → setupOf c .members < m → withFresh c m f g ≡ c
-  unfolding withFresh
-  fresh-none e h = bytes-none c m 0 recordSize (freshRecord f g) e h
+  pub record-none : length c ≡ cardSize (setupOf c .members) → setupOf c .members < m → withRecord c m y g ≡ c
+  unfolding withRecord
+  record-none e h = bytes-none c m 0 recordSize (recordOf y g) e h
 
-  module _ (e : length f ≡ featuresSize) where
+  module _ (s : Shaped y) where
     -- whatever was put in the record is covered
-    pub fresh-over : (at n : ℕ) (x : List ℕ) → at + n ≤ recordSize → withFresh (withRecordBytes c m at n x) m f g ≡ withFresh c m f g
-    unfolding withFresh
-    fresh-over at n x i = bytes-over c m at n x 0 recordSize (freshRecord f g) (omega arith) (omega arith) (fresh-record-long f g e)
+    pub record-over : (at n : ℕ) (x : List ℕ) → at + n ≤ recordSize → withRecord (withRecordBytes c m at n x) m y g ≡ withRecord c m y g
+    unfolding withRecord
+    record-over at n x i = bytes-over c m at n x 0 recordSize (recordOf y g) (omega arith) (omega arith) (record-long y g s)
 
-    pub fresh-again : (h : List ℕ) (k : ℕ) → withFresh (withFresh c m h k) m f g ≡ withFresh c m f g
-    unfolding withFresh
-    fresh-again h k = fresh-over 0 recordSize (freshRecord h k) (omega arith)
+    pub record-again : (z : Member) (k : ℕ) → withRecord (withRecord c m z k) m y g ≡ withRecord c m y g
+    unfolding withRecord
+    record-again z k = record-over 0 recordSize (recordOf z k) (omega arith)
 
     -- byte by byte
-    pub fresh-eq : HasRecord c m → withFresh c m f g ≡ take (recordAt m) c ++ (freshRecord f g ++ drop (recordAt m + recordSize) c)
-    unfolding withFresh
-    fresh-eq h = rw add-zero at (bytes-eq c m 0 recordSize (freshRecord f g) h (omega arith) (fresh-record-long f g e))
+    pub record-eq : HasRecord c m → withRecord c m y g ≡ take (recordAt m) c ++ (recordOf y g ++ drop (recordAt m + recordSize) c)
+    unfolding withRecord
+    record-eq h = rw add-zero at (bytes-eq c m 0 recordSize (recordOf y g) h (omega arith) (record-long y g s))
 
-    -- as code leaves it that stores a fresh record from its place on
-    pub fresh-put : put (recordAt m) (freshRecord f g) c ≡ withFresh c m f g
-    unfolding withFresh withRecordBytes
-    fresh-put = rw (uncut recordSize (freshRecord f g) (fresh-record-long f g e), add-zero)
+    -- as code leaves it that stores the record from its place on
+    pub record-put : put (recordAt m) (recordOf y g) c ≡ withRecord c m y g
+    unfolding withRecord withRecordBytes
+    record-put = rw (uncut recordSize (recordOf y g) (record-long y g s), add-zero)
 
--- as code leaves it that saves a fresh member, and makes the rest of its record fresh
-pub fresh-in-three : (c : List ℕ) (m : ℕ) (f : List ℕ) (g : ℕ) → length f ≡ featuresSize
-    → withFresh c m f g ≡ withHolding (withConfiguration (withMember c m (freshOf f)) m noConfiguration g) m noBytes
-unfolding withFresh withMember withConfiguration withHolding withRecordBytes freshRecord
-fresh-in-three c m f g e =
-    let x = memberBytes (freshOf f) in
+    -- the member is there
+    pub member-bytes-with-record : HasRecord c m → memberBytesIn (withRecord c m y g) m ≡ memberBytes y
+    unfolding withRecord
+    member-bytes-with-record h =
+        member-front _ m _ (bytes-same c m 0 recordSize (recordOf y g) h (omega arith) (record-long y g s)) ∙ record-front y g s
+
+    pub member-with-record : HasRecord c m → memberIn (withRecord c m y g) m ≡ y
+    unfolding memberIn
+    member-with-record h = ap memberOf (member-bytes-with-record h) ∙ member-back y s
+
+-- as code leaves it that saves the member, and makes the rest of its record zero
+pub record-in-three : (c : List ℕ) (m : ℕ) (z : Member) (g : ℕ) → Shaped z
+    → withRecord c m z g ≡ withHolding (withConfiguration (withMember c m z) m noConfiguration g) m noBytes
+unfolding withRecord withMember withConfiguration withHolding withRecordBytes recordOf
+record-in-three c m z g s =
+    let x = memberBytes z in
     let y = noConfiguration ++ bytes generationSize g in
-    let n : length x ≡ memberSize = length-member _ (fresh-shaped f e) in
+    let n : length x ≡ memberSize = length-member z s in
     let b = length-bytes generationSize g in
     let k : length y ≡ configurationSize + generationSize = rw length-append (omega (arith, no-configuration-long)) in
     let r : length (x ++ (y ++ noBytes)) ≡ recordSize = rw (length-append, length-append, n, k, no-bytes-long) (omega arith) in
@@ -442,10 +455,3 @@ fresh-in-three c m f g e =
       put-append (recordAt m + configurationAt) y noBytes (put (recordAt m + 0) x c),
       on,
     )
-
--- its member is fresh
-pub member-bytes-with-fresh : (c : List ℕ) (m : ℕ) (f : List ℕ) (g : ℕ) → length f ≡ featuresSize → HasRecord c m
-    → memberBytesIn (withFresh c m f g) m ≡ memberBytes (freshOf f)
-unfolding withFresh
-member-bytes-with-fresh c m f g e h =
-    member-front _ m _ (bytes-same c m 0 recordSize (freshRecord f g) h (omega arith) (fresh-record-long f g e)) ∙ fresh-front f g e

@@ -1,5 +1,6 @@
 pub mod LayoutLaws
 pub mod ConfigurationLaws
+pub mod MarkLaws
 pub mod SoundLaws
 pub mod ReadLaws
 pub mod WriteLaws

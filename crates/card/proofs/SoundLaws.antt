@@ -2,7 +2,7 @@
 use mathlib.Core.Path.{_≡_, refl}
 use mathlib.Core.Bool.{true}
 use mathlib.Core.List.{List}
-use Prim.Native.Nat.{ℕ, zero, suc, _+_, _≤_}
+use Prim.Native.Nat.{ℕ, zero, suc, _+_, _^_, _≤_, _<_}
 use native.Mathlib.Omega.{arith}
 use lib.Dec.{eqb}
 use lib.ListN.{length}
@@ -16,9 +16,9 @@ use Rattle.member.specs.Member.{featuresSize}
 use Rattle.member.proofs.Record.{length-member}
 use Rattle.member.proofs.Sound.{SoundMember, sound-record, sound-member, sound-fresh}
 use Rattle.card.specs.declared.Setup.{Setup}
-use Rattle.card.specs.Layout.{cardHeaderSize, memberBytesAt, recordSize, cardSize, setupOf, inUseOf, isMember, HasRecord, withRecordBytes, memberBytesIn, withInUse, memberIn, withMember, withConfiguration, withHolding, freshRecord, withFresh, freshCard}
+use Rattle.card.specs.Layout.{cardHeaderSize, memberBytesAt, recordSize, cardSize, setupOf, inUseOf, isMember, HasRecord, withRecordBytes, memberBytesIn, withInUse, memberIn, withMember, withConfiguration, withHolding, recordOf, withRecord, withFresh, freshCard}
 use Rattle.card.specs.Sound.{inNumbers, soundSetup, soundFor, soundUpTo, isSound}
-use Rattle.card.proofs.LayoutLaws.{has-record, bytes-long, length-with-bytes, setup-with-bytes, use-with-bytes, bytes-same, bytes-other, length-with-use, setup-with-use, bytes-with-use, use-same, features-long, length-fresh, setup-fresh, use-fresh, member-bytes-fresh, fresh-bytes, member-bytes-with-fresh, length-with-holding, setup-with-holding, use-with-holding, bytes-with-holding}
+use Rattle.card.proofs.LayoutLaws.{has-record, bytes-long, length-with-bytes, setup-with-bytes, use-with-bytes, bytes-same, bytes-other, length-with-use, setup-with-use, bytes-with-use, use-same, features-long, length-fresh, setup-fresh, use-fresh, member-bytes-fresh, record-bytes, member-bytes-with-record, length-with-holding, setup-with-holding, use-with-holding, bytes-with-holding}
 use Rattle.card.proofs.ConfigurationLaws.{length-with-configuration, setup-with-configuration, use-with-configuration, bytes-with-configuration}
 
 -- ---- the test, as facts, and back ----
@@ -104,6 +104,10 @@ module _ (c : List ℕ) (s : Sound c) where
   unfolding memberIn
   sound-member-in m e = sound-member _ _ _ _ (memberBytesIn c m) (bytes-long c m memberBytesAt memberSize (sound-has m e) (omega arith)) (sound-at m e)
 
+-- a member's number fits the field of a request
+pub member-small : (c : List ℕ) (m : ℕ) → isSound c ≡ true → isMember c m ≡ true → m < 256 ^ 8
+member-small c m s h = omega (arith, within-high 1 (setupOf c .members) m h, sound-of c s .numbers .fewMembers)
+
 -- ---- what keeps a card sound ----
 
 kept : (c d : List ℕ) → Sound c → length d ≡ length c → setupOf d ≡ setupOf c → supportedOnly (inUseOf d) ≡ true
@@ -125,13 +129,17 @@ unfolding withMember
 sound-with-member c m x s low y = with-bytes c m memberBytesAt memberSize (memberBytes x) s low (omega arith) λ h.
     rw (bytes-same c m memberBytesAt memberSize (memberBytes x) h (omega arith) (length-member x (y .shaped))) (sound-record _ _ _ _ x y)
 
--- a fresh member
+-- a whole record of a sound member, and that of a fresh one
+pub sound-with-record : (c : List ℕ) (m : ℕ) (x : Member) (g : ℕ) → Sound c → 1 ≤ m → SoundIn c x → Sound (withRecord c m x g)
+sound-with-record c m x g s low y =
+    rw (record-bytes c m x g) (with-bytes c m 0 recordSize (recordOf x g) s low (omega arith) λ h.
+    rw (← record-bytes c m x g, member-bytes-with-record c m x g (y .shaped) h) (sound-record _ _ _ _ x y))
+
 pub sound-with-fresh : (c : List ℕ) (m g : ℕ) → Sound c → 1 ≤ m → Sound (withFresh c m (setupOf c .features) g)
 sound-with-fresh c m g s low =
     let f = setupOf c .features in
     let e = features-long c (omega (arith, sound-long c s)) in
-    rw (fresh-bytes c m f g) (with-bytes c m 0 recordSize (freshRecord f g) s low (omega arith) λ h.
-    rw (← fresh-bytes c m f g, member-bytes-with-fresh c m f g e h) (sound-record _ _ _ _ _ (sound-fresh _ _ _ f e)))
+    sound-with-record c m _ g s low (sound-fresh _ _ _ f e)
 
 -- what stands behind a member's bytes, whatever it is: its configuration and generation, the bytes of its holding place
 pub sound-with-configuration : (c : List ℕ) (m : ℕ) (x : List ℕ) (g : ℕ) → Sound c → 1 ≤ m → Sound (withConfiguration c m x g)

@@ -13,7 +13,7 @@ use Rattle.member.specs.declared.Member.{Member}
 use Rattle.member.specs.Record.{memberSize, holdingSize, memberBytes}
 use Rattle.member.specs.Member.{featuresSize, freshOf}
 use Rattle.card.specs.Layout.{memberBytesAt, holdingAt, recordAt, HasRecord, recordBytes, withRecordBytes, withMember, withConfiguration, noConfiguration, holdingIn, withHolding, noBytes, withFresh}
-use Rattle.card.proofs.LayoutLaws.{bytes-lent, fresh-in-three}
+use Rattle.card.proofs.LayoutLaws.{bytes-lent, fresh-shaped, record-in-three}
 
 -- the place of a member's bytes was lent and came back as `last`, as long as it was
 pub member-saved : (c : List ℕ) (m at : ℕ) (x : Member) (last : List ℕ) → at ≡ recordAt m → HasRecord c m → last ≡ memberBytes x
@@ -28,7 +28,7 @@ member-saved c m at x last e h q n =
 -- a fresh member was saved, its configuration zeroed with a generation given, and its holding place zeroed
 pub member-reset : (c d e r : List ℕ) (m : ℕ) (x : Member) (f : List ℕ) (g : ℕ) → length f ≡ featuresSize → x ≡ freshOf f → d ≡ withMember c m x
     → e ≡ withConfiguration d m noConfiguration g → r ≡ withHolding e m noBytes → r ≡ withFresh c m f g
-member-reset c d e r m x f g n p q o i = i ∙ rw (o, q, p) (sym (fresh-in-three c m f g n))
+member-reset c d e r m x f g n p q o i = i ∙ rw (o, q, p) (sym (record-in-three c m (freshOf f) g (fresh-shaped f n)))
 
 -- ---- the bytes of a holding place, from the place of the record ----
 

@@ -4,7 +4,7 @@ use mathlib.Core.Bool.{Bool}
 use mathlib.Core.List.{List, _∷_, _++_}
 use Prim.Native.Nat.{ℕ, _+_, _*_, _-_, _≤_}
 use lib.ListN.{length, getD, take, drop, replicate}
-use Rattle.theory.specs.Logic.{if_then_else_, within}
+use Rattle.theory.specs.Logic.{if_then_else_, _and_, within}
 use Rattle.theory.specs.Bytes.{bytesAt, put, repeat}
 use Rattle.wire.specs.Le.{le, bytes, number}
 use Rattle.protocol.specs.Opcodes.{freshMask}
@@ -15,7 +15,7 @@ use Rattle.card.specs.declared.Setup.{Setup}
 
 -- raised whenever a card's bytes change their meaning
 abbrev pub version : ℕ
-version = 3
+version = 4
 
 -- header: N, Q, G, S 1 byte each, device features 16, list in use 8
 abbrev pub featuresAt : ℕ
@@ -99,6 +99,10 @@ memberIn c m = memberOf (memberBytesIn c m)
 unfoldable pub withMember : List ℕ → ℕ → Member → List ℕ
 withMember c m x = withRecordBytes c m memberBytesAt memberSize (memberBytes x)
 
+-- member m is marked (02's term, request 10): it is handed back and not yet wiped
+unfoldable pub isMarked : List ℕ → ℕ → Bool
+isMarked c m = isMember c m and memberIn c m .marked
+
 -- the configuration of member m, and how often it was written (02, request 3); a message writes both
 unfoldable pub configurationIn : List ℕ → ℕ → List ℕ
 configurationIn c m = recordBytes c m configurationAt configurationSize
@@ -123,13 +127,19 @@ withHolding c m x = withRecordBytes c m holdingAt holdingSize x
 unfoldable pub noBytes : List ℕ
 noBytes = replicate holdingSize 0
 
--- the record of a fresh member, which starts from a generation that is given
-unfoldable pub freshRecord : List ℕ → ℕ → List ℕ
-freshRecord features generation =
-    memberBytes (freshOf features) ++ (noConfiguration ++ (bytes generationSize generation ++ noBytes))
+-- the record of member x with a generation that is given, and zeros in the rest
+unfoldable pub recordOf : Member → ℕ → List ℕ
+recordOf x generation = memberBytes x ++ (noConfiguration ++ (bytes generationSize generation ++ noBytes))
 
-unfoldable pub withFresh : List ℕ → ℕ → List ℕ → ℕ → List ℕ
-withFresh c m features generation = withRecordBytes c m 0 recordSize (freshRecord features generation)
+unfoldable pub withRecord : List ℕ → ℕ → Member → ℕ → List ℕ
+withRecord c m x generation = withRecordBytes c m 0 recordSize (recordOf x generation)
+
+-- that of a fresh member
+abbrev pub freshRecord : List ℕ → ℕ → List ℕ
+freshRecord features generation = recordOf (freshOf features) generation
+
+abbrev pub withFresh : List ℕ → ℕ → List ℕ → ℕ → List ℕ
+withFresh c m features generation = withRecord c m (freshOf features) generation
 
 -- fresh (01's term), SPEC 2.5: opcodes 0x00 and 0x01 are in use, and every member is fresh
 unfoldable pub freshHeader : Setup → List ℕ

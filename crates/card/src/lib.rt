@@ -6,7 +6,7 @@ ghost use lib.ListN.{length};
 ghost use Rattle.theory.specs.Bytes.{bytesAt, put};
 ghost use Rattle.protocol.specs.Opcodes.{supportedOnly};
 ghost use Rattle.member.specs.Record.{memberSize, holdingSize};
-ghost use Rattle.card.specs.Layout.{cardHeaderSize, cardSize, cardBytes, setupOf, inUseOf, withInUse, isMember, recordAt, HasRecord, memberBytesIn, memberIn, withMember, configurationSize, configurationIn, generationIn, withConfiguration, noConfiguration, holdingIn, withHolding, noBytes, withFresh};
+ghost use Rattle.card.specs.Layout.{cardHeaderSize, cardSize, cardBytes, setupOf, inUseOf, withInUse, isMember, recordAt, HasRecord, memberBytesIn, memberIn, withMember, isMarked, configurationSize, configurationIn, generationIn, withConfiguration, noConfiguration, holdingIn, withHolding, noBytes, withFresh};
 ghost use Rattle.card.specs.Sound.{inNumbers, soundSetup, soundFor, soundUpTo, isSound};
 use member::FEATURES_SIZE;
 use member::HOLDING_SIZE;
@@ -23,7 +23,7 @@ pub struct Setup {
 }
 
 // Raised whenever a card's bytes change their meaning.
-pub const VERSION: u32 = 3;
+pub const VERSION: u32 = 4;
 
 // Header: N, Q, G, S 1 byte each, device features 16, list in use 8; then a record for each member.
 const MEMBERS_AT: usize = 0;
@@ -152,12 +152,23 @@ pub fn save_member(card: &mut [u8], m: u64, x: Member)
     member::save(x, &mut card[at..at + MEMBER_SIZE]);
 }
 
+// Whether m is a member that is marked: handed back and not yet wiped.
+pub fn is_marked(card: &[u8], m: u64) -> bool
+    requires { ⌜ length (now card) ≡ cardSize (setupOf (now card) .members) ⌝ }
+    ensures { λ r. ⌜ r ≡ isMarked (now (card .entry)) m ⌝ }
+{
+    if !is_member(card, m) {
+        return false;
+    }
+    member::is_marked(member_bytes(card, m))
+}
+
 // The record of member m becomes a fresh member's, whatever it holds, and starts from this generation.
 pub fn reset_record(card: &mut [u8], m: u64, features: [u8; FEATURES_SIZE], generation: u32)
     requires { ⌜ HasRecord (now card) m ⌝ }
     ensures { λ _. ⌜ now (card .exit) ≡ withFresh (now (card .entry)) m features generation ⌝ }
 {
-    let x = load_member(card, m).reset(features);
+    let x = load_member(card, m).wiped(features);
     save_member(card, m, x);
     reset_configuration(card, m, generation);
     zero_holding(card, m);

@@ -76,10 +76,18 @@ module _ (queues gets sets : ℕ) (list : List ℕ) (op : ChangeOp) (m : Member)
       change-cases queues gets sets m (λ x. isDone (x .answer) ≡ false → x .member ≡ m) (λ a e f. refl) list op
       (λ id slot p e f. cc) (λ id f. cc) (λ mode f. cc) (λ e f. cc)
 
-  pub change-sound : (features : List ℕ) → IdBelow (gets + sets) op → SoundMember queues gets sets features m
+  -- no change marks a member
+  pub change-marked : changeOf queues gets sets list op m .member .marked ≡ m .marked
+  unfolding withObject
+  change-marked =
+      change-cases queues gets sets m (λ x. x .member .marked ≡ m .marked) (λ a e. refl) list op
+      (λ id slot p e. refl) (λ id. refl) (λ mode. refl) (λ e. refl)
+
+  -- a member that is not marked
+  pub change-sound : (features : List ℕ) → IdBelow (gets + sets) op → m .marked ≡ false → SoundMember queues gets sets features m
       → SoundMember queues gets sets features (changeOf queues gets sets list op m .member)
-  change-sound f h s =
+  change-sound f h u s =
       change-cases queues gets sets m (λ x. SoundMember queues gets sets f (x .member)) (λ a e. s) list op
-      (λ id slot p e. sound-object queues gets sets f m s id slot (put-below (gets + sets) h p) e) (λ id. sound-free queues gets sets f m s id)
-      (λ mode. sound-mode queues gets sets f m s mode)
+      (λ id slot p e. sound-object queues gets sets f m s u id slot (put-below (gets + sets) h p) e) (λ id. sound-free queues gets sets f m s u id)
+      (λ mode. sound-mode queues gets sets f m s u mode)
       (λ e. sound-applied queues gets sets f m s (partsOf Parts list) (accepted-allowed queues (featuresIn m) _ (m .values) e (s .shaped .long) (s .allowed)))

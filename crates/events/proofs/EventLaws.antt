@@ -1,4 +1,4 @@
--- Setup, both resets and the card store: what the code does, at each return. Assumes nothing.
+-- Setup, hand back, wipe, card reset and card store: what the code does, at each return. Assumes nothing.
 use mathlib.Core.Path.{_≡_, refl, ap, sym, _∙_}
 use mathlib.Core.Bool.{Bool, true, false, not}
 use mathlib.Core.List.{List}
@@ -14,16 +14,16 @@ use Rattle.theory.proofs.Tests.{both}
 use Rattle.theory.proofs.Bytes.{put-all}
 use Rattle.theory.proofs.Ladder.{stop, pass}
 use Rattle.protocol.specs.declared.EventAnswer.{EventAnswer}
-use Rattle.protocol.specs.declared.EventAnswer.the-variants.{Done, NotSound, NoMember, BadSetup}
+use Rattle.protocol.specs.declared.EventAnswer.the-variants.{Done, NotSound, NoMember, BadSetup, WrongMark}
 use Rattle.protocol.specs.Answers.{isEventDone}
 use Rattle.inventory.specs.Inventory.{selectorOf}
 use Rattle.values.specs.Apply.{storable}
 use Rattle.member.specs.declared.Member.{Member}
-use Rattle.member.specs.Member.{featuresSize, withPart}
+use Rattle.member.specs.Member.{featuresSize, handedBack, withPart}
 use Rattle.card.specs.declared.Setup.{Setup}
-use Rattle.card.specs.Layout.{cardHeaderSize, cardSize, cardBytes, setupOf, isMember, HasRecord, memberIn, withMember, withFresh, freshCard}
+use Rattle.card.specs.Layout.{cardHeaderSize, cardSize, cardBytes, setupOf, isMember, HasRecord, memberIn, withMember, isMarked, withHolding, noBytes, withFresh, freshCard}
 use Rattle.card.specs.Sound.{inNumbers, soundSetup, isSound}
-use Rattle.events.specs.Events.{InBounds, setupWith, setUp, memberAnswer, ifDone, onMember, storeIn}
+use Rattle.events.specs.Events.{InBounds, setupWith, setUp, memberAnswer, ifDone, onMember, withHandedBack, storeIn}
 use Rattle.card.proofs.LayoutLaws.{has-header}
 use Rattle.card.proofs.SoundLaws.{numbers-of, sound-of, sound-long, sound-has}
 
@@ -70,8 +70,11 @@ module _ (c : List ℕ) (m : ℕ) (a : EventAnswer) (t : Bool) (e : a ≡ member
     pub member-long : cardHeaderSize ≤ length c
     member-long = has-header c m member-record
 
+    pub member-whole : length c ≡ cardSize (setupOf c .members)
+    member-whole = sound-of c (sound-has-it .0) .long
+
 -- what a call asks after these tests
-pub ruleset told = (needs, told-long, told-size, member-record, member-long)
+pub ruleset told = (needs, told-long, told-size, member-record, member-long, member-whole)
 
 -- ---- setup ----
 
@@ -112,9 +115,27 @@ module _ (n q g s : ℕ) (f c : List ℕ) (t : Bool) (e : t ≡ inNumbers n q g 
 
 -- ---- events ----
 
-pub member-reset : (c d : List ℕ) (m g : ℕ) (s : Setup) → s ≡ setupOf c → d ≡ withFresh c m (s .features) g
-    → _≡_ {A = EventAnswer × List ℕ} (Done, d) (Done, withFresh c m (setupOf c .features) g)
-member-reset c d m g s e f = rw (f, e)
+-- t says whether m is marked
+module _ (c : List ℕ) (m : ℕ) (t : Bool) (e : t ≡ isMarked c m) where
+  pub back-refused : t ≡ true → (x : EventAnswer × List ℕ) → (WrongMark, c) ≡ unless not (isMarked c m) answer (WrongMark, c) then x
+  back-refused h x = stop _ _ _ _ (ap not (sym e ∙ h)) refl
+
+  pub back-done : t ≡ false → (d : List ℕ) → d ≡ withHandedBack c m
+      → _≡_ {A = EventAnswer × List ℕ} (Done, d) (unless not (isMarked c m) answer (WrongMark, c) then (Done, withHandedBack c m))
+  back-done h d p = pass _ _ _ _ (ap not (sym e ∙ h)) (ap (λ l. (Done, l)) p)
+
+  pub wipe-refused : not t ≡ true → (x : EventAnswer × List ℕ) → (WrongMark, c) ≡ unless isMarked c m answer (WrongMark, c) then x
+  wipe-refused h x = stop _ _ _ _ (sym e ∙ not-true t h) refl
+
+  pub wipe-done : not t ≡ false → (d : List ℕ) (g : ℕ) (s : Setup) → s ≡ setupOf c → d ≡ withFresh c m (s .features) g
+      → _≡_ {A = EventAnswer × List ℕ} (Done, d) (unless isMarked c m answer (WrongMark, c) then (Done, withFresh c m (setupOf c .features) g))
+  wipe-done h d g s q f = pass _ _ _ _ (sym e ∙ not-false t h) (ap (λ l. (Done, l)) (f ∙ rw q))
+
+-- x was saved and the holding place zeroed
+pub member-ended : (c d r : List ℕ) (m : ℕ) (x y : Member) → y ≡ memberIn c m → x ≡ handedBack y → d ≡ withMember c m x
+    → r ≡ withHolding d m noBytes → r ≡ withHandedBack c m
+unfolding withHandedBack
+member-ended c d r m x y p q e f = f ∙ rw (e, q, p)
 
 pub card-reset : (c d : List ℕ) (g : ℕ) (s : Setup) → s ≡ setupOf c → d ≡ freshCard s g
     → _≡_ {A = EventAnswer × List ℕ} (Done, d) (Done, freshCard (setupOf c) g)
@@ -137,4 +158,4 @@ pub store-done : (c d : List ℕ) (m t s k : ℕ) (value : List ℕ) (a : EventA
 store-done c d m t s k value a e f = f ∙ rw e
 
 -- each return of an event for one member, and what its calls ask
-pub ruleset on-member = (told, member-refused, member-passed, member-reset, store-done)
+pub ruleset on-member = (told, member-refused, member-passed, back-refused, back-done, wipe-refused, wipe-done, store-done)

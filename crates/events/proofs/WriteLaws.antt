@@ -13,7 +13,7 @@ use Rattle.protocol.specs.Opcodes.{freshMask}
 use Rattle.member.specs.Member.{featuresSize}
 use Rattle.card.specs.declared.Setup.{Setup}
 use Rattle.card.specs.Layout.{featuresAt, inUseAt, cardHeaderSize, recordSize, cardSize, recordAt, HasRecord, withFresh, freshRecord, freshHeader, freshCard}
-use Rattle.card.proofs.LayoutLaws.{length-with-fresh, fresh-record-long, fresh-put, length-fresh}
+use Rattle.card.proofs.LayoutLaws.{fresh-shaped, length-with-record, record-long, record-put, length-fresh}
 
 -- ---- a fresh card ----
 
@@ -46,15 +46,15 @@ module _ (f : List ℕ) (g : ℕ) (c₀ c : List ℕ) (n m : ℕ) (w : Filled f 
   pub filled-on : (d : List ℕ) → length f ≡ featuresSize → m < n → d ≡ withFresh c (m + 1) f g → Filled f g c₀ d n (m + 1)
   filled-on d e h p =
       let r = freshRecord f g in
-      let l : length r ≡ recordSize = fresh-record-long f g e in
+      let l : length r ≡ recordSize = record-long _ g (fresh-shaped f e) in
       let at : cardHeaderSize + recordSize * m ≡ recordAt (m + 1) = omega arith in
       let on : recordAt (m + 1) + length r ≡ cardHeaderSize + recordSize * (m + 1) = omega arith in
       record {
         count = omega arith;
-        long = rw (p, length-with-fresh) (w .long);
+        long = rw (p, length-with-record) (w .long);
         whole =
             w .whole
-            ∙ rw (repeat-step n m r h, at, put-append (recordAt (m + 1)) r (repeat (n - (m + 1)) r) c, on, fresh-put c (m + 1) f g e, p);
+            ∙ rw (repeat-step n m r h, at, put-append (recordAt (m + 1)) r (repeat (n - (m + 1)) r) c, on, record-put c (m + 1) _ g (fresh-shaped f e), p);
       }
 
   pub filled-end : n ≤ m → c ≡ put cardHeaderSize (repeat n (freshRecord f g)) c₀

@@ -1,18 +1,19 @@
 -- Setup and the card events (01's term): SPEC 7. Each gives the first answer that applies, and the card after it. Assumes
 -- nothing.
+use mathlib.Core.Bool.{not}
 use mathlib.Core.List.{List}
 use Prim.Native.Nat.{ℕ, _≤_}
 use lib.Dec.{eqb}
 use lib.ListN.{length, replicate}
 use Rattle.theory.specs.Logic.{unless_answer_then_, _and_}
 use Rattle.protocol.specs.declared.EventAnswer.{EventAnswer}
-use Rattle.protocol.specs.declared.EventAnswer.the-variants.{Done, NotSound, NoMember, BadSetup}
+use Rattle.protocol.specs.declared.EventAnswer.the-variants.{Done, NotSound, NoMember, BadSetup, WrongMark}
 use Rattle.protocol.specs.Answers.{eventNumber, isEventDone}
 use Rattle.inventory.specs.Inventory.{selectorOf}
 use Rattle.values.specs.Apply.{storable}
-use Rattle.member.specs.Member.{featuresSize, withPart}
+use Rattle.member.specs.Member.{featuresSize, handedBack, withPart}
 use Rattle.card.specs.declared.Setup.{Setup}
-use Rattle.card.specs.Layout.{cardSize, setupOf, isMember, memberIn, withMember, withFresh, freshCard}
+use Rattle.card.specs.Layout.{cardSize, setupOf, isMember, memberIn, withMember, isMarked, withHolding, noBytes, withFresh, freshCard}
 use Rattle.card.specs.Sound.{inNumbers, isSound}
 
 abbrev pub setupWith : ℕ → ℕ → ℕ → ℕ → List ℕ → Setup
@@ -48,7 +49,25 @@ ifDone a next c = unless isEventDone a answer (a, c) then next
 unfoldable pub onMember : List ℕ → ℕ → EventAnswer × List ℕ → EventAnswer × List ℕ
 onMember c m next = ifDone (memberAnswer c m) next c
 
--- member reset, SPEC 7.3: the member becomes fresh, with the generation given (02, request 3), and nothing else changes
+-- hand back (02's term, request 10), SPEC 7.3: the member's objects and its holding place end, and it is stopped and marked;
+-- its parts, configuration and generation stay
+unfoldable pub withHandedBack : List ℕ → ℕ → List ℕ
+withHandedBack c m = withHolding (withMember c m (handedBack (memberIn c m))) m noBytes
+
+unfoldable pub handBack : List ℕ → ℕ → EventAnswer × List ℕ
+handBack c m =
+    onMember c m (
+    unless not (isMarked c m) answer (WrongMark, c) then
+    (Done, withHandedBack c m))
+
+-- wipe (02's term): a marked member becomes fresh, with the generation given (02, request 3), and nothing else changes
+unfoldable pub wipe : List ℕ → ℕ → ℕ → EventAnswer × List ℕ
+wipe c m generation =
+    onMember c m (
+    unless isMarked c m answer (WrongMark, c) then
+    (Done, withFresh c m (setupOf c .features) generation))
+
+-- member reset, of which these two are the halves; no call does it
 unfoldable pub resetMember : List ℕ → ℕ → ℕ → EventAnswer × List ℕ
 resetMember c m generation = onMember c m (Done, withFresh c m (setupOf c .features) generation)
 

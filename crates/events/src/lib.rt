@@ -1,4 +1,4 @@
-// Setup, both resets and the card store: SPEC 7.
+// Setup, hand back, wipe, card reset and card store: SPEC 7.
 ghost use mathlib.Core.Path.{_≡_};
 ghost use Prim.Native.Nat.{_≤_};
 ghost use lib.Dec.{eqb};
@@ -8,7 +8,7 @@ ghost use Rattle.theory.specs.Bytes.{put, repeat};
 ghost use Rattle.member.specs.Member.{featuresSize};
 ghost use Rattle.card.specs.Layout.{cardHeaderSize, cardSize, HasRecord, freshRecord, freshHeader, freshCard};
 ghost use Rattle.card.specs.Sound.{inNumbers};
-ghost use Rattle.events.specs.Events.{InBounds, setupWith, setUp, memberAnswer, resetMember, resetCard, storeIn, store};
+ghost use Rattle.events.specs.Events.{InBounds, setupWith, setUp, memberAnswer, withHandedBack, handBack, wipe, resetCard, storeIn, store};
 use card::FEATURES_AT;
 use card::IN_USE_AT;
 use card::Setup;
@@ -116,13 +116,41 @@ fn member_answer(card: &[u8], m: u64) -> EventAnswer
     EventAnswer::Done
 }
 
-// Reset of one member: it is fresh, with this generation, and nothing else changes.
-pub fn reset_member(card: &mut [u8], m: u64, generation: u32) -> EventAnswer
-    ensures { λ r. ⌜ (r, now (card .exit)) ≡ resetMember (now (card .entry)) m generation ⌝ }
+// Member m is handed back, and nothing of its holding place is left.
+fn end_member(card: &mut [u8], m: u64)
+    requires { ⌜ HasRecord (now card) m ⌝ }
+    ensures { λ _. ⌜ now (card .exit) ≡ withHandedBack (now (card .entry)) m ⌝ }
+{
+    let x = card::load_member(card, m).hand_back();
+    card::save_member(card, m, x);
+    card::zero_holding(card, m);
+}
+
+// Hand back, the first half of a reset: the member lets go of its guest, whose parts stay until the wipe.
+pub fn hand_back(card: &mut [u8], m: u64) -> EventAnswer
+    ensures { λ r. ⌜ (r, now (card .exit)) ≡ handBack (now (card .entry)) m ⌝ }
 {
     let a = member_answer(card, m);
     if !protocol::is_event_done(a) {
         return a;
+    }
+    if card::is_marked(card, m) {
+        return EventAnswer::WrongMark;
+    }
+    end_member(card, m);
+    EventAnswer::Done
+}
+
+// Wipe, the second half: a marked member is fresh, with this generation, and nothing else changes.
+pub fn wipe(card: &mut [u8], m: u64, generation: u32) -> EventAnswer
+    ensures { λ r. ⌜ (r, now (card .exit)) ≡ wipe (now (card .entry)) m generation ⌝ }
+{
+    let a = member_answer(card, m);
+    if !protocol::is_event_done(a) {
+        return a;
+    }
+    if !card::is_marked(card, m) {
+        return EventAnswer::WrongMark;
     }
     let s = card::setup_of(card);
     let fresh = s.features;

@@ -4,7 +4,7 @@ use mathlib.Core.Path.{_≡_, refl}
 use mathlib.Core.Bool.{Bool, true, false, not}
 use mathlib.Core.List.{List}
 use Prim.Native.Nat.{ℕ, _≤_, _<_}
-use borrow.Author.Tests.{ltb-true, eqb-true, eqb-false}
+use borrow.Author.Tests.{ltb-true, eqb-true, eqb-false, not-true}
 use lib.Dec.{eqb, lit<}
 use lib.ListN.{length}
 use Rattle.theory.specs.Logic.{if_then_else_, unless_answer_then_, within}
@@ -19,7 +19,7 @@ use Rattle.frame.specs.declared.Ask.{Ask}
 use Rattle.frame.specs.declared.Ask.the-variants.{Refused, QueryList, UseList, Read, Change}
 use Rattle.frame.specs.Frame.{dataAt, longest, opcodeOf, groupOf, targetOf, dataOf}
 use Rattle.frame.specs.Fields.{idOf, objectValid, kindValid, createIn, modifyIn, queryIn, destroyIn, metadataIn, getIn, setIn, modeIn, useIn, fieldsOf}
-use Rattle.frame.specs.Ask.{usable, reaches, framedOf, askOf}
+use Rattle.frame.specs.Ask.{usable, reaches, attended, framedOf, askOf}
 
 -- the object id in an operation is below ids
 abbrev pub ReadBelow : ℕ → ReadOp → Type 0
@@ -28,8 +28,8 @@ ReadBelow ids (GetMetadata id what) = id < ids
 ReadBelow ids (GetSelected id) = id < ids
 ReadBelow ids (GetAll id) = id < ids
 
--- the request names m (01's term), SPEC 8.2, and m is a member of the card
-pub record Named (members : ℕ) (r : List ℕ) (m : ℕ) : Type 0 where
+-- the request names m (01's term), SPEC 8.2, and m is a member of the card that is not marked
+pub record Named (members : ℕ) (marked : Bool) (r : List ℕ) (m : ℕ) : Type 0 where
   pub long : dataAt ≤ length r
   pub short : length r ≤ longest
   pub group : groupOf r ≡ 1
@@ -37,14 +37,15 @@ pub record Named (members : ℕ) (r : List ℕ) (m : ℕ) : Type 0 where
   pub target : targetOf r ≡ m
   pub low : 1 ≤ m
   pub high : m ≤ members
+  pub unmarked : marked ≡ false
 
 -- what each thing that is asked says of the request
-abbrev pub Facts : ℕ → ℕ → List ℕ → Ask → Type 0
-Facts members ids r (Refused a) = Unit {0}
-Facts members ids r QueryList = namesMember (opcodeOf r) ≡ false
-Facts members ids r (UseList mask) = (namesMember (opcodeOf r) ≡ false) × (supportedOnly mask ≡ true)
-Facts members ids r (Read m op) = Named members r m × ReadBelow ids op
-Facts members ids r (Change m op) = Named members r m × IdBelow ids op
+abbrev pub Facts : ℕ → ℕ → Bool → List ℕ → Ask → Type 0
+Facts members ids marked r (Refused a) = Unit {0}
+Facts members ids marked r QueryList = namesMember (opcodeOf r) ≡ false
+Facts members ids marked r (UseList mask) = (namesMember (opcodeOf r) ≡ false) × (supportedOnly mask ≡ true)
+Facts members ids marked r (Read m op) = Named members marked r m × ReadBelow ids op
+Facts members ids marked r (Change m op) = Named members marked r m × IdBelow ids op
 
 -- the id in an object header that passes
 id-below : (ids : ℕ) (d : List ℕ) → objectValid ids d ≡ true → idOf d < ids
@@ -60,21 +61,21 @@ names-none : (op k : ℕ) → eqb op k ≡ true → k < 0x0a → namesMember op 
 unfolding namesMember
 names-none op k e h = below 0x0a 0x11 op (omega tests)
 
-module _ (members ids : ℕ) (r : List ℕ) where
-  guarded : (t : Bool) (a : Answer) (x : Ask) → (t ≡ true → Facts members ids r x)
-      → Facts members ids r (unless t answer Refused a then x)
-  guarded t a x f = unless-cases (Facts members ids r) t (Refused a) x (λ e. tt) f
+module _ (members ids : ℕ) (marked : Bool) (r : List ℕ) where
+  guarded : (t : Bool) (a : Answer) (x : Ask) → (t ≡ true → Facts members ids marked r x)
+      → Facts members ids marked r (unless t answer Refused a then x)
+  guarded t a x f = unless-cases (Facts members ids marked r) t (Refused a) x (λ e. tt) f
 
-  branch : (t : Bool) (x y : Ask) → Facts members ids r x → Facts members ids r y → Facts members ids r (if t then x else y)
-  branch t x y f g = if-cases (Facts members ids r) t x y (λ e. f) (λ e. g)
+  branch : (t : Bool) (x y : Ask) → Facts members ids marked r x → Facts members ids marked r y → Facts members ids marked r (if t then x else y)
+  branch t x y f g = if-cases (Facts members ids marked r) t x y (λ e. f) (λ e. g)
 
   -- step 7
   fields-told : (m op : ℕ) (d : List ℕ) → op ≡ opcodeOf r → supported op ≡ true
-      → (namesMember op ≡ true → Named members r m) → Facts members ids r (fieldsOf ids m op d)
+      → (namesMember op ≡ true → Named members marked r m) → Facts members ids marked r (fieldsOf ids m op d)
   unfolding fieldsOf createIn modifyIn queryIn destroyIn metadataIn getIn setIn modeIn useIn
   fields-told m op d o s f =
-      if-cases (Facts members ids r) _ _ _ (λ e. rw o at (names-none op 0 e (lit< tt)))
-      (λ n0. if-cases (Facts members ids r) _ _ _
+      if-cases (Facts members ids marked r) _ _ _ (λ e. rw o at (names-none op 0 e (lit< tt)))
+      (λ n0. if-cases (Facts members ids marked r) _ _ _
       (λ e. guarded _ _ _ (λ t. (rw o at (names-none op 1 e (lit< tt)), t)))
       (λ n1. let n = f (names-one op s (eqb-false _ _ n0) (eqb-false _ _ n1)) in
       branch _ _ _ (guarded _ _ _ (λ e. (n, kind-below ids d e)))
@@ -87,9 +88,9 @@ module _ (members ids : ℕ) (r : List ℕ) where
       (guarded _ _ _ (λ e. (n, tt)))))))))))
 
   named : within dataAt longest (length r) ≡ true → eqb (groupOf r) 1 ≡ true → reaches members (opcodeOf r) (targetOf r) ≡ true
-      → namesMember (opcodeOf r) ≡ true → Named members r (targetOf r)
-  unfolding reaches
-  named l g t n =
+      → attended marked (opcodeOf r) ≡ true → namesMember (opcodeOf r) ≡ true → Named members marked r (targetOf r)
+  unfolding reaches attended
+  named l g t a n =
       let w : within 1 members (targetOf r) ≡ true = either (not (namesMember (opcodeOf r))) _ t (λ e. cc) (λ e. e) in
       record {
         long = within-low _ _ _ l;
@@ -99,21 +100,22 @@ module _ (members ids : ℕ) (r : List ℕ) where
         target = refl;
         low = within-low _ _ _ w;
         high = within-high _ _ _ w;
+        unmarked = either (not marked) _ a (λ e. not-true marked e) (λ e. cc);
       }
 
   -- the tests of steps 2 to 5 passed
   passed : (inUse : ℕ) → within dataAt longest (length r) ≡ true → eqb (groupOf r) 1 ≡ true → usable inUse (opcodeOf r) ≡ true
-      → reaches members (opcodeOf r) (targetOf r) ≡ true
-      → Facts members ids r (fieldsOf ids (targetOf r) (opcodeOf r) (dataOf r))
+      → reaches members (opcodeOf r) (targetOf r) ≡ true → attended marked (opcodeOf r) ≡ true
+      → Facts members ids marked r (fieldsOf ids (targetOf r) (opcodeOf r) (dataOf r))
   unfolding usable
-  passed inUse l g u t =
-      fields-told (targetOf r) (opcodeOf r) (dataOf r) refl (both _ _ u .0) (named l g t)
+  passed inUse l g u t a =
+      fields-told (targetOf r) (opcodeOf r) (dataOf r) refl (both _ _ u .0) (named l g t a)
 
-  facts : (inUse : ℕ) → Facts members ids r (askOf members ids inUse r)
+  facts : (inUse : ℕ) → Facts members ids marked r (askOf members ids inUse marked r)
   unfolding askOf framedOf
   facts inUse =
-      guarded _ _ _ (λ l. guarded _ _ _ (λ g. guarded _ _ _ (λ u. guarded _ _ _
-      (λ t. passed inUse (search) (search) (search) (search)))))
+      guarded _ _ _ (λ l. guarded _ _ _ (λ g. guarded _ _ _ (λ u. guarded _ _ _ (λ t. guarded _ _ _
+      (λ a. passed inUse (search) (search) (search) (search) (search))))))
 
-  pub asked : (inUse : ℕ) (a : Ask) → askOf members ids inUse r ≡ a → Facts members ids r a
+  pub asked : (inUse : ℕ) (a : Ask) → askOf members ids inUse marked r ≡ a → Facts members ids marked r a
   asked inUse a e = rw e at (facts inUse)

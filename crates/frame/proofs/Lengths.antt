@@ -134,22 +134,22 @@ missing-zero ids m op n d s h =
 
 -- ---- bytes more at the end of a request ----
 
-framed-alike : (members ids inUse group op m : ℕ) (a d : List ℕ)
+framed-alike : (members ids inUse : ℕ) (marked : Bool) (group op m : ℕ) (a d : List ℕ)
     → (supported op ≡ true → fieldsOf ids m op a ≡ fieldsOf ids m op d)
-    → framedOf members ids inUse group op m a ≡ framedOf members ids inUse group op m d
+    → framedOf members ids inUse marked group op m a ≡ framedOf members ids inUse marked group op m d
 unfolding framedOf usable _and_ unless_answer_then_
-framed-alike members ids inUse group op m a d f = by-cases (supported op) (λ e. rw (f e)) (λ e. rw e)
+framed-alike members ids inUse marked group op m a d f = by-cases (supported op) (λ e. rw (f e)) (λ e. rw e)
 
 module _ (r x : List ℕ) (long : dataAt ≤ length r) where
   pub number-more : (n at : ℕ) → at + n ≤ dataAt → number at n (r ++ x) ≡ number at n r
   number-more n at h = number-alike dataAt (r ++ x) r (λ i l. List·getD-append r x 0 i (omega arith)) n at h
 
-  pub ask-more : (members ids inUse : ℕ) → length (r ++ x) ≤ longest
+  pub ask-more : (members ids inUse : ℕ) (marked : Bool) → length (r ++ x) ≤ longest
       → (supported (opcodeOf r) ≡ true
       → fieldsOf ids (targetOf r) (opcodeOf r) (dataOf r ++ x) ≡ fieldsOf ids (targetOf r) (opcodeOf r) (dataOf r))
-      → askOf members ids inUse (r ++ x) ≡ askOf members ids inUse r
+      → askOf members ids inUse marked (r ++ x) ≡ askOf members ids inUse marked r
   unfolding askOf unless_answer_then_
-  ask-more members ids inUse h f =
+  ask-more members ids inUse marked h f =
       let l = length-append r x in
       rw (
         inside dataAt longest (length (r ++ x)) (omega arith) h,
@@ -159,7 +159,7 @@ module _ (r x : List ℕ) (long : dataAt ≤ length r) where
         number-more 8 memberAt (omega arith),
         drop-append-le dataAt r x long,
       )
-      (framed-alike members ids inUse (groupOf r) (opcodeOf r) (targetOf r) (dataOf r ++ x) (dataOf r) f)
+      (framed-alike members ids inUse marked (groupOf r) (opcodeOf r) (targetOf r) (dataOf r ++ x) (dataOf r) f)
 
 -- ---- what the code reads ----
 

@@ -102,11 +102,11 @@ unfolding usable
 usable-supported used op b e h = both _ _ (sym e ∙ not-false b h) .0
 
 -- the numbers that were read, and the data
-pub framed-is : (members ids used g op m : ℕ) (r : List ℕ) (x : Ask) → dataAt ≤ length r → length r ≤ longest
+pub framed-is : (members ids used g op m : ℕ) (marked : Bool) (r : List ℕ) (x : Ask) → dataAt ≤ length r → length r ≤ longest
     → g ≡ groupOf r → op ≡ opcodeOf r → m ≡ targetOf r
-    → x ≡ framedOf members ids used g op m (take (length r - dataAt) (dataOf r)) → x ≡ askOf members ids used r
+    → x ≡ framedOf members ids used marked g op m (take (length r - dataAt) (dataOf r)) → x ≡ askOf members ids used marked r
 unfolding askOf
-framed-is members ids used g op m r x a b eg eo em h =
+framed-is members ids used g op m marked r x a b eg eo em h =
     let l : length (dataOf r) ≤ length r - dataAt = omega (arith, length-drop dataAt r) in
     pass _ _ _ x (inside dataAt longest (length r) a b) (h ∙ rw (eg, eo, em, take-all _ _ l))
 

@@ -9,9 +9,9 @@ ghost use Rattle.theory.specs.Logic.{if_then_else_};
 ghost use Rattle.theory.specs.Bytes.{put};
 ghost use Rattle.wire.specs.Le.{le};
 ghost use Rattle.protocol.specs.Opcodes.{supported, fixedSize, longestFixed};
-ghost use Rattle.frame.specs.Frame.{objectSize, kindAt, headersAt};
+ghost use Rattle.frame.specs.Frame.{dataAt, targetOf, objectSize, kindAt, headersAt};
 ghost use Rattle.frame.specs.Fields.{idOf, objectValid, flagsValid, kindValid, kindIn, metadataIs, createIn, modifyIn, queryIn, destroyIn, metadataIn, getIn, setIn, modeIn, useIn, fieldsOf};
-ghost use Rattle.frame.specs.Ask.{usable, reaches, framedOf, askOf};
+ghost use Rattle.frame.specs.Ask.{usable, reaches, attended, framedOf, askOf};
 use protocol::Answer;
 use protocol::ChangeOp;
 use protocol::Metadata;
@@ -316,9 +316,28 @@ fn reaches(members: u8, op: usize, m: u64) -> bool
     m <= members as u64
 }
 
+// Right after step 5: a command that names a member names one that is not marked.
+fn attended(marked: bool, op: usize) -> bool
+    ensures { λ r. ⌜ r ≡ attended marked op ⌝ }
+{
+    if !marked {
+        return true;
+    }
+    !protocol::names_member(op)
+}
+
 // Steps 3 to 7, on the fields of the frame.
-fn framed(members: u8, ids: u8, in_use: u64, group: u16, op: usize, m: u64, d: &[u8]) -> Ask
-    ensures { λ r. ⌜ r ≡ framedOf members ids in_use group op m (now (d .entry)) ⌝ }
+fn framed(
+    members: u8,
+    ids: u8,
+    in_use: u64,
+    marked: bool,
+    group: u16,
+    op: usize,
+    m: u64,
+    d: &[u8],
+) -> Ask
+    ensures { λ r. ⌜ r ≡ framedOf members ids in_use marked group op m (now (d .entry)) ⌝ }
 {
     if group != 1 {
         return Ask::Refused(Answer::BadGroup);
@@ -329,12 +348,25 @@ fn framed(members: u8, ids: u8, in_use: u64, group: u16, op: usize, m: u64, d: &
     if !reaches(members, op, m) {
         return Ask::Refused(Answer::NoMember);
     }
+    if !attended(marked, op) {
+        return Ask::Refused(Answer::Marked);
+    }
     fields(ids, m, op, d)
 }
 
-// Steps 2 to 7: what a request asks of a card with these members, ids and opcodes in use.
-pub fn decode(members: u8, ids: u8, in_use: u64, request: &[u8]) -> Ask
-    ensures { λ r. ⌜ r ≡ askOf members ids in_use (now (request .entry)) ⌝ }
+// The member field of a request; 0, which is no member, where it is too short to be one.
+pub fn member_of(request: &[u8]) -> u64
+    ensures { λ r. ⌜ r ≡ (if leb dataAt (length (now (request .entry))) then targetOf (now (request .entry)) else 0) ⌝ }
+{
+    if request.len() < DATA_AT {
+        return 0;
+    }
+    wire::read_u64(request, MEMBER_AT)
+}
+
+// Steps 2 to 7: what a request asks of a card with these members, ids and opcodes in use; marked says whether its member is.
+pub fn decode(members: u8, ids: u8, in_use: u64, marked: bool, request: &[u8]) -> Ask
+    ensures { λ r. ⌜ r ≡ askOf members ids in_use marked (now (request .entry)) ⌝ }
 {
     if request.len() < DATA_AT {
         return Ask::Refused(Answer::BadLength);
@@ -345,5 +377,14 @@ pub fn decode(members: u8, ids: u8, in_use: u64, request: &[u8]) -> Ask
     let op = wire::read_u16(request, 0) as usize;
     let group = wire::read_u16(request, GROUP_AT);
     let m = wire::read_u64(request, MEMBER_AT);
-    framed(members, ids, in_use, group, op, m, &request[DATA_AT..])
+    framed(
+        members,
+        ids,
+        in_use,
+        marked,
+        group,
+        op,
+        m,
+        &request[DATA_AT..],
+    )
 }

@@ -1,6 +1,6 @@
 -- What a built request asks: the fields that went into it come out again. Assumes nothing.
 use mathlib.Core.Path.{_≡_, refl, _∙_}
-use mathlib.Core.Bool.{true}
+use mathlib.Core.Bool.{Bool, true, false}
 use mathlib.Core.List.{List, _++_}
 use Prim.Native.Nat.{ℕ, _+_, _^_, _≤_, _<_}
 use native.Mathlib.Omega.{arith}
@@ -17,9 +17,9 @@ use Rattle.protocol.specs.declared.Answer.the-variants.{BadOpcode, BadField}
 use Rattle.protocol.specs.Answers.{modeOf}
 use Rattle.protocol.specs.Opcodes.{largest, opcodeRows, opcodeRow, supported, fixedSize, namesMember, bit, supportedOnly}
 use Rattle.frame.specs.declared.Ask.the-variants.{Refused, UseList, Read, Change}
-use Rattle.frame.specs.Frame.{dataAt, longest, kindAt, typeAt, headersAt, askedList, givenList}
+use Rattle.frame.specs.Frame.{dataAt, longest, targetOf, kindAt, typeAt, headersAt, askedList, givenList}
 use Rattle.frame.specs.Fields.{idOf, kindIn, metadataIs, objectValid, flagsValid, kindValid, createIn, modifyIn, queryIn, destroyIn, metadataIn, getIn, setIn, modeIn, useIn, fieldsOf}
-use Rattle.frame.specs.Ask.{usable, reaches, framedOf, askOf}
+use Rattle.frame.specs.Ask.{usable, reaches, attended, framedOf, askOf}
 use Rattle.host.specs.declared.Command.{Command}
 use Rattle.host.specs.declared.Command.the-variants as host
 use Rattle.host.specs.Request.{sentOf, objectHeader, before, fixedOf, listFor, request, startWith, requestOf, setParts}
@@ -41,11 +41,14 @@ module _ (x : Command) (list : List ℕ) where
   unfolding requestOf startWith
   request-is = append-request (sentOf x .opcode) 1 (sentOf x .member) (fixedOf (sentOf x)) (listFor x list)
 
+  pub sent-target : sentOf x .member < 256 ^ 8 → targetOf (requestOf x list) ≡ sentOf x .member
+  sent-target h = rw request-is (target-request (sentOf x .opcode) 1 (sentOf x .member) (dataFor x list) h)
+
   -- steps 3 to 7 see what was sent
-  pub asked-frame : (members ids inUse : ℕ) → sentOf x .member < 256 ^ 8 → length (requestOf x list) ≤ longest
-      → askOf members ids inUse (requestOf x list) ≡ framedOf members ids inUse 1 (sentOf x .opcode) (sentOf x .member) (dataFor x list)
+  pub asked-frame : (members ids inUse : ℕ) (marked : Bool) → sentOf x .member < 256 ^ 8 → length (requestOf x list) ≤ longest
+      → askOf members ids inUse marked (requestOf x list) ≡ framedOf members ids inUse marked 1 (sentOf x .opcode) (sentOf x .member) (dataFor x list)
   unfolding askOf unless_answer_then_
-  asked-frame members ids inUse h l =
+  asked-frame members ids inUse marked h l =
       let op = sentOf x .opcode in
       let m = sentOf x .member in
       let d = dataFor x list in
@@ -125,17 +128,21 @@ pub mode-read : (m b : ℕ) (d : List ℕ) → getD d 0 0 ≡ b → leb b 1 ≡ 
 unfolding modeIn unless_answer_then_
 mode-read m b d e h = rw (e, h)
 
--- ---- a parts set to a member of the card, in every case ----
+-- ---- a parts set to a member of the card that is not marked, in every case ----
 
 module _ (m id : ℕ) (list : List ℕ) where
   pub set-long : length (setParts m id list) ≡ 32 + length list
   unfolding laid
   set-long = request-long (host.Set m id) list
 
+  pub set-target : m < 256 ^ 8 → targetOf (setParts m id list) ≡ m
+  unfolding laid
+  set-target = sent-target (host.Set m id) list
+
   pub set-parts-asked : (members ids inUse : ℕ) → members ≤ 16 → within 1 members m ≡ true → id < 256 ^ 4 → 8 + length list ≤ largest
-      → askOf members ids inUse (setParts m id list)
+      → askOf members ids inUse false (setParts m id list)
       ≡ (unless bit inUse 0x10 answer Refused BadOpcode then unless ltb id ids answer Refused BadField then Change m (SetParts id))
-  unfolding framedOf usable supported reaches namesMember fieldsOf within _and_ _or_ unless_answer_then_ laid
+  unfolding framedOf usable supported reaches attended namesMember fieldsOf within _and_ _or_ unless_answer_then_ laid
   set-parts-asked members ids inUse few here small h =
-      asked-frame (host.Set m id) list members ids inUse (omega (arith, within-high 1 members m here)) (omega (arith, set-long))
+      asked-frame (host.Set m id) list members ids inUse false (omega (arith, within-high 1 members m here)) (omega (arith, set-long))
       ∙ by-cases (bit inUse 0x10) (λ u. rw (u, here) (set-read id list small ids m)) (λ u. rw u)

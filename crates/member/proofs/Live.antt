@@ -1,6 +1,6 @@
--- The id of a live object of a sound member is below G + S. Assumes nothing.
+-- The id of a live object of a sound member is below G + S, and the member is not marked. Assumes nothing.
 use mathlib.Core.Path.{_≡_, refl, sym, _∙_}
-use mathlib.Core.Bool.{true}
+use mathlib.Core.Bool.{true, false}
 use mathlib.Core.List.{List, [], _∷_, map}
 use Prim.Native.Nat.{ℕ, zero, suc, _+_, _-_, _<_}
 use native.Mathlib.Omega.{arith}
@@ -30,16 +30,25 @@ live-not-free Free k e z = let y : _≡_ {A = ℕ} 0 1 = cc in omega arith
 live-not-free Get k e z = omega arith
 live-not-free Set k e z = omega arith
 
-pub live-below : (queues gets sets : ℕ) (features : List ℕ) (m : Member) (id : ℕ) (k : ObjectKind)
-    → SoundMember queues gets sets features m → lookupOf m id ≡ Live k → id < gets + sets
+-- a free byte is no live object's
+byte-live : (m : Member) (id : ℕ) (k : ObjectKind) → lookupOf m id ≡ Live k → getD (map objectByte (m .objects)) id 0 ≡ 0 → ⊥
 unfolding lookupOf
-live-below queues gets sets features m id k s e =
-    let n = gets + sets in
-    by-cases (leb n id)
-    (λ t.
-    let h = leb-true n id t in
-    let j : n + (id - n) ≡ id = omega arith in
-    let bs = map objectByte (m .objects) in
-    let z : getD bs id 0 ≡ 0 = rw (← j) (sym (getD-drop n bs (id - n) 0) ∙ all-zero (drop n bs) (id - n) (s .below)) in
-    absurd (live-not-free (getD (m .objects) id free .slot) k e (sym (List·getD-map objectByte (m .objects) id free) ∙ z)))
-    (λ t. leb-false n id t)
+byte-live m id k e z = live-not-free (getD (m .objects) id free .slot) k e (sym (List·getD-map objectByte (m .objects) id free) ∙ z)
+
+module _ (queues gets sets : ℕ) (features : List ℕ) (m : Member) (id : ℕ) (k : ObjectKind) (s : SoundMember queues gets sets features m) (e : lookupOf m id ≡ Live k) where
+  pub live-below : id < gets + sets
+  live-below =
+      let n = gets + sets in
+      by-cases (leb n id)
+      (λ t.
+      let h = leb-true n id t in
+      let j : n + (id - n) ≡ id = omega arith in
+      let bs = map objectByte (m .objects) in
+      let z : getD bs id 0 ≡ 0 = rw (← j) (sym (getD-drop n bs (id - n) 0) ∙ all-zero (drop n bs) (id - n) (s .below)) in
+      absurd (byte-live m id k e z))
+      (λ t. leb-false n id t)
+
+  -- a marked member has none
+  pub live-unmarked : m .marked ≡ false
+  live-unmarked =
+      by-cases (m .marked) (λ t. absurd (byte-live m id k e (all-zero (map objectByte (m .objects)) id (s .mark t .noObjects)))) (λ t. t)

@@ -1,14 +1,17 @@
 -- A member comes back from its record, and a sound record from its member. Assumes nothing.
 use mathlib.Core.Path.{_≡_, refl, ap, sym, _∙_}
-use mathlib.Core.Bool.{true}
+use mathlib.Core.Bool.{Bool, true, false}
 use mathlib.Core.List.{List, [], _∷_, _++_, map}
 use Prim.Native.Nat.{ℕ, suc, _+_, _-_, _^_, _≤_, _<_}
 use native.Mathlib.Nat.{add-zero}
 use native.Mathlib.Omega.{arith}
-use lib.Dec.{leb}
+use mir.Val.{boolByte}
+use lib.Dec.{leb, eqb}
 use lib.ListN.{length, getD, take, drop, set, replicate, length-append, length-map, length-set, List·getD-map}
 use lib.Seq.{take-at, drop-at, drop-append-add, take-all}
+use Rattle.theory.specs.Logic.{indicator}
 use Rattle.theory.specs.Bytes.{bytesAt, put}
+use Rattle.theory.proofs.Tests.{bool-byte}
 use Rattle.theory.proofs.Bytes.{length-put, length-bytesAt, put-all, put-cons, put-nil, put-append, put-front, getD-bytesAt}
 use Rattle.wire.specs.Le.{le, bytes, number}
 use Rattle.wire.proofs.Le.{length-bytes, le-bytes}
@@ -23,7 +26,7 @@ use Rattle.objects.specs.declared.Found.the-variants.{Nothing}
 use Rattle.objects.specs.Objects.{objectsSize, objectOf, objectByte, foundIn}
 use Rattle.objects.proofs.Objects.{objects-back}
 use Rattle.member.specs.declared.Member.{Member}
-use Rattle.member.specs.Record.{modeAt, objectsAt, heldAt, valuesAt, memberSize, modeByte, objectBytes, memberOf, memberBytes}
+use Rattle.member.specs.Record.{modeAt, markAt, objectsAt, heldAt, valuesAt, memberSize, modeByte, objectBytes, memberOf, memberBytes}
 use Rattle.member.specs.Objects.{lookupOf, withObject}
 use Rattle.member.specs.Member.{featuresSize, withMode, withValues, withHeld}
 use Rattle.member.proofs.Objects.{lookup-out}
@@ -47,7 +50,7 @@ pub shaped-object : (m : Member) → Shaped m → (id : ℕ) (slot : Slot) → S
 unfolding withObject
 shaped-object m s id slot = record { ids = length-set (m .objects) id (record { slot = slot }) ∙ s .ids; low = s .low; long = s .long }
 
--- ---- a mode and its byte ----
+-- ---- a mode and a mark, and their bytes ----
 
 mode-back : (m : Mode) → modeOf (modeByte m) ≡ m
 mode-back Running = refl
@@ -56,6 +59,11 @@ mode-back Stopped = refl
 pub mode-low : (m : Mode) → leb (modeByte m) 1 ≡ true
 mode-low Running = refl
 mode-low Stopped = refl
+
+pub mark-back : (b : Bool) → eqb (indicator b) 1 ≡ b
+unfolding indicator
+mark-back true = refl
+mark-back false = refl
 
 -- ---- the record of a member ----
 
@@ -74,6 +82,10 @@ module _ (m : Member) (s : Shaped m) where
   unfolding memberBytes
   record-mode = refl
 
+  pub record-mark : getD (memberBytes m) markAt 0 ≡ indicator (m .marked)
+  unfolding memberBytes
+  record-mark = refl
+
   pub record-objects : objectBytes (memberBytes m) ≡ os
   unfolding memberBytes
   record-objects = take-at os (bytes 2 (m .held) ++ m .values) objectsSize objects-long
@@ -82,7 +94,7 @@ module _ (m : Member) (s : Shaped m) where
   behind : (n : ℕ) → drop (heldAt + n) (memberBytes m) ≡ drop n (bytes 2 (m .held) ++ m .values)
   unfolding memberBytes
   behind n =
-      let k : heldAt + n ≡ suc (length os + n) = omega (arith, objects-long) in
+      let k : heldAt + n ≡ suc (suc (length os + n)) = omega (arith, objects-long) in
       rw k (drop-append-add os (bytes 2 (m .held) ++ m .values) n)
 
   pub record-held : number heldAt 2 (memberBytes m) ≡ m .held
@@ -102,7 +114,7 @@ module _ (m : Member) (s : Shaped m) where
   pub member-back : memberOf (memberBytes m) ≡ m
   unfolding memberOf
   member-back =
-      rw (record-mode, mode-back (m .mode), record-objects, objects-back (m .objects), record-held, values-last)
+      rw (record-mode, mode-back (m .mode), record-mark, mark-back (m .marked), record-objects, objects-back (m .objects), record-held, values-last)
 
 -- ---- the member of a record ----
 
@@ -121,11 +133,11 @@ module _ (r : List ℕ) (e : length r ≡ memberSize) where
 pub part-loaded : (at n : ℕ) (s l : List ℕ) → at + n ≤ length s → length l ≡ n → put 0 (bytesAt at n s) l ≡ bytesAt at n s
 part-loaded at n s l h e = put-all (bytesAt at n s) l (length-bytesAt at n s h ∙ sym e)
 
-pub mode-saved : (r : List ℕ) (b n : ℕ) → b ≡ n → set r modeAt b ≡ put modeAt (n ∷ []) r
-mode-saved r b n e = rw e (sym (put-cons modeAt n [] r ∙ put-nil _ _))
+pub mode-saved : (r : List ℕ) (b n : ℕ) (k : Bool) → b ≡ n → set (set r modeAt b) markAt (boolByte k) ≡ put modeAt (n ∷ indicator k ∷ []) r
+mode-saved r b n k e = rw (e, bool-byte k) (sym (put-cons modeAt n (indicator k ∷ []) r ∙ put-cons markAt (indicator k) [] (set r modeAt n) ∙ put-nil _ _))
 
--- mode, objects, what is held and values, stored one after the other
-module _ (m : Member) (s : Shaped m) (r r₁ r₂ r₃ : List ℕ) (e : length r ≡ memberSize) (p : r₁ ≡ put modeAt (modeByte (m .mode) ∷ []) r)
+-- mode and mark, objects, what is held and values, stored one after the other
+module _ (m : Member) (s : Shaped m) (r r₁ r₂ r₃ : List ℕ) (e : length r ≡ memberSize) (p : r₁ ≡ put modeAt (modeByte (m .mode) ∷ indicator (m .marked) ∷ []) r)
     (q : r₂ ≡ put objectsAt (map objectByte (m .objects)) r₁) (h : r₃ ≡ put heldAt (bytes 2 (m .held)) r₂) where
   pub values-fit : valuesAt + length (m .values) ≤ length r₃
   values-fit = rw (h, q, p, length-put, length-put, length-put) (omega (arith, s .long))
@@ -134,14 +146,15 @@ module _ (m : Member) (s : Shaped m) (r r₁ r₂ r₃ : List ℕ) (e : length r
   unfolding memberBytes
   member-saved r₄ v =
       let rest = bytes 2 (m .held) ++ m .values in
-      let y = put modeAt (modeByte (m .mode) ∷ []) r in
+      let front = modeByte (m .mode) ∷ indicator (m .marked) ∷ [] in
+      let y = put modeAt front r in
       let z = put objectsAt (os m s) y in
       let k : objectsAt + length (os m s) ≡ heldAt = omega (arith, objects-long m s) in
       let j : heldAt + length (bytes 2 (m .held)) ≡ valuesAt = rw (length-bytes 2 (m .held)) in
       let w : put (objectsAt + length (os m s)) rest z ≡ put valuesAt (m .values) (put heldAt (bytes 2 (m .held)) z) =
       rw (k, put-append heldAt (bytes 2 (m .held)) (m .values) z, j) in
       rw (v, h, q, p)
-      (sym (put-append modeAt (modeByte (m .mode) ∷ []) (os m s ++ rest) r ∙ put-append objectsAt (os m s) rest y ∙ w)
+      (sym (put-append modeAt front (os m s ++ rest) r ∙ put-append objectsAt (os m s) rest y ∙ w)
       ∙ put-all (memberBytes m) r (length-member m s ∙ sym e))
 
 pub fresh-values : (f : List ℕ) → length f ≡ featuresSize → put 0 f (replicate valuesSize 0) ≡ f ++ replicate (valuesSize - featuresSize) 0

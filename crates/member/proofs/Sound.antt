@@ -1,17 +1,17 @@
 -- What keeps a member sound. `SoundMember` says in plain facts what the test on its record says; each law is over a sound
 -- member. Assumes nothing.
-use mathlib.Core.Path.{_≡_, refl, _∙_}
+use mathlib.Core.Path.{_≡_, refl, ap, sym, _∙_}
 use mathlib.Core.Bool.{Bool, true, false, not}
 use mathlib.Core.List.{List, _++_, map}
 use Prim.Native.Nat.{ℕ, zero, suc, _+_, _-_, _≤_, _<_}
 use native.Mathlib.Omega.{arith}
-use lib.Dec.{leb}
+use lib.Dec.{leb, eqb}
 use lib.ListN.{length, getD, drop, replicate, length-append}
 use lib.Seq.{take-at, drop-set-lt, drop-append-add}
-use borrow.Author.Tests.{not-true, not-false, leb-true, le-leb}
-use Rattle.theory.specs.Logic.{_and_, _or_}
+use borrow.Author.Tests.{not-true, not-false, leb-true, le-leb, eqb-true}
+use Rattle.theory.specs.Logic.{_and_, _or_, indicator}
 use Rattle.theory.specs.Bytes.{bytesAt, same}
-use Rattle.theory.proofs.Tests.{both, and-i, and-assoc, and-false, false-and, same-true, eq-same}
+use Rattle.theory.proofs.Tests.{by-cases, both, either, and-i, and-assoc, and-false, false-and, same-true, eq-same}
 use Rattle.theory.proofs.Bytes.{bytesAt-bytesAt}
 use Rattle.theory.proofs.Ladder.{ladder}
 use Rattle.wire.specs.Le.{le, number}
@@ -21,18 +21,45 @@ use Rattle.inventory.proofs.Queue.{all-allowed}
 use Rattle.parts.specs.List.{PartList}
 use Rattle.values.specs.Apply.{applied}
 use Rattle.values.proofs.Kept.{stored-length, stored-features, stored-allowed, applied-length, applied-features}
+use Rattle.protocol.specs.Answers.{modeOf}
 use Rattle.protocol.specs.declared.Mode.{Mode}
+use Rattle.protocol.specs.declared.Mode.the-variants.{Stopped}
 use Rattle.objects.specs.declared.Slot.{Slot}
 use Rattle.objects.specs.declared.Slot.the-variants.{Free}
 use Rattle.objects.specs.Objects.{objectsSize, objectOf, objectByte, allUpTo, withinLimits}
 use Rattle.objects.proofs.Objects.{objects-low, bytes-of-objects}
 use Rattle.objects.proofs.Counts.{map-set, all-drop-set, all-drop, limits-set, none-live, none-counted}
 use Rattle.member.specs.declared.Member.{Member}
-use Rattle.member.specs.Record.{modeAt, heldAt, valuesAt, memberSize, holdingSize, objectBytes, memberOf, memberBytes}
+use Rattle.member.specs.Record.{modeAt, markAt, heldAt, valuesAt, memberSize, holdingSize, objectBytes, memberOf, memberBytes}
 use Rattle.member.specs.Objects.{roomIn, withObject}
-use Rattle.member.specs.Member.{featuresSize, freshOf, featuresIn, withMode, withValues, withHeld, withPart}
-use Rattle.member.specs.Sound.{soundRecord}
-use Rattle.member.proofs.Record.{Shaped, mode-low, record-mode, record-held, record-objects, record-values, values-last, member-shaped, shaped-mode, shaped-values, shaped-held, shaped-object}
+use Rattle.member.specs.Member.{featuresSize, freshOf, featuresIn, withMode, withValues, withHeld, handedBack, withPart}
+use Rattle.member.specs.Sound.{soundMark, soundRecord}
+use Rattle.member.proofs.Record.{Shaped, mode-low, record-mode, record-mark, record-held, record-objects, record-values, values-last, member-shaped, shaped-mode, shaped-values, shaped-held, shaped-object}
+
+-- what a marked member is: stopped, with no holding place and no live object
+pub record Ended (m : Member) : Type 0 where
+  pub stopped : m .mode ≡ Stopped
+  pub noPlace : m .held ≡ 0
+  pub noObjects : allUpTo 0 (map objectByte (m .objects)) ≡ true
+
+impossible : (m : Member) → false ≡ true → Ended m
+impossible m e = record { stopped = cc; noPlace = cc; noObjects = cc }
+
+-- the test of a mark says so, and back
+mark-sound : (m : Member) → Shaped m → (m .marked ≡ true → Ended m) → soundMark (memberBytes m) ≡ true
+unfolding soundMark indicator _and_ _or_
+mark-sound m h f =
+    rw (record-mark m h, record-mode m h, record-held m h, record-objects m h)
+    (by-cases (m .marked) (λ t. let e = f t in rw (t, e .stopped, e .noPlace, e .noObjects)) (λ t. rw t))
+
+sound-mark : (r : List ℕ) → soundMark r ≡ true → map objectByte (map objectOf (objectBytes r)) ≡ objectBytes r → memberOf r .marked ≡ true → Ended (memberOf r)
+unfolding soundMark memberOf
+sound-mark r e os t =
+    either _ _ e (λ z. impossible (memberOf r) (sym (ap (λ n. eqb n 1) (eqb-true (getD r markAt 0) 0 z)) ∙ t)) λ y.
+    let p = both _ _ y in
+    let q = both _ _ (p .0) in
+    let w = both _ _ (q .0) in
+    record { stopped = ap modeOf (eqb-true (getD r modeAt 0) 1 (w .1)); noPlace = eqb-true _ _ (q .1); noObjects = rw os (p .1) }
 
 -- the queues of a fresh member are zeros
 module _ (features : List ℕ) (n : length features ≡ featuresSize) where
@@ -53,6 +80,7 @@ module _ (features : List ℕ) (n : length features ≡ featuresSize) where
 module _ (queues gets sets : ℕ) (features : List ℕ) where
   pub record SoundMember (m : Member) : Type 0 where
     pub shaped : Shaped m
+    pub mark : m .marked ≡ true → Ended m
     pub few : m .held ≤ 1 + holdingSize
     pub below : allUpTo 0 (drop (gets + sets) (map objectByte (m .objects))) ≡ true
     pub room : roomIn gets sets m ≡ true
@@ -66,7 +94,7 @@ module _ (queues gets sets : ℕ) (features : List ℕ) where
   sound-record m s =
       let h = s .shaped in
       rw (record-mode m h, record-held m h, record-objects m h, record-values m h featuresSize, values-last m h)
-      (and-i _ _ (and-i _ _ (and-i _ _ (and-i _ _ (and-i _ _ (and-i _ _ (mode-low (m .mode)) (le-leb _ _ (s .few))) (objects-low (m .objects))) (s .below)) (s .room))
+      (and-i _ _ (and-i _ _ (and-i _ _ (and-i _ _ (and-i _ _ (and-i _ _ (and-i _ _ (mode-low (m .mode)) (mark-sound m h (s .mark))) (le-leb _ _ (s .few))) (objects-low (m .objects))) (s .below)) (s .room))
       (eq-same _ _ (s .kept))) (s .allowed))
 
   -- of bytes that are sound
@@ -78,10 +106,12 @@ module _ (queues gets sets : ℕ) (features : List ℕ) where
       let q = both _ _ (p .0) in
       let w = both _ _ (q .0) in
       let v = both _ _ (w .0) in
-      let few : number heldAt 2 r ≤ 1 + holdingSize = leb-true _ _ (both _ _ (v .0) .1) in
+      let u = both _ _ (v .0) in
+      let few : number heldAt 2 r ≤ 1 + holdingSize = leb-true _ _ (u .1) in
       let os : map objectByte (map objectOf (objectBytes r)) ≡ objectBytes r = bytes-of-objects (objectBytes r) (v .1) in
       record {
         shaped = member-shaped r n (omega arith);
+        mark = sound-mark r (both _ _ (u .0) .1) os;
         few = few;
         below = rw os (w .1);
         room = rw os (q .1);
@@ -95,6 +125,7 @@ module _ (queues gets sets : ℕ) (features : List ℕ) where
   unfolding freshOf
   sound-fresh n = record {
     shaped = record { ids = refl; low = omega arith; long = rw length-append (omega arith) };
+    mark = impossible _;
     few = omega arith;
     below = all-drop 0 (gets + sets) (replicate objectsSize 0) none-live;
     room = none-counted gets sets;
@@ -103,44 +134,18 @@ module _ (queues gets sets : ℕ) (features : List ℕ) where
   }
 
   module _ (m : Member) (s : SoundMember m) where
-    pub sound-mode : (mode : Mode) → SoundMember (withMode m mode)
-    sound-mode mode = record { shaped = shaped-mode m (s .shaped) mode; few = s .few; below = s .below; room = s .room; kept = s .kept; allowed = s .allowed }
-
     -- other values, with the same device features
     sound-values : (values : List ℕ) → length values ≡ valuesSize → bytesAt 0 featuresSize values ≡ featuresIn m
         → queuesAllowed queues values ≡ true → SoundMember (withValues m values)
-    sound-values values n e a =
-        record { shaped = shaped-values m (s .shaped) values n; few = s .few; below = s .below; room = s .room; kept = e ∙ s .kept; allowed = a }
-
-    -- another number of bytes held
-    pub sound-held : (held : ℕ) → held ≤ 1 + holdingSize → SoundMember (withHeld m held)
-    sound-held held h =
-        record { shaped = shaped-held m (s .shaped) held (omega arith); few = h; below = s .below; room = s .room; kept = s .kept; allowed = s .allowed }
-
-    -- an object that the limits allow, at an id that is valid
-    pub sound-object : (id : ℕ) (slot : Slot) → id < gets + sets → roomIn gets sets (withObject m id slot) ≡ true → SoundMember (withObject m id slot)
-    unfolding withObject
-    sound-object id slot h e = record {
-      shaped = shaped-object m (s .shaped) id slot;
+    sound-values values n e a = record {
+      shaped = shaped-values m (s .shaped) values n;
+      mark = λ t. let z = s .mark t in record { stopped = z .stopped; noPlace = z .noPlace; noObjects = z .noObjects };
       few = s .few;
-      below = rw (map-set, drop-set-lt) (s .below);
-      room = e;
-      kept = s .kept;
-      allowed = s .allowed;
+      below = s .below;
+      room = s .room;
+      kept = e ∙ s .kept;
+      allowed = a;
     }
-
-    -- an object destroyed
-    pub sound-free : (id : ℕ) → SoundMember (withObject m id Free)
-    unfolding withObject
-    sound-free id =
-        record {
-          shaped = shaped-object m (s .shaped) id Free;
-          few = s .few;
-          below = rw map-set (all-drop-set (gets + sets) _ id (s .below));
-          room = rw map-set (limits-set gets sets _ id (s .room));
-          kept = s .kept;
-          allowed = s .allowed;
-        }
 
     -- one part stored, and the parts of a list: the device features are never set, and what is set is allowed
     pub sound-part : (t selector : ℕ) (value : List ℕ) → valueAllowed t value ≡ true → SoundMember (withPart queues m t selector value)
@@ -152,6 +157,58 @@ module _ (queues gets sets : ℕ) (features : List ℕ) where
         → SoundMember (withValues m (applied queues ps (m .values)))
     sound-applied ps = sound-values _ (applied-length queues ps (m .values) ∙ s .shaped .long) (applied-features queues ps (m .values))
 
+    -- handed back
+    pub sound-handed-back : SoundMember (handedBack m)
+    sound-handed-back = record {
+      shaped = record { ids = refl; low = omega arith; long = s .shaped .long };
+      mark = λ t. record { stopped = refl; noPlace = refl; noObjects = none-live };
+      few = omega arith;
+      below = all-drop 0 (gets + sets) (replicate objectsSize 0) none-live;
+      room = none-counted gets sets;
+      kept = s .kept;
+      allowed = s .allowed;
+    }
+
+    -- what a marked member cannot have
+    module _ (u : m .marked ≡ false) where
+      unmarked : (x : Member) → m .marked ≡ true → Ended x
+      unmarked x t = impossible x (sym u ∙ t)
+
+      pub sound-mode : (mode : Mode) → SoundMember (withMode m mode)
+      sound-mode mode = record { shaped = shaped-mode m (s .shaped) mode; mark = unmarked _; few = s .few; below = s .below; room = s .room; kept = s .kept; allowed = s .allowed }
+
+      -- another number of bytes held
+      pub sound-held : (held : ℕ) → held ≤ 1 + holdingSize → SoundMember (withHeld m held)
+      sound-held held h =
+          record { shaped = shaped-held m (s .shaped) held (omega arith); mark = unmarked _; few = h; below = s .below; room = s .room; kept = s .kept; allowed = s .allowed }
+
+      -- an object that the limits allow, at an id that is valid
+      pub sound-object : (id : ℕ) (slot : Slot) → id < gets + sets → roomIn gets sets (withObject m id slot) ≡ true → SoundMember (withObject m id slot)
+      unfolding withObject
+      sound-object id slot h e = record {
+        shaped = shaped-object m (s .shaped) id slot;
+        mark = unmarked _;
+        few = s .few;
+        below = rw (map-set, drop-set-lt) (s .below);
+        room = e;
+        kept = s .kept;
+        allowed = s .allowed;
+      }
+
+      -- an object destroyed
+      pub sound-free : (id : ℕ) → SoundMember (withObject m id Free)
+      unfolding withObject
+      sound-free id =
+          record {
+            shaped = shaped-object m (s .shaped) id Free;
+            mark = unmarked _;
+            few = s .few;
+            below = rw map-set (all-drop-set (gets + sets) _ id (s .below));
+            room = rw map-set (limits-set gets sets _ id (s .room));
+            kept = s .kept;
+            allowed = s .allowed;
+          }
+
 -- ---- the test, one step after the other ----
 
 module _ (queues gets sets : ℕ) (features r : List ℕ) where
@@ -159,25 +216,31 @@ module _ (queues gets sets : ℕ) (features r : List ℕ) where
   unfolding soundRecord
   bad-mode h = search ladder
 
-  module _ (held : ℕ) (g : held ≡ number heldAt 2 r) where
-    pub bad-held : getD r modeAt 0 ≤ 1 → 1 + holdingSize < held → false ≡ soundRecord queues gets sets features r
+  module _ (t : Bool) (d : t ≡ soundMark r) where
+    pub bad-mark : getD r modeAt 0 ≤ 1 → not t ≡ true → false ≡ soundRecord queues gets sets features r
     unfolding soundRecord
-    bad-held l h = rw (← g) (search ladder)
+    bad-mark l h = rw (← d) (search ladder)
 
-    module _ (bs : List ℕ) (b : Bool) (p : bs ≡ objectBytes r) (q : b ≡ allUpTo 2 bs and allUpTo 0 (drop (gets + sets) bs) and withinLimits gets sets bs) where
-      steps : leb (getD r modeAt 0) 1
-          and (leb held (1 + holdingSize)
-          and (b and (same (bytesAt valuesAt featuresSize r) features and queuesAllowed queues (bytesAt valuesAt valuesSize r))))
-          ≡ soundRecord queues gets sets features r
+    module _ (held : ℕ) (g : held ≡ number heldAt 2 r) where
+      pub bad-held : getD r modeAt 0 ≤ 1 → not t ≡ false → 1 + holdingSize < held → false ≡ soundRecord queues gets sets features r
       unfolding soundRecord
-      steps = rw (q, p, g) (simp and-assoc)
+      bad-held l n h = rw (← d, ← g) (search ladder)
 
-      pub bad-objects : not b ≡ true → false ≡ soundRecord queues gets sets features r
-      bad-objects h = rw (← steps, not-true b h) (simp (false-and, and-false))
+      module _ (bs : List ℕ) (b : Bool) (p : bs ≡ objectBytes r) (q : b ≡ allUpTo 2 bs and allUpTo 0 (drop (gets + sets) bs) and withinLimits gets sets bs) where
+        steps : leb (getD r modeAt 0) 1
+            and (t and (leb held (1 + holdingSize)
+            and (b and (same (bytesAt valuesAt featuresSize r) features and queuesAllowed queues (bytesAt valuesAt valuesSize r)))))
+            ≡ soundRecord queues gets sets features r
+        unfolding soundRecord
+        steps = rw (q, p, g, d) (simp and-assoc)
 
-      module _ (l : getD r modeAt 0 ≤ 1) (k : held ≤ 1 + holdingSize) (h : not b ≡ false) (f : Bool) (ef : f ≡ same (bytesAt valuesAt featuresSize r) features) where
-        pub bad-features : not f ≡ true → false ≡ soundRecord queues gets sets features r
-        bad-features n = rw (← steps, not-false b h) (search ladder)
+        pub bad-objects : not b ≡ true → false ≡ soundRecord queues gets sets features r
+        bad-objects h = rw (← steps, not-true b h) (simp (false-and, and-false))
 
-        pub sound-rest : not f ≡ false → (x : Bool) → x ≡ queuesAllowed queues (bytesAt valuesAt valuesSize r) → x ≡ soundRecord queues gets sets features r
-        sound-rest n x e = rw (← steps, not-false b h) (search ladder)
+        module _ (l : getD r modeAt 0 ≤ 1) (n : not t ≡ false) (k : held ≤ 1 + holdingSize) (h : not b ≡ false) (f : Bool) (ef : f ≡ same (bytesAt valuesAt featuresSize r) features) where
+          pub bad-features : not f ≡ true → false ≡ soundRecord queues gets sets features r
+          bad-features z = rw (← steps, not-false b h, not-false t n) (search ladder)
+
+          pub sound-rest : not f ≡ false → (x : Bool) → x ≡ queuesAllowed queues (bytesAt valuesAt valuesSize r) → x ≡ soundRecord queues gets sets features r
+          unfolding _and_
+          sound-rest z x e = rw (← steps, not-false b h, not-false t n, le-leb _ _ l, le-leb _ _ k, ← ef, not-false f z) e

@@ -1,10 +1,11 @@
--- A fresh member, SPEC 2.5, and a member with another mode or other values. Assumes nothing.
+-- A fresh member, SPEC 2.5, a member with another mode or other values, and one that is handed back. Assumes nothing.
+use mathlib.Core.Bool.{true, false}
 use mathlib.Core.List.{List, _++_}
 use Prim.Native.Nat.{ℕ, _-_}
 use lib.ListN.{replicate}
 use Rattle.theory.specs.Bytes.{bytesAt}
 use Rattle.protocol.specs.declared.Mode.{Mode}
-use Rattle.protocol.specs.declared.Mode.the-variants.{Running}
+use Rattle.protocol.specs.declared.Mode.the-variants.{Running, Stopped}
 use Rattle.inventory.specs.Inventory.{valuesSize}
 use Rattle.values.specs.Apply.{stored}
 use Rattle.objects.specs.Objects.{objectsSize, free}
@@ -19,6 +20,7 @@ unfoldable pub freshOf : List ℕ → Member
 freshOf features =
     record {
       mode = Running;
+      marked = false;
       objects = replicate objectsSize free;
       held = 0;
       values = features ++ replicate (valuesSize - featuresSize) 0;
@@ -28,13 +30,17 @@ abbrev pub featuresIn : Member → List ℕ
 featuresIn m = bytesAt 0 featuresSize (m .values)
 
 abbrev pub withMode : Member → Mode → Member
-withMode m mode = record { mode = mode; objects = m .objects; held = m .held; values = m .values }
+withMode m mode = record { mode = mode; marked = m .marked; objects = m .objects; held = m .held; values = m .values }
 
 abbrev pub withValues : Member → List ℕ → Member
-withValues m values = record { mode = m .mode; objects = m .objects; held = m .held; values = values }
+withValues m values = record { mode = m .mode; marked = m .marked; objects = m .objects; held = m .held; values = values }
 
 abbrev pub withHeld : Member → ℕ → Member
-withHeld m held = record { mode = m .mode; objects = m .objects; held = held; values = m .values }
+withHeld m held = record { mode = m .mode; marked = m .marked; objects = m .objects; held = held; values = m .values }
+
+-- hand back (02's term, request 10): its objects and its holding place end, and it is stopped and marked; its values stay
+abbrev pub handedBack : Member → Member
+handedBack m = record { mode = Stopped; marked = true; objects = replicate objectsSize free; held = 0; values = m .values }
 
 -- a card store, in either mode: SPEC 7.5
 abbrev pub withPart : ℕ → Member → ℕ → ℕ → List ℕ → Member

@@ -1,8 +1,10 @@
--- A member's bytes, which stand at the front of its record, SPEC 2.7: mode 1, object records 16, what its holding place
--- holds 2, values 205. Assumes nothing.
+-- A member's bytes, which stand at the front of its record, SPEC 2.7: mode 1, mark 1, object records 16, what its holding
+-- place holds 2, values 205. Assumes nothing.
 use mathlib.Core.List.{List, [], _∷_, _++_, map}
 use Prim.Native.Nat.{ℕ, _+_}
+use lib.Dec.{eqb}
 use lib.ListN.{getD}
+use Rattle.theory.specs.Logic.{indicator}
 use Rattle.theory.specs.Bytes.{bytesAt}
 use Rattle.wire.specs.Le.{bytes, number}
 use Rattle.inventory.specs.Inventory.{valuesSize}
@@ -15,8 +17,12 @@ use Rattle.member.specs.declared.Member.{Member}
 abbrev pub modeAt : ℕ
 modeAt = 0
 
+-- mark (02's term, request 10): 1 for a member that is handed back and not yet wiped, else 0
+abbrev pub markAt : ℕ
+markAt = modeAt + 1
+
 abbrev pub objectsAt : ℕ
-objectsAt = modeAt + 1
+objectsAt = markAt + 1
 
 abbrev pub heldAt : ℕ
 heldAt = objectsAt + objectsSize
@@ -45,10 +51,12 @@ unfoldable pub memberOf : List ℕ → Member
 memberOf r =
     record {
       mode = modeOf (getD r modeAt 0);
+      marked = eqb (getD r markAt 0) 1;
       objects = map objectOf (objectBytes r);
       held = number heldAt 2 r;
       values = bytesAt valuesAt valuesSize r;
     }
 
 unfoldable pub memberBytes : Member → List ℕ
-memberBytes m = (modeByte (m .mode) ∷ []) ++ (map objectByte (m .objects) ++ (bytes 2 (m .held) ++ m .values))
+memberBytes m =
+    (modeByte (m .mode) ∷ indicator (m .marked) ∷ []) ++ (map objectByte (m .objects) ++ (bytes 2 (m .held) ++ m .values))

@@ -2,16 +2,22 @@
 use mathlib.Core.Bool.{Bool}
 use mathlib.Core.List.{List}
 use Prim.Native.Nat.{ℕ, _+_}
-use lib.Dec.{leb}
+use lib.Dec.{leb, eqb}
 use lib.ListN.{getD, drop}
-use Rattle.theory.specs.Logic.{_and_}
+use Rattle.theory.specs.Logic.{_and_, _or_}
 use Rattle.theory.specs.Bytes.{bytesAt, same}
 use Rattle.wire.specs.Le.{number}
 use Rattle.inventory.specs.Inventory.{valuesSize}
 use Rattle.inventory.specs.Queue.{queuesAllowed}
 use Rattle.objects.specs.Objects.{allUpTo, withinLimits}
-use Rattle.member.specs.Record.{modeAt, objectBytes, heldAt, valuesAt, holdingSize}
+use Rattle.member.specs.Record.{modeAt, markAt, objectBytes, heldAt, valuesAt, holdingSize}
 use Rattle.member.specs.Member.{featuresSize}
+
+-- its mark is 0, or it is 1 and the member is stopped with no holding place and no live object (02, request 10)
+unfoldable pub soundMark : List ℕ → Bool
+soundMark r =
+    eqb (getD r markAt 0) 0
+    or (eqb (getD r markAt 0) 1 and eqb (getD r modeAt 0) 1 and eqb (number heldAt 2 r) 0 and allUpTo 0 (objectBytes r))
 
 -- its mode and its objects are bytes that have a meaning; its holding place holds at most 1,024 bytes; live ids are below
 -- G + S; it has at most G get and S set objects, and the setup's device features; none of its Q queues has a size that no
@@ -19,6 +25,7 @@ use Rattle.member.specs.Member.{featuresSize}
 unfoldable pub soundRecord : ℕ → ℕ → ℕ → List ℕ → List ℕ → Bool
 soundRecord queues gets sets features r =
     leb (getD r modeAt 0) 1
+    and soundMark r
     and leb (number heldAt 2 r) (1 + holdingSize)
     and allUpTo 2 (objectBytes r)
     and allUpTo 0 (drop (gets + sets) (objectBytes r))

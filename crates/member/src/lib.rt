@@ -3,16 +3,17 @@ ghost use mathlib.Core.Path.{_≡_};
 ghost use Prim.Native.Nat.{_+_, _≤_};
 ghost use mathlib.Core.List.{[], _∷_, map};
 ghost use lib.ListN.{length};
+ghost use Rattle.theory.specs.Logic.{indicator};
 ghost use Rattle.theory.specs.Bytes.{bytesAt, put};
 ghost use Rattle.inventory.specs.Inventory.{valuesSize};
 ghost use Rattle.parts.specs.declared.ListForm.the-variants.{Parts};
 ghost use Rattle.parts.specs.List.{partsOf};
 ghost use Rattle.values.specs.Apply.{applied};
 ghost use Rattle.objects.specs.Objects.{objectByte, objectsSize};
-ghost use Rattle.member.specs.Record.{modeAt, objectsAt, valuesAt, memberSize, modeByte, objectBytes, memberOf, memberBytes};
+ghost use Rattle.member.specs.Record.{modeAt, markAt, objectsAt, valuesAt, memberSize, modeByte, objectBytes, memberOf, memberBytes};
 ghost use Rattle.member.specs.Objects.{lookupOf, withObject, roomIn};
-ghost use Rattle.member.specs.Member.{freshOf, withMode, withValues, withHeld, withPart};
-ghost use Rattle.member.specs.Sound.{soundRecord};
+ghost use Rattle.member.specs.Member.{freshOf, withMode, withValues, withHeld, handedBack, withPart};
+ghost use Rattle.member.specs.Sound.{soundMark, soundRecord};
 use objects::Found;
 use objects::IDS;
 use objects::ObjectRecord;
@@ -24,10 +25,12 @@ pub const FEATURES_SIZE: usize = 16;
 
 const VALUES_SIZE: usize = 205;
 
-// The bytes of a member: its mode, an object record for each id, what its holding place holds, its values.
+// The bytes of a member: its mode, its mark, an object record for each id, what its holding place holds, its values.
 const MODE_AT: usize = 0;
 
-const OBJECTS_AT: usize = MODE_AT + 1;
+const MARK_AT: usize = MODE_AT + 1;
+
+const OBJECTS_AT: usize = MARK_AT + 1;
 
 const HELD_AT: usize = OBJECTS_AT + IDS;
 
@@ -43,9 +46,10 @@ pub const HOLDING_SIZE: usize = 1024;
 // What an open holding place holds at most: 0 stands for none, k + 1 for one of k bytes.
 const HELD_MOST: u16 = 1025;
 
-// A member's mode, its resource objects by id, what its holding place holds, and the values of its parts.
+// A member's mode, whether it is handed back and not yet wiped, its resource objects by id, what its holding place holds, and the values of its parts.
 pub struct Member {
     pub mode: Mode,
+    pub marked: bool,
     pub objects: [ObjectRecord; IDS],
     pub held: u16,
     pub values: [u8; VALUES_SIZE],
@@ -62,13 +66,29 @@ impl Member {
         wire::copy(&mut values, 0, &features);
         Member {
             mode: Mode::Running,
+            marked: false,
             objects,
             held: 0,
             values,
         }
     }
 
-    pub fn reset(self, features: [u8; FEATURES_SIZE]) -> Member
+    // Hand back and wipe, SPEC 7.3: the two halves of a reset.
+    pub fn hand_back(self) -> Member
+        ensures { λ r. ⌜ r ≡ handedBack self ⌝ }
+    {
+        let objects = [ObjectRecord { slot: Slot::Free }; IDS];
+        let values = self.values;
+        Member {
+            mode: Mode::Stopped,
+            marked: true,
+            objects,
+            held: 0,
+            values,
+        }
+    }
+
+    pub fn wiped(self, features: [u8; FEATURES_SIZE]) -> Member
         ensures { λ r. ⌜ r ≡ freshOf features ⌝ }
     {
         Member::fresh(features)
@@ -82,6 +102,7 @@ impl Member {
         let values = self.values;
         Member {
             mode,
+            marked: self.marked,
             objects,
             held: self.held,
             values,
@@ -198,11 +219,41 @@ pub fn values_of(bytes: &[u8]) -> &[u8]
     &bytes[VALUES_AT..MEMBER_SIZE]
 }
 
+pub fn is_marked(bytes: &[u8]) -> bool
+    requires { ⌜ length (now bytes) ≡ memberSize ⌝ }
+    ensures { λ r. ⌜ r ≡ memberOf (now (bytes .entry)) .marked ⌝ }
+{
+    bytes[MARK_AT] == 1
+}
+
+// No mark, or that of a member which is stopped with no holding place and no live object.
+fn is_mark_sound(bytes: &[u8]) -> bool
+    requires { ⌜ length (now bytes) ≡ memberSize ⌝ }
+    ensures { λ r. ⌜ r ≡ soundMark (now (bytes .entry)) ⌝ }
+{
+    if bytes[MARK_AT] == 0 {
+        return true;
+    }
+    if bytes[MARK_AT] != 1 {
+        return false;
+    }
+    if bytes[MODE_AT] != 1 {
+        return false;
+    }
+    if wire::read_u16(bytes, HELD_AT) != 0 {
+        return false;
+    }
+    objects::are_up_to(0, 0, &bytes[OBJECTS_AT..HELD_AT])
+}
+
 pub fn is_sound_record(bytes: &[u8], queues: u8, gets: u8, sets: u8, features: &[u8]) -> bool
     requires { ⌜ length (now bytes) ≡ memberSize ⌝ }
     ensures { λ r. ⌜ r ≡ soundRecord queues gets sets (now (features .entry)) (now (bytes .entry)) ⌝ }
 {
     if 1 < bytes[MODE_AT] {
+        return false;
+    }
+    if !is_mark_sound(bytes) {
         return false;
     }
     if HELD_MOST < wire::read_u16(bytes, HELD_AT) {
@@ -242,11 +293,13 @@ pub fn load(bytes: &[u8]) -> Member
     ensures { λ r. ⌜ r ≡ memberOf (now (bytes .entry)) ⌝ }
 {
     let mode = protocol::mode_of(bytes[MODE_AT]);
+    let marked = is_marked(bytes);
     let objects = objects::objects_in(object_bytes_in(bytes));
     let held = wire::read_u16(bytes, HELD_AT);
     let values = values_in(bytes);
     Member {
         mode,
+        marked,
         objects,
         held,
         values,
@@ -264,11 +317,12 @@ fn mode_byte(mode: Mode) -> u8
     }
 }
 
-fn save_mode(mode: Mode, bytes: &mut [u8])
-    requires { ⌜ modeAt + 1 ≤ length (now bytes) ⌝ }
-    ensures { λ _. ⌜ now (bytes .exit) ≡ put modeAt (modeByte mode ∷ []) (now (bytes .entry)) ⌝ }
+fn save_mode(mode: Mode, marked: bool, bytes: &mut [u8])
+    requires { ⌜ markAt + 1 ≤ length (now bytes) ⌝ }
+    ensures { λ _. ⌜ now (bytes .exit) ≡ put modeAt (modeByte mode ∷ indicator marked ∷ []) (now (bytes .entry)) ⌝ }
 {
     bytes[MODE_AT] = mode_byte(mode);
+    bytes[MARK_AT] = marked as u8;
 }
 
 fn save_objects(objects: [ObjectRecord; IDS], bytes: &mut [u8])
@@ -284,7 +338,7 @@ pub fn save(m: Member, bytes: &mut [u8])
     ensures { λ _. ⌜ now (bytes .exit) ≡ memberBytes m ⌝ }
 {
     let mode = m.mode;
-    save_mode(mode, bytes);
+    save_mode(mode, m.marked, bytes);
     let objects = m.objects;
     save_objects(objects, bytes);
     wire::write(bytes, HELD_AT, 2, m.held as u64);

@@ -119,7 +119,7 @@ fn still_up_to(all: bool, b: u8, n: u8) -> bool
 }
 
 // Whether each byte from an id on is at most n: every one is looked at, the loop has no early exit.
-fn are_up_to(n: u8, from: usize, bytes: &[u8]) -> bool
+pub fn are_up_to(n: u8, from: usize, bytes: &[u8]) -> bool
     ensures { λ r. ⌜ r ≡ allUpTo n (drop from (now (bytes .entry))) ⌝ }
 {
     let mut all = true;

@@ -4,7 +4,7 @@ use mathlib.Core.Bool.{Bool, true, false}
 use Prim.Native.Nat.{ℕ, zero, suc}
 use lib.Dec.{eqb}
 use Rattle.protocol.specs.declared.Answer.{Answer}
-use Rattle.protocol.specs.declared.Answer.the-variants.{Done, BadLength, BadGroup, BadOpcode, NoMember, BadField, Exists, NotLive, NoRoom, WrongKind, Running, BadList, ShortReply}
+use Rattle.protocol.specs.declared.Answer.the-variants.{Done, BadLength, BadGroup, BadOpcode, NoMember, Marked, BadField, Exists, NotLive, NoRoom, WrongKind, Running, BadList, ShortReply}
 use Rattle.protocol.specs.declared.EventAnswer.{EventAnswer}
 use Rattle.protocol.specs.declared.EventAnswer.the-variants as event
 use Rattle.protocol.specs.declared.Mode.{Mode}
@@ -18,6 +18,7 @@ statusOf BadLength = 22
 statusOf BadGroup = 22
 statusOf BadOpcode = 22
 statusOf NoMember = 22
+statusOf Marked = 11
 statusOf BadField = 22
 statusOf Exists = 17
 statusOf NotLive = 6
@@ -33,6 +34,7 @@ qualifierOf BadLength = 1
 qualifierOf BadGroup = 4
 qualifierOf BadOpcode = 2
 qualifierOf NoMember = 5
+qualifierOf Marked = 7
 qualifierOf BadField = 3
 qualifierOf Exists = 1
 qualifierOf NotLive = 1
@@ -55,6 +57,7 @@ eventNumber event.NoPart = 2
 eventNumber event.WrongLength = 3
 eventNumber event.BadSetup = 4
 eventNumber event.BadQueueSize = 5
+eventNumber event.WrongMark = 6
 
 abbrev pub isEventDone : EventAnswer → Bool
 isEventDone event.Done = true
@@ -64,6 +67,7 @@ isEventDone event.NoPart = false
 isEventDone event.WrongLength = false
 isEventDone event.BadSetup = false
 isEventDone event.BadQueueSize = false
+isEventDone event.WrongMark = false
 
 -- tests of a member's mode and of an object's kind
 abbrev pub isStopped : Mode → Bool

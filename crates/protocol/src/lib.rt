@@ -12,6 +12,7 @@ pub enum Answer {
     BadGroup,
     BadOpcode,
     NoMember,
+    Marked,
     BadField,
     Exists,
     NotLive,
@@ -31,6 +32,7 @@ pub enum EventAnswer {
     WrongLength,
     BadSetup,
     BadQueueSize,
+    WrongMark,
 }
 
 pub enum Mode {
@@ -87,6 +89,7 @@ pub fn status(a: Answer) -> u16
         Answer::BadGroup => 22,
         Answer::BadOpcode => 22,
         Answer::NoMember => 22,
+        Answer::Marked => 11,
         Answer::BadField => 22,
         Answer::Exists => 17,
         Answer::NotLive => 6,
@@ -107,6 +110,7 @@ pub fn qualifier(a: Answer) -> u16
         Answer::BadGroup => 4,
         Answer::BadOpcode => 2,
         Answer::NoMember => 5,
+        Answer::Marked => 7,
         Answer::BadField => 3,
         Answer::Exists => 1,
         Answer::NotLive => 1,
@@ -135,6 +139,7 @@ pub fn event_number(a: EventAnswer) -> u8
         EventAnswer::WrongLength => 3,
         EventAnswer::BadSetup => 4,
         EventAnswer::BadQueueSize => 5,
+        EventAnswer::WrongMark => 6,
     }
 }
 
@@ -149,6 +154,7 @@ pub fn is_event_done(a: EventAnswer) -> bool
         EventAnswer::WrongLength => false,
         EventAnswer::BadSetup => false,
         EventAnswer::BadQueueSize => false,
+        EventAnswer::WrongMark => false,
     }
 }
 

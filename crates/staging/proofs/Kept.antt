@@ -1,5 +1,5 @@
 -- The calls keep a card sound. Assumes nothing.
-use mathlib.Core.Path.{_≡_, refl}
+use mathlib.Core.Path.{_≡_, refl, _∙_}
 use mathlib.Core.Bool.{true}
 use mathlib.Core.List.{List}
 use Prim.Native.Nat.{ℕ, _+_, _-_, _≤_}
@@ -18,6 +18,7 @@ use Rattle.host.specs.Request.{setParts}
 use Rattle.reply.specs.Reply.{headSize}
 use Rattle.admin.specs.Command.{perform, respond}
 use Rattle.admin.proofs.Respond.{card-cases}
+use Rattle.admin.proofs.Marks.{respond-mark}
 use Rattle.staging.specs.Staging.{heldIn, heldBytes, beginOf, feedOf, finishOf, dropOf}
 use Rattle.staging.proofs.Refusals.{on-member-cases, on-open-cases}
 use Rattle.staging.proofs.Places.{number-sound, held-sound, gone-sound}
@@ -43,21 +44,22 @@ few-fed n x l = omega arith
 module _ (c : List ℕ) (m : ℕ) (s : isSound c ≡ true) where
   pub begin-sound : isSound (beginOf c m .1) ≡ true
   unfolding beginOf
-  begin-sound = on-member-cases c m _ Leaves (λ a. s) λ e h.
-      unless-cases Leaves _ _ _ (λ t. s) (λ t. is-sound _ (number-sound c m s h 1 (omega arith)))
+  begin-sound = on-member-cases c m _ Leaves (λ a. s) λ p.
+      unless-cases Leaves _ _ _ (λ t. s) (λ t. is-sound _ (number-sound c m s (p .member) (p .unmarked) 1 (omega arith)))
 
   pub feed-sound : (x : List ℕ) → isSound (feedOf c m x .1) ≡ true
   unfolding feedOf
   feed-sound x = on-open-cases c m _ Leaves (λ a. s) λ p.
-      unless-cases Leaves _ _ _ (λ t. gone-sound c m s (p .member))
-      (λ t. held-sound c m s (p .member) _ (few-fed (heldIn c m) (length x) (leb-true _ _ t)) _)
+      unless-cases Leaves _ _ _ (λ t. gone-sound c m s (p .member) (p .unmarked))
+      (λ t. held-sound c m s (p .member) (p .unmarked) _ (few-fed (heldIn c m) (length x) (leb-true _ _ t)) _)
 
   pub drop-sound : isSound (dropOf c m .1) ≡ true
   unfolding dropOf
-  drop-sound = on-open-cases c m _ Leaves (λ a. s) (λ p. gone-sound c m s (p .member))
+  drop-sound = on-open-cases c m _ Leaves (λ a. s) (λ p. gone-sound c m s (p .member) (p .unmarked))
 
   -- the command that finish is leaves a sound card
   pub finish-sound : (id : ℕ) → isSound (respond c (setParts m id (heldBytes c m)) headSize .0) ≡ true → isSound (finishOf c m id .1) ≡ true
   unfolding finishOf
   finish-sound id f = on-open-cases c m _ Leaves (λ a. s) λ p.
-      gone-sound _ m f (rw (respond-setup c (setParts m id (heldBytes c m)) headSize) (p .member))
+      let r = setParts m id (heldBytes c m) in
+      gone-sound _ m f (rw (respond-setup c r headSize) (p .member)) (respond-mark c r headSize m ∙ p .unmarked)

@@ -1,6 +1,6 @@
 -- Each return of begin, feed, finish and drop that is no refusal of ./Refusals.antt, as the code meets it. Assumes nothing.
 use mathlib.Core.Path.{_≡_, ap, sym, _∙_}
-use mathlib.Core.Bool.{true}
+use mathlib.Core.Bool.{true, false}
 use mathlib.Core.List.{List}
 use Prim.Native.Nat.{ℕ, _+_, _-_, _^_, _≤_, _<_}
 use native.Mathlib.Omega.{arith}
@@ -14,7 +14,7 @@ use Rattle.member.specs.Record.{holdingSize}
 use Rattle.member.specs.Member.{withHeld}
 use Rattle.changes.specs.declared.Changed.{Changed}
 use Rattle.card.specs.declared.Setup.{Setup}
-use Rattle.card.specs.Layout.{cardHeaderSize, HasRecord, setupOf, isMember, memberIn, withMember, holdingIn, withHolding, noBytes}
+use Rattle.card.specs.Layout.{cardHeaderSize, HasRecord, setupOf, isMember, memberIn, withMember, isMarked, holdingIn, withHolding, noBytes}
 use Rattle.card.specs.Sound.{isSound}
 use Rattle.card.proofs.LayoutLaws.{holding-with-member}
 use Rattle.card.proofs.SoundLaws.{sound-of, sound-long, sound-has, sound-member-in}
@@ -59,6 +59,9 @@ module _ (c : List ℕ) (m a : ℕ) (r : a ≡ openRefusal c m) (z : a ≡ 0) (y
   here : isMember c m ≡ true
   here = passed c m a r z .member
 
+  free : isMarked c m ≡ false
+  free = passed c m a r z .unmarked
+
   pub held-some : 1 ≤ y .held
   held-some = let b : 0 < heldIn c m = ltb-true 0 (heldIn c m) (passed c m a r z .begun) in rw e (omega arith)
 
@@ -97,7 +100,7 @@ module _ (c : List ℕ) (m a : ℕ) (r : a ≡ openRefusal c m) (z : a ≡ 0) (y
       let n : length (holdingIn c m) ≡ holdingSize = holding-long c m (open-record c m a r z) in
       let i : length (heldBytes c m) ≤ holdingSize = omega (arith, length-take (heldIn c m - 1) (holdingIn c m)) in
       open-passed c m a r z (k, d) (concluded m (respond c (setParts m id (heldBytes c m)) headSize))
-      (rw (set-concludes c m sound here id (heldBytes c m) small i, q, v, p, e))
+      (rw (set-concludes c m sound here free id (heldBytes c m) small i, q, v, p, e))
 
   pub dropped : (d : List ℕ) → d ≡ withHolding (withMember c m (withHeld y 0)) m noBytes → _≡_ {A = ℕ × List ℕ} (0, d) (dropOf c m)
   unfolding dropOf withoutHeld withHeldBytes

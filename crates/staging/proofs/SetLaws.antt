@@ -13,7 +13,7 @@ use Rattle.theory.specs.Bytes.{bytesAt}
 use Rattle.theory.proofs.Tests.{by-cases}
 use Rattle.wire.specs.Le.{le, bytes, number}
 use Rattle.protocol.specs.declared.Answer.{Answer}
-use Rattle.protocol.specs.declared.Answer.the-variants.{Done, BadLength, BadGroup, BadOpcode, NoMember, BadField, Exists, NotLive, NoRoom, WrongKind, Running, BadList, ShortReply}
+use Rattle.protocol.specs.declared.Answer.the-variants.{Done, BadLength, BadGroup, BadOpcode, NoMember, Marked, BadField, Exists, NotLive, NoRoom, WrongKind, Running, BadList, ShortReply}
 use Rattle.protocol.specs.declared.ChangeOp.the-variants.{SetParts}
 use Rattle.protocol.specs.Answers.{isDone}
 use Rattle.protocol.specs.Opcodes.{bit}
@@ -23,11 +23,12 @@ use Rattle.member.specs.Member.{withHeld}
 use Rattle.member.proofs.Sound.{sound-held}
 use Rattle.changes.specs.declared.Changed.{Changed}
 use Rattle.changes.specs.Changes.{refuse, changeOf}
-use Rattle.changes.proofs.Kept.{change-refused, change-sound}
+use Rattle.changes.proofs.Kept.{change-refused, change-marked, change-sound}
 use Rattle.card.specs.declared.Setup.{Setup}
-use Rattle.card.specs.Layout.{setupOf, inUseOf, isMember, memberIn, withMember, holdingIn, withHolding, noBytes}
+use Rattle.card.specs.Layout.{setupOf, inUseOf, isMember, memberIn, withMember, isMarked, holdingIn, withHolding, noBytes}
 use Rattle.card.specs.Sound.{isSound}
 use Rattle.card.proofs.LayoutLaws.{member-same, member-over}
+use Rattle.card.proofs.MarkLaws.{marked-is}
 use Rattle.card.proofs.SoundLaws.{Sound, SoundIn, sound-of, sound-has, sound-member-in}
 use Rattle.host.specs.Request.{setParts}
 use Rattle.reply.specs.Reply.{headSize, headOf}
@@ -45,6 +46,7 @@ head-number BadLength = refl
 head-number BadGroup = refl
 head-number BadOpcode = refl
 head-number NoMember = refl
+head-number Marked = refl
 head-number BadField = refl
 head-number Exists = refl
 head-number NotLive = refl
@@ -54,19 +56,22 @@ head-number Running = refl
 head-number BadList = refl
 head-number ShortReply = refl
 
-module _ (c : List ℕ) (m : ℕ) (e : isSound c ≡ true) (h : isMember c m ≡ true) where
+module _ (c : List ℕ) (m : ℕ) (e : isSound c ≡ true) (h : isMember c m ≡ true) (u : isMarked c m ≡ false) where
   s : Sound c
   s = sound-of c e
+
+  unmarked : memberIn c m .marked ≡ false
+  unmarked = sym (marked-is c m h) ∙ u
 
   -- what the command leaves, without the holding place
   abbrev left : Changed → ℕ × List ℕ
   left y = (answerNumber (y .answer), withHolding (withMember c m (withHeld (y .member) 0)) m noBytes)
 
   -- the member of a success is put first
-  gone-with : (y : Member) → SoundIn c y → withoutHeld (withMember c m y) m ≡ withHolding (withMember c m (withHeld y 0)) m noBytes
+  gone-with : (y : Member) → SoundIn c y → y .marked ≡ false → withoutHeld (withMember c m y) m ≡ withHolding (withMember c m (withHeld y 0)) m noBytes
   unfolding withoutHeld withHeldBytes
-  gone-with y f =
-      let g = sound-held _ _ _ _ y f 0 (omega arith) in
+  gone-with y f n =
+      let g = sound-held _ _ _ _ y f n 0 (omega arith) in
       rw (member-same c m y (sound-has c s m h) (f .shaped))
       (ap (λ d. withHolding d m noBytes) (member-over c m y (withHeld y 0) (g .shaped)))
 
@@ -74,10 +79,10 @@ module _ (c : List ℕ) (m : ℕ) (e : isSound c ≡ true) (h : isMember c m ≡
   unfolding withoutHeld withHeldBytes
   gone-as = refl
 
-  settled-as : (t : Bool) (y : Member) → SoundIn c y → (t ≡ false → y ≡ memberIn c m)
+  settled-as : (t : Bool) (y : Member) → SoundIn c y → y .marked ≡ false → (t ≡ false → y ≡ memberIn c m)
       → withoutHeld (if t then withMember c m y else c) m ≡ withHolding (withMember c m (withHeld y 0)) m noBytes
   unfolding if_then_else_
-  settled-as t y f g = by-cases t (λ u. rw u (gone-with y f)) (λ u. rw (u, g u) gone-as)
+  settled-as t y f n g = by-cases t (λ u. rw u (gone-with y f n)) (λ u. rw (u, g u) gone-as)
 
   module _ (id : ℕ) (list : List ℕ) where
     concludes : _≡_ {A = ℕ × List ℕ} (answerNumber (partsSetOf c m id list .0), withoutHeld (partsSetOf c m id list .1) m) (left (setInto c id list (memberIn c m)))
@@ -89,7 +94,8 @@ module _ (c : List ℕ) (m : ℕ) (e : isSound c ≡ true) (h : isMember c m ≡
         (let y = changeOf (setupOf c .queues) (setupOf c .gets) (setupOf c .sets) list (SetParts id) (memberIn c m) in
         ap (λ (d : List ℕ). (answerNumber (y .answer), d))
         (settled-as (isDone (y .answer)) (y .member)
-        (change-sound (setupOf c .queues) (setupOf c .gets) (setupOf c .sets) list (SetParts id) (memberIn c m) _ (ltb-true _ _ v) (sound-member-in c s m h))
+        (change-sound (setupOf c .queues) (setupOf c .gets) (setupOf c .sets) list (SetParts id) (memberIn c m) _ (ltb-true _ _ v) unmarked (sound-member-in c s m h))
+        (change-marked (setupOf c .queues) (setupOf c .gets) (setupOf c .sets) list (SetParts id) (memberIn c m) ∙ unmarked)
         (change-refused (setupOf c .queues) (setupOf c .gets) (setupOf c .sets) list (SetParts id) (memberIn c m)))))
         (λ v. rw v (ap (λ (d : List ℕ). (answerNumber BadField, d)) gone-as))))
         (λ u. rw u (ap (λ (d : List ℕ). (answerNumber BadOpcode, d)) gone-as))
@@ -97,7 +103,7 @@ module _ (c : List ℕ) (m : ℕ) (e : isSound c ≡ true) (h : isMember c m ≡
     pub set-concludes : id < 256 ^ 4 → length list ≤ holdingSize
         → _≡_ {A = ℕ × List ℕ} (concluded m (respond c (setParts m id list) headSize)) (left (setInto c id list (memberIn c m)))
     set-concludes small short =
-        rw (respond-parts-set c m e h headSize (omega arith) id small list (omega arith), head-number (partsSetOf c m id list .0)) concludes
+        rw (respond-parts-set c m e h u headSize (omega arith) id small list (omega arith), head-number (partsSetOf c m id list .0)) concludes
 
 -- ---- the steps, as the code takes them ----
 

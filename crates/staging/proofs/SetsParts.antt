@@ -12,7 +12,7 @@ use Rattle.staging.proofs.PartsSet.{respond-parts-set}
 use Rattle.staging.specs.Staging.{heldBytes, concluded, finishOf}
 use Rattle.staging.specs.Claims.{FinishIsPartsSet}
 use Rattle.staging.proofs.Refusals.{on-open}
-use Rattle.staging.proofs.Places.{held-short, has}
+use Rattle.staging.proofs.Places.{held-short, has, open-unmarked}
 
 -- a number of four bytes is two of two
 halves : (l : List ℕ) → number 0 4 l ≡ number 0 2 l + 65536 * number 2 2 l
@@ -27,12 +27,13 @@ halves l =
 pub finish-is-parts-set : FinishIsPartsSet
 unfolding finishOf
 finish-is-parts-set c m id room s h o small l =
+    let u = open-unmarked c m s h o in
     let x = heldBytes c m in
     let w = held-short c m (has c m s h) in
-    let short = respond-parts-set c m s h headSize (omega arith) id small x (omega arith) in
-    let long = respond-parts-set c m s h room l id small x (omega arith) in
+    let short = respond-parts-set c m s h u headSize (omega arith) id small x (omega arith) in
+    let long = respond-parts-set c m s h u room l id small x (omega arith) in
     let r : respond c (setParts m id x) headSize ≡ respond c (setParts m id x) room = short ∙ sym long in
-    let f : finishOf c m id ≡ concluded m (respond c (setParts m id x) room) = on-open c m _ s h o ∙ ap (concluded m) r in
+    let f : finishOf c m id ≡ concluded m (respond c (setParts m id x) room) = on-open c m _ s h u o ∙ ap (concluded m) r in
     record {
       answer = ap (λ (z : ℕ × List ℕ). z .0) f ∙ halves _;
       card = ap (λ (z : ℕ × List ℕ). z .1) f;

@@ -1,12 +1,12 @@
 -- WHAT IS CLAIMED of a restore in fragments: SPEC 13.6. Assumes nothing.
 use mathlib.Core.Path.{_≡_}
-use mathlib.Core.Bool.{true}
+use mathlib.Core.Bool.{true, false}
 use mathlib.Core.List.{List, [], _∷_, _++_}
 use Prim.Native.Nat.{ℕ, _+_, _*_, _^_, _≤_, _<_}
 use lib.ListN.{length}
 use Rattle.wire.specs.Le.{number}
 use Rattle.member.specs.Record.{holdingSize}
-use Rattle.card.specs.Layout.{isMember}
+use Rattle.card.specs.Layout.{isMember, isMarked}
 use Rattle.card.specs.Sound.{isSound}
 use Rattle.host.specs.Request.{setParts}
 use Rattle.admin.specs.Command.{respond}
@@ -35,10 +35,10 @@ unfoldable pub fed : ℕ → List ℕ → List (List ℕ) → List ℕ
 fed m c [] = c
 fed m c (x ∷ xs) = fed m (feedOf c m x .1) xs
 
--- After begin and the feeds the fragments are held joined, in their order
+-- After begin and the feeds the fragments are held joined, in their order, where the member is not marked
 abbrev pub HoldsJoined : Type 0
 HoldsJoined =
-    (c : List ℕ) (m : ℕ) → isSound c ≡ true → isMember c m ≡ true → heldIn c m ≡ 0
+    (c : List ℕ) (m : ℕ) → isSound c ≡ true → isMember c m ≡ true → isMarked c m ≡ false → heldIn c m ≡ 0
     → (xs : List (List ℕ)) → length (joined xs) ≤ holdingSize
     → heldBytes (fed m (beginOf c m .1) xs) m ≡ joined xs
 

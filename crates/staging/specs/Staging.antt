@@ -1,6 +1,6 @@
 -- Restore in fragments, SPEC 13.6: begin, feed, finish and drop for one member. Each gives the first answer
 -- that applies, as a number, and the card after it. Assumes nothing.
-use mathlib.Core.Bool.{Bool}
+use mathlib.Core.Bool.{Bool, not}
 use mathlib.Core.List.{List}
 use Prim.Native.Nat.{ℕ, _+_, _*_, _-_}
 use lib.Dec.{eqb, ltb, leb}
@@ -9,11 +9,11 @@ use Rattle.theory.specs.Logic.{unless_answer_then_}
 use Rattle.theory.specs.Bytes.{put}
 use Rattle.wire.specs.Le.{number}
 use Rattle.protocol.specs.declared.Answer.{Answer}
-use Rattle.protocol.specs.declared.Answer.the-variants.{Done, BadLength, NoMember, Exists, NotLive}
+use Rattle.protocol.specs.declared.Answer.the-variants.{Done, BadLength, NoMember, Marked, Exists, NotLive}
 use Rattle.protocol.specs.Answers.{statusOf, qualifierOf}
 use Rattle.member.specs.Record.{holdingSize}
 use Rattle.member.specs.Member.{withHeld}
-use Rattle.card.specs.Layout.{isMember, memberIn, withMember, holdingIn, withHolding, noBytes}
+use Rattle.card.specs.Layout.{isMember, memberIn, withMember, isMarked, holdingIn, withHolding, noBytes}
 use Rattle.card.specs.Sound.{isSound}
 use Rattle.host.specs.Request.{setParts}
 use Rattle.reply.specs.Reply.{headSize}
@@ -50,11 +50,12 @@ answerNumber a = statusOf a + 65536 * qualifierOf a
 abbrev pub notSound : ℕ
 notSound = 9
 
--- before all else: 9 on an unsound card, 22/5 where m is no member
+-- before all else: 9 on an unsound card, 22/5 where m is no member, 11/7 where it is marked (02, request 10)
 unfoldable pub memberRefusal : List ℕ → ℕ → ℕ
 memberRefusal c m =
     unless isSound c answer notSound then
     unless isMember c m answer answerNumber NoMember then
+    unless not (isMarked c m) answer answerNumber Marked then
     answerNumber Done
 
 -- then, for feed, finish and drop: 6/1 where nothing is open, whatever is fed
@@ -62,6 +63,7 @@ unfoldable pub openRefusal : List ℕ → ℕ → ℕ
 openRefusal c m =
     unless isSound c answer notSound then
     unless isMember c m answer answerNumber NoMember then
+    unless not (isMarked c m) answer answerNumber Marked then
     unless isOpen c m answer answerNumber NotLive then
     answerNumber Done
 

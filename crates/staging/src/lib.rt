@@ -41,6 +41,9 @@ fn member_refusal(card: &[u8], m: u64) -> u32
     if !card::is_member(card, m) {
         return number(Answer::NoMember);
     }
+    if card::is_marked(card, m) {
+        return number(Answer::Marked);
+    }
     DONE
 }
 

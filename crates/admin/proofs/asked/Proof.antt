@@ -1,6 +1,6 @@
 -- `admin::asked` meets its contract. Assumes nothing.
 use borrow.Author.Needs.{needs}
-use Rattle.admin.proofs.OfSound.{header-there, ids-few}
+use Rattle.admin.proofs.OfSound.{header-there, length-there, ids-few}
 use Rattle.admin.proofs.OfRequest.{asked-of}
 use Rattle.admin.proofs.asked.Statement.{statement}
 use Rattle.admin.proofs.asked.Tie as tie
@@ -8,5 +8,6 @@ use Rattle.admin.proofs.asked.Tie as tie
 pub asked-spec : {M : Type 1} → statement M
 asked-spec =
     tie.close
-    (tie.spec (λ c κs. search (needs, header-there)) (λ c. search (needs, ids-few)) (λ c κs. search (needs, header-there))
+    (tie.spec (λ c κs. search (needs, header-there)) (λ c. search (needs, ids-few)) (λ c κs. search needs)
+    (λ c κs. search (needs, length-there)) (λ c κs. search (needs, header-there))
     (λ c κs. search needs) (λ c. search (needs, asked-of)))

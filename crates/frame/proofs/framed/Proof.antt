@@ -11,4 +11,5 @@ unfolding framedOf
 framed-spec =
     tie.close
     (tie.spec (λ c. search ladder) (λ c κs. search needs) (λ c. search ladder) (λ c κs. search needs)
-    (λ c. search ladder) (λ c κs. search usable-supported) (λ c. search ladder))
+    (λ c. search ladder) (λ c κs. search needs) (λ c. search ladder) (λ c κs. search usable-supported)
+    (λ c. search ladder depth 9))
