@@ -4,14 +4,16 @@ use mathlib.Core.Bool.{Bool, true}
 use mathlib.Core.List.{List}
 use Prim.Native.Nat.{ℕ, _+_, _≤_, _<_}
 use native.Mathlib.Omega.{arith}
-use borrow.Author.Tests.{leb-true, ltb-true, eqb-true}
+use borrow.Author.Tests.{leb-true, eqb-true}
 use lib.ListN.{length}
 use Rattle.theory.specs.Logic.{if_then_else_, unless_answer_then_}
-use Rattle.theory.proofs.Tests.{if-cases, unless-cases, both}
+use Rattle.theory.proofs.Tests.{if-cases, unless-cases, both, within-high}
+use Rattle.card.specs.Layout.{setupOf, isMember}
 use Rattle.message.specs.declared.Access.{Access}
 use Rattle.message.specs.declared.Access.the-variants.{Nothing, Read, Write}
-use Rattle.message.specs.Format.{headerSize, devNumOf, dataAt}
-use Rattle.message.specs.Access.{isRequest, readIn, writeIn, wholeOf, accessOf}
+use Rattle.message.specs.Format.{headerSize, devNumOf, memberFor, dataAt}
+use Rattle.message.specs.Access.{isRequest, readIn, writeIn, wholeOf}
+use Rattle.message.specs.Message.{accessIn}
 
 -- it speaks for member m, one of the card's, and its header is there
 pub record Speaks (members : ℕ) (x : List ℕ) (m : ℕ) : Type 0 where
@@ -36,10 +38,13 @@ module _ (members : ℕ) (x : List ℕ) where
       if-cases (Facts members x) _ _ _ (λ t. guarded _ _ (λ u. s)) λ t.
       if-cases (Facts members x) _ _ _ (λ u. guarded _ _ (λ v. (s, eqb-true _ _ v))) (λ u. tt)
 
+module _ (c x : List ℕ) where
   -- nothing is asked of a card, or what the message asks of any
-  pub access-cases : (P : Access → Type 0) → P Nothing → (Facts members x (wholeOf x) → P (wholeOf x)) → P (accessOf members x)
-  unfolding accessOf
-  access-cases P f g = unless-cases P _ _ _ (λ e. f) (λ e. g (whole-facts (ltb-true _ _ e)))
+  pub access-cases : (P : Access → Type 0) → P Nothing → (Facts (setupOf c .members) x (wholeOf x) → P (wholeOf x)) → P (accessIn c x)
+  unfolding accessIn
+  access-cases P f g =
+      unless-cases P _ _ _ (λ e. f) λ e.
+      unless-cases P _ _ _ (λ u. f) (λ u. g (whole-facts _ x (omega (arith, within-high 1 (setupOf c .members) (memberFor x) e))))
 
-  pub asked : (a : Access) → a ≡ accessOf members x → Facts members x a
-  asked a e = rw e (access-cases (Facts members x) tt (λ f. f))
+  pub asked : (a : Access) → a ≡ accessIn c x → Facts (setupOf c .members) x a
+  asked a e = rw e (access-cases (Facts (setupOf c .members) x) tt (λ f. f))

@@ -15,8 +15,8 @@ use Rattle.card.specs.Sound.{isSound}
 use Rattle.message.specs.declared.Access.{Access}
 use Rattle.message.specs.declared.Access.the-variants.{Nothing, Read, Write}
 use Rattle.message.specs.Format.{dataAt, lengthOf, dataOf, responseHeader, responseFields, responseOf}
-use Rattle.message.specs.Access.{wholeOf, speaksFor, accessOf}
-use Rattle.message.specs.Message.{isApplied, nextGeneration, appliedTo, actOf, fitting, answerOf}
+use Rattle.message.specs.Access.{wholeOf, speaksFor}
+use Rattle.message.specs.Message.{isApplied, nextGeneration, appliedTo, actOf, fitting, accessIn, answerOf}
 use Rattle.message.proofs.Asked.{Facts, access-cases, asked}
 use Rattle.message.proofs.Acted.{applied-is}
 
@@ -27,12 +27,12 @@ module _ (c x : List ℕ) (room : ℕ) where
   unfolding answerOf unless_answer_then_
   answer-unsound e = rw e
 
-  pub answer-sound : isSound c ≡ true → answerOf c x room ≡ fitting c room (actOf c x (accessOf (setupOf c .members) x))
+  pub answer-sound : isSound c ≡ true → answerOf c x room ≡ fitting c room (actOf c x (accessIn c x))
   unfolding answerOf unless_answer_then_
   answer-sound e = rw e
 
   pub answer-cases : (P : List ℕ × List ℕ → Type 0) → P (c, [])
-      → (isSound c ≡ true → P (actOf c x (accessOf (setupOf c .members) x))) → P (answerOf c x room)
+      → (isSound c ≡ true → P (actOf c x (accessIn c x))) → P (answerOf c x room)
   unfolding answerOf fitting
   answer-cases P f g = unless-cases P _ _ _ (λ t. f) (λ s. unless-cases P _ _ _ (λ t. f) (λ t. g s))
 
@@ -61,7 +61,7 @@ module _ (c x : List ℕ) (Q : List ℕ → Type 0) (f : Q c) where
   unfolding actOf
   card-cases room h =
       answer-cases c x room (λ (y : List ℕ × List ℕ). Q (y .0)) f λ s.
-      access-cases _ x (λ a. Q (actOf c x a .0)) f (λ t. act-card (wholeOf x) t (λ m y g. h m y g s))
+      access-cases c x (λ a. Q (actOf c x a .0)) f (λ t. act-card (wholeOf x) t (λ m y g. h m y g s))
 
 -- ---- an answer of length 0, or none ----
 
@@ -93,7 +93,7 @@ act-keeps c x (Write m sent offset n) t =
 
 pub no-data-keeps : (c x : List ℕ) (room : ℕ) → lengthOf (answerOf c x room .1) ≡ 0 → answerOf c x room .0 ≡ c
 unfolding Keeps
-no-data-keeps c x room = answer-cases c x room (Keeps c) (λ e. refl) (λ s. act-keeps c x _ (asked _ x _ refl))
+no-data-keeps c x room = answer-cases c x room (Keeps c) (λ e. refl) (λ s. act-keeps c x _ (asked c x _ refl))
 
 -- ---- the response fits ----
 

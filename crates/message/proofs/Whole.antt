@@ -9,15 +9,13 @@ use borrow.Author.Tests.{not-true, not-false}
 use Rattle.theory.specs.Logic.{unless_answer_then_}
 use Rattle.theory.proofs.Tests.{by-cases, inside}
 use Rattle.theory.proofs.Bytes.{put-nil}
-use Rattle.card.specs.declared.Setup.{Setup}
-use Rattle.card.specs.Layout.{cardHeaderSize, HasRecord, setupOf}
+use Rattle.card.specs.Layout.{cardSize, HasRecord, setupOf}
 use Rattle.card.specs.Sound.{isSound}
-use Rattle.card.proofs.SoundLaws.{sound-of, sound-long, sound-has}
+use Rattle.card.proofs.SoundLaws.{sound-of, sound-has}
 use Rattle.message.specs.declared.Access.{Access}
 use Rattle.message.specs.declared.Access.the-variants.{Nothing, Read, Write}
 use Rattle.message.specs.Format.{headerSize, dataAt}
-use Rattle.message.specs.Access.{accessOf}
-use Rattle.message.specs.Message.{actOf, fitting, answerOf, delivered, messageOf}
+use Rattle.message.specs.Message.{accessIn, actOf, fitting, answerOf, delivered, messageOf}
 use Rattle.message.proofs.Asked.{Speaks, asked}
 
 -- what a message leaves: the bytes of the response, the card, the buffer
@@ -33,13 +31,10 @@ module _ (c x l : List ℕ) (b : Bool) (sound : b ≡ isSound c) where
     is : isSound c ≡ true
     is = sym sound ∙ not-false b n
 
-    pub header-long : cardHeaderSize ≤ length c
-    header-long = sound-long c (sound-of c is)
+    pub card-long : length c ≡ cardSize (setupOf c .members)
+    card-long = sound-of c is .long
 
-    module _ (s : Setup) (a : Access) (es : s ≡ setupOf c) (ea : a ≡ accessOf (s .members) x) where
-      asked-is : a ≡ accessOf (setupOf c .members) x
-      asked-is = rw es at ea
-
+    module _ (a : Access) (asked-is : a ≡ accessIn c x) where
       heard : (y : Left) → y ≡ delivered (fitting c (length l) (actOf c x a)) l → y ≡ messageOf c x l
       unfolding messageOf answerOf unless_answer_then_
       heard y e = rw (is, ← asked-is) e
@@ -56,13 +51,13 @@ module _ (c x l : List ℕ) (b : Bool) (sound : b ≡ isSound c) where
         has f = sound-has c (sound-of c is) m (inside 1 _ m (f .low) (f .high))
 
         pub read-record : a ≡ Read m offset k → HasRecord c m
-        read-record e = has (asked _ x _ (sym e ∙ asked-is))
+        read-record e = has (asked c x _ (sym e ∙ asked-is))
 
         pub read-long : a ≡ Read m offset k → headerSize ≤ length x
-        read-long e = asked _ x (Read m offset k) (sym e ∙ asked-is) .long
+        read-long e = asked c x (Read m offset k) (sym e ∙ asked-is) .long
 
         pub write-record : (sent : ℕ) → a ≡ Write m sent offset k → HasRecord c m
-        write-record sent e = has (asked _ x (Write m sent offset k) (sym e ∙ asked-is) .0)
+        write-record sent e = has (asked c x (Write m sent offset k) (sym e ∙ asked-is) .0)
 
         pub write-long : (sent : ℕ) → a ≡ Write m sent offset k → dataAt + k ≡ length x
-        write-long sent e = asked _ x (Write m sent offset k) (sym e ∙ asked-is) .1
+        write-long sent e = asked c x (Write m sent offset k) (sym e ∙ asked-is) .1

@@ -1,31 +1,30 @@
--- What a message asks, SPEC 13.3: it depends on N and on the message's bytes, and on no member's record. Assumes nothing.
+-- What a message asks, by its bytes alone: SPEC 13.3. Assumes nothing.
 use mathlib.Core.Bool.{Bool, false}
 use mathlib.Core.List.{List}
 use Prim.Native.Nat.{ℕ, _+_, _%_}
-use lib.Dec.{leb, ltb, eqb}
+use lib.Dec.{leb, eqb}
 use lib.ListN.{length}
 use Rattle.theory.specs.Logic.{if_then_else_, unless_answer_then_, _and_}
 use Rattle.wire.specs.Le.{number}
 use Rattle.message.specs.declared.Access.{Access}
 use Rattle.message.specs.declared.Access.the-variants.{Nothing, Read, Write}
-use Rattle.message.specs.Format.{headerSize, typeOf, msgIdOf, devNumOf, msgSizeOf, readLengthAt, readSize, offsetAt, dataAt, lengthOf, getConfig, setConfig}
+use Rattle.message.specs.Format.{headerSize, typeOf, msgIdOf, memberFor, msgSizeOf, readLengthAt, readSize, offsetAt, dataAt, lengthOf, getConfig, setConfig}
 
 -- the header is there; type bit 0 clear is a request and bit 1 clear one to a device, bits 2 to 7 are ignored; msg_size is the
 -- number of bytes handed over
 unfoldable pub isRequest : List ℕ → Bool
 isRequest x = leb headerSize (length x) and eqb (typeOf x % 4) 0 and eqb (msgSizeOf x) (length x)
 
--- the layout of its kind has as many bytes too, and in a write the length field agrees, without wrap. Device number d speaks
--- for member d + 1
+-- the layout of its kind has as many bytes too, and in a write the length field agrees, without wrap.
 unfoldable pub readIn : List ℕ → Access
 readIn x =
     unless eqb (length x) readSize answer Nothing then
-    Read (devNumOf x + 1) (number headerSize 4 x) (number readLengthAt 4 x)
+    Read (memberFor x) (number headerSize 4 x) (number readLengthAt 4 x)
 
 unfoldable pub writeIn : List ℕ → Access
 writeIn x =
     unless eqb (dataAt + lengthOf x) (length x) answer Nothing then
-    Write (devNumOf x + 1) (number headerSize 4 x) (number offsetAt 4 x) (lengthOf x)
+    Write (memberFor x) (number headerSize 4 x) (number offsetAt 4 x) (lengthOf x)
 
 -- one whole request of these two kinds, or nothing
 unfoldable pub wholeOf : List ℕ → Access
@@ -40,7 +39,3 @@ unfoldable pub speaksFor : ℕ → Access → Bool
 speaksFor m Nothing = false
 speaksFor m (Read k offset n) = eqb k m
 speaksFor m (Write k sent offset n) = eqb k m
-
--- on a card, its device number is below N
-unfoldable pub accessOf : ℕ → List ℕ → Access
-accessOf members x = unless ltb (devNumOf x) members answer Nothing then wholeOf x

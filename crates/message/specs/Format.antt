@@ -30,6 +30,10 @@ msgIdOf x = getD x msgIdAt 0
 abbrev pub devNumOf : List ℕ → ℕ
 devNumOf x = number devNumAt 2 x
 
+-- device number d speaks for member d + 1
+abbrev pub memberFor : List ℕ → ℕ
+memberFor x = devNumOf x + 1
+
 abbrev pub tokenOf : List ℕ → ℕ
 tokenOf x = number tokenAt 2 x
 

@@ -1,18 +1,18 @@
 -- A message, whole: SPEC 13.3. What it asks is done to the configuration and the generation of one member, and answered.
 -- Assumes nothing.
-use mathlib.Core.Bool.{Bool}
+use mathlib.Core.Bool.{Bool, not}
 use mathlib.Core.List.{List, []}
 use Prim.Native.Nat.{ℕ, _+_, _%_, _^_}
 use lib.Dec.{leb, eqb}
 use lib.ListN.{length}
 use Rattle.theory.specs.Logic.{if_then_else_, unless_answer_then_, _and_}
 use Rattle.theory.specs.Bytes.{bytesAt, put}
-use Rattle.card.specs.Layout.{configurationSize, setupOf, configurationIn, generationIn, withConfiguration}
+use Rattle.card.specs.Layout.{configurationSize, isMember, isMarked, configurationIn, generationIn, withConfiguration}
 use Rattle.card.specs.Sound.{isSound}
 use Rattle.message.specs.declared.Access.{Access}
 use Rattle.message.specs.declared.Access.the-variants.{Nothing, Read, Write}
-use Rattle.message.specs.Format.{dataOf, responseOf}
-use Rattle.message.specs.Access.{accessOf}
+use Rattle.message.specs.Format.{memberFor, dataOf, responseOf}
+use Rattle.message.specs.Access.{wholeOf}
 
 -- n bytes from an offset lie within the 12 of a configuration, without wrap
 unfoldable pub isInside : ℕ → ℕ → Bool
@@ -50,11 +50,19 @@ actOf c x (Write m sent offset n) =
 unfoldable pub fitting : List ℕ → ℕ → List ℕ × List ℕ → List ℕ × List ℕ
 fitting c room y = unless leb (length (y .1)) room answer (c, []) then y
 
+-- what a message asks of a card: its device number is below N, so that its member is one of the card's, and that member
+-- is not marked (SPEC 13.10). Nothing else of a member's record matters
+unfoldable pub accessIn : List ℕ → List ℕ → Access
+accessIn c x =
+    unless isMember c (memberFor x) answer Nothing then
+    unless not (isMarked c (memberFor x)) answer Nothing then
+    wholeOf x
+
 -- a message on a card, with room for so many bytes of response: the card after it and the response
 unfoldable pub answerOf : List ℕ → List ℕ → ℕ → List ℕ × List ℕ
 answerOf c x room =
     unless isSound c answer (c, []) then
-    fitting c room (actOf c x (accessOf (setupOf c .members) x))
+    fitting c room (actOf c x (accessIn c x))
 
 -- the same as a call leaves it: the bytes of the response, the card, and the buffer, whose other bytes keep their values
 unfoldable pub delivered : List ℕ × List ℕ → List ℕ → ℕ × (List ℕ × List ℕ)

@@ -4,10 +4,10 @@ ghost use mathlib.Core.Path.{_≡_};
 ghost use Prim.Native.Nat.{_+_, _≤_};
 ghost use lib.ListN.{length};
 ghost use Rattle.theory.specs.Bytes.{put};
-ghost use Rattle.card.specs.Layout.{configurationSize, HasRecord};
-ghost use Rattle.message.specs.Format.{headerSize, devNumOf, dataAt, dataOf, responseHeader, responseFields, responseOf};
-ghost use Rattle.message.specs.Access.{isRequest, readIn, writeIn, wholeOf, accessOf};
-ghost use Rattle.message.specs.Message.{isInside, readable, isApplied, appliedTo, actOf, fitting, delivered, messageOf, sentIn};
+ghost use Rattle.card.specs.Layout.{configurationSize, cardSize, setupOf, HasRecord};
+ghost use Rattle.message.specs.Format.{headerSize, memberFor, dataAt, dataOf, responseHeader, responseFields, responseOf};
+ghost use Rattle.message.specs.Access.{isRequest, readIn, writeIn, wholeOf};
+ghost use Rattle.message.specs.Message.{accessIn, isInside, readable, isApplied, appliedTo, actOf, fitting, delivered, messageOf, sentIn};
 use card::CONFIGURATION_SIZE;
 
 // The header: type 1 byte, msg_id 1, dev_num 2, token 2, msg_size 2.
@@ -66,7 +66,7 @@ fn is_request(message: &[u8]) -> bool
 // Device number d speaks for member d + 1.
 fn member_of(message: &[u8]) -> u64
     requires { ⌜ headerSize ≤ length (now message) ⌝ }
-    ensures { λ r. ⌜ r ≡ devNumOf (now (message .entry)) + 1 ⌝ }
+    ensures { λ r. ⌜ r ≡ memberFor (now (message .entry)) ⌝ }
 {
     wire::read_u16(message, DEV_NUM_AT) as u64 + 1
 }
@@ -103,14 +103,19 @@ fn write_in(message: &[u8]) -> Access
     )
 }
 
-// One whole request of the two kinds, for a device number below N.
-fn decode(members: u8, message: &[u8]) -> Access
-    ensures { λ r. ⌜ r ≡ accessOf members (now (message .entry)) ⌝ }
+// One whole request of the two kinds, for a device number below N whose member is not marked.
+fn decode(card: &[u8], message: &[u8]) -> Access
+    requires { ⌜ length (now card) ≡ cardSize (setupOf (now card) .members) ⌝ }
+    ensures { λ r. ⌜ r ≡ accessIn (now (card .entry)) (now (message .entry)) ⌝ }
 {
     if !is_request(message) {
         return Access::Nothing;
     }
-    if members as u16 <= wire::read_u16(message, DEV_NUM_AT) {
+    let m = member_of(message);
+    if !card::is_member(card, m) {
+        return Access::Nothing;
+    }
+    if card::is_marked(card, m) {
         return Access::Nothing;
     }
     match message[MSG_ID_AT] {
@@ -252,8 +257,7 @@ pub fn message(card: &mut [u8], message: &[u8], reply: &mut [u8]) -> usize
     if !card::is_sound(card) {
         return 0;
     }
-    let s = card::setup_of(card);
-    match decode(s.members, message) {
+    match decode(card, message) {
         Access::Nothing => 0,
         Access::Read(m, offset, n) => read_config(card, m, offset, n, message, reply),
         Access::Write(m, sent, offset, n) => write_config(card, m, sent, offset, n, message, reply),
