@@ -29,10 +29,10 @@ use Rattle.card.specs.Layout.{setupOf, memberIn}
 use Rattle.reads.specs.Reads.{refuseRead, succeedRead, queryOf, metadataOf, throughGet}
 use Rattle.frame.specs.declared.Ask.{Ask}
 use Rattle.frame.specs.declared.Ask.the-variants.{Refused, Read, Change}
-use Rattle.frame.specs.Frame.{opcodeOf, targetOf, dataOf, typeAt, askedList, givenList}
+use Rattle.frame.specs.Frame.{memberAt, opcodeOf, targetOf, dataOf, typeAt, askedList, givenList}
 use Rattle.frame.specs.Fields.{metadataIs, createIn, modifyIn, queryIn, destroyIn, metadataIn, getIn, setIn, modeIn, useIn, fieldsOf}
 use Rattle.frame.specs.Ask.{framedOf, askOf}
-use Rattle.frame.proofs.Lengths.{rest-ignored, missing-zero, ask-more}
+use Rattle.frame.proofs.Lengths.{rest-ignored, missing-zero, number-more, ask-more}
 use Rattle.reply.specs.Result.{resultOf}
 use Rattle.admin.specs.Command.{askIn, effect, perform, respond}
 use Rattle.demands.specs.Claims.{MissingIsZero, RestIsIgnored}
@@ -130,12 +130,12 @@ module _ (c r x : List ℕ) (room : ℕ) (long : 24 ≤ length r) (short : lengt
   done-same : Same c r (r ++ x) (askIn c r)
   unfolding askIn askOf framedOf
   done-same =
-      guarded c r (r ++ x) _ _ _ (guarded c r (r ++ x) _ _ _ (guarded c r (r ++ x) _ _ _ (guarded c r (r ++ x) _ _ _
-      (fields-same c r (r ++ x) (opcodeOf r) asked given _ (targetOf r) (dataOf r)))))
+      guarded c r (r ++ x) _ _ _ (guarded c r (r ++ x) _ _ _ (guarded c r (r ++ x) _ _ _ (guarded c r (r ++ x) _ _ _ (guarded c r (r ++ x) _ _ _
+      (fields-same c r (r ++ x) (opcodeOf r) asked given _ (targetOf r) (dataOf r))))))
 
   ask-same : askIn c (r ++ x) ≡ askIn c r
   unfolding askIn
-  ask-same = ask-more r x long _ _ _ short (fields _ _)
+  ask-same = rw (number-more r x long 8 memberAt (omega arith)) (ask-more r x long _ _ _ _ short (fields _ _))
 
   respond-same : respond c (r ++ x) room ≡ respond c r room
   unfolding respond Same

@@ -19,6 +19,7 @@ use Rattle.demands.proofs.Commutation.{commutation, commands-commute}
 use Rattle.demands.proofs.HoldingKept.{holding-kept}
 use Rattle.demands.proofs.ConfigurationKept.{configuration-kept}
 use Rattle.demands.proofs.Messages.{responded, nothing-applied, only-configuration, message-examples-hold}
+use Rattle.demands.proofs.Halves.{two-halves, marked-refused, halves-examples-hold}
 use Rattle.staging.proofs.SetsParts.{finish-is-parts-set}
 use Rattle.staging.proofs.Cut.{holds-joined, cut-anywhere}
 
@@ -54,4 +55,7 @@ claims = record {
   onlyConfiguration = only-configuration;
   configurationKept = configuration-kept;
   messageExamples = message-examples-hold;
+  twoHalves = two-halves;
+  markedRefused = marked-refused;
+  halvesExamples = halves-examples-hold;
 }

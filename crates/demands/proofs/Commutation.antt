@@ -12,10 +12,10 @@ use Rattle.theory.proofs.Tests.{by-cases, both, and-false, below}
 use Rattle.theory.proofs.Commuting.{Commute, commute-sym, swappable, after-hidden, commute-by-masks}
 use Rattle.card.specs.Layout.{recordSize, setupOf, isMember, recordBytes, withRecordBytes}
 use Rattle.card.specs.Sound.{isSound}
-use Rattle.card.proofs.LayoutLaws.{bytes-back, bytes-long, bytes-over, fresh-bytes, fresh-apart, setup-with-fresh}
+use Rattle.card.proofs.LayoutLaws.{bytes-back, bytes-long, bytes-over, record-bytes, record-apart, setup-with-record}
 use Rattle.card.proofs.SoundLaws.{sound-of, sound-has}
 use Rattle.frame.specs.Frame.{targetOf}
-use Rattle.demands.specs.Calls.{Call, command, memberReset, cardReset, cardStore, restoreBegin, restoreFeed, restoreFinish, restoreDrop, message, step, names}
+use Rattle.demands.specs.Calls.{Call, command, handBack, wipe, cardReset, cardStore, restoreBegin, restoreFeed, restoreFinish, restoreDrop, message, step, names}
 use Rattle.message.specs.Access.{wholeOf, speaksFor}
 use Rattle.message.proofs.Cases.{speaks-one}
 use Rattle.demands.specs.Claims.{Commutation, CommandsCommute}
@@ -28,7 +28,8 @@ use Rattle.demands.proofs.Isolation.{masking}
 names-one : (m k : ℕ) → m ≢ k → (x : Call) → names m x ≡ true → names k x ≡ false
 unfolding names
 names-one m k n (command r room) e = rw (eqb-true (targetOf r) m (both _ _ e .1), ne-eqb m k n) (and-false _)
-names-one m k n (memberReset j g) e = refl
+names-one m k n (handBack j) e = refl
+names-one m k n (wipe j g) e = refl
 names-one m k n (cardReset g) e = refl
 names-one m k n (cardStore j t s value) e = rw (eqb-true j m e) (ne-eqb m k n)
 names-one m k n (restoreBegin j) e = rw (eqb-true j m e) (ne-eqb m k n)
@@ -42,13 +43,13 @@ names-one m k n (message x room) e = by-cases (speaksFor k (wholeOf x)) (λ f. a
 module _ (m k : ℕ) (m-low : 1 ≤ m) (k-low : 1 ≤ k) (apart : m ≢ k) where
   -- m's record is in the card with k's masked
   record-there : (c : List ℕ) → recordBytes (mask k c) m 0 recordSize ≡ recordBytes c m 0 recordSize
-  record-there c = fresh-apart c k _ 0 m 0 recordSize (omega arith) k-low m-low apart
+  record-there c = record-apart c k _ 0 m 0 recordSize (omega arith) k-low m-low apart
 
   -- and makes the card of the one with m's masked
   rebuilt : (c : List ℕ) → isSound c ≡ true → isMember c m ≡ true
       → withRecordBytes (mask m c) m 0 recordSize (recordBytes c m 0 recordSize) ≡ c
   rebuilt c s h =
-      rw (fresh-bytes c m (setupOf c .features) 0)
+      rw (record-bytes c m _ 0)
       (bytes-over c m 0 recordSize _ 0 recordSize _ (omega arith) (omega arith)
       (bytes-long c m 0 recordSize (sound-has c (sound-of c s) m h) (omega arith))
       ∙ bytes-back c m 0 recordSize)
@@ -57,7 +58,7 @@ module _ (m k : ℕ) (m-low : 1 ≤ m) (k-low : 1 ≤ k) (apart : m ≢ k) where
   determined a b sa sb e f =
       let same : recordBytes a m 0 recordSize ≡ recordBytes b m 0 recordSize =
       sym (record-there a) ∙ ap (λ c. recordBytes c m 0 recordSize) f ∙ record-there b in
-      let setups : setupOf a ≡ setupOf b = sym (setup-with-fresh a m _ 0) ∙ ap setupOf e ∙ setup-with-fresh b m _ 0 in
+      let setups : setupOf a ≡ setupOf b = sym (setup-with-record a m _ 0) ∙ ap setupOf e ∙ setup-with-record b m _ 0 in
       by-cases (isMember a m)
       (λ h. sym (rebuilt a sa h) ∙ rw (e, same) (rebuilt b sb (rw setups at h)))
       (λ h. sym (mask-none m m-low a sa h) ∙ e ∙ mask-none m m-low b sb (rw setups at h))

@@ -3,10 +3,11 @@ use mathlib.Core.Path.{_≡_, refl}
 use mathlib.Core.Logic.{_≢_}
 use mathlib.Core.Bool.{true}
 use mathlib.Core.List.{List, [], _∷_, _++_}
-use Prim.Native.Nat.{ℕ}
+use Prim.Native.Nat.{ℕ, _+_}
 use native.Mathlib.Omega.{arith}
 use lib.ListN.{getD}
 use Rattle.theory.specs.Machine.{replies, Swappable}
+use Rattle.member.specs.Record.{objectsAt}
 use Rattle.card.specs.Layout.{recordAt}
 use Rattle.demands.specs.Calls.{Call, step, names}
 use Rattle.host.specs.Request.{getAll}
@@ -45,7 +46,7 @@ names-second = refl
 abbrev used : List ℕ
 used = step exampleCard (useList 0x3fc03) .0
 
-first-changes : getD (step used first .0) 29 0 ≢ getD used 29 0
+first-changes : getD (step used first .0) (recordAt 1 + objectsAt) 0 ≢ getD used (recordAt 1 + objectsAt) 0
 unfolding model
 first-changes = omega arith
 

@@ -1,4 +1,4 @@
--- Commands, card stores and the calls of a restore leave every configuration as it was. Assumes nothing.
+-- Commands, card stores, hand backs and the calls of a restore leave every configuration as it was. Assumes nothing.
 use mathlib.Core.Path.{_≡_, refl, ap, _∙_}
 use mathlib.Core.Bool.{true}
 use mathlib.Core.List.{List}
@@ -13,18 +13,16 @@ use Rattle.member.specs.declared.Member.{Member}
 use Rattle.member.specs.Record.{memberSize, holdingSize, memberBytes}
 use Rattle.card.specs.Layout.{memberBytesAt, configurationAt, configurationSize, generationAt, generationSize, holdingAt, setupOf, isMember, recordBytes, withInUse, withMember, configurationIn, generationIn, withHolding, noBytes}
 use Rattle.card.proofs.LayoutLaws.{bytes-before, bytes-after, bytes-other, bytes-with-use}
-use Rattle.events.specs.Events.{storeIn, store}
+use Rattle.events.specs.Events.{withHandedBack, handBack as handBackOf, storeIn, store}
 use Rattle.events.proofs.Cases.{if-done-cases, on-member-cases}
 use Rattle.frame.specs.declared.Ask.{Ask}
 use Rattle.frame.specs.declared.Ask.the-variants.{Refused, QueryList, UseList, Read, Change}
-use Rattle.frame.proofs.Asked.{Facts}
 use Rattle.admin.specs.Command.{perform, respond}
-use Rattle.admin.proofs.Respond.{card-cases}
+use Rattle.admin.proofs.Respond.{FactsIn, asked-of, card-cases}
 use Rattle.staging.specs.Staging.{withHeldBytes, withoutHeld, beginOf, feedOf, finishOf, dropOf}
 use Rattle.staging.proofs.Refusals.{on-member-cases as restore-cases, on-open-cases}
 use Rattle.demands.specs.Calls.{step}
 use Rattle.demands.specs.Messages.{SameConfiguration, ConfigurationKept}
-use Rattle.demands.proofs.Named.{asked-of}
 
 -- the same bytes between the member's and those of its holding place
 pub same-bytes : (c d : List ℕ) (m : ℕ) → ((at n : ℕ) → configurationAt ≤ at → at + n ≤ holdingAt → recordBytes d m at n ≡ recordBytes c m at n)
@@ -77,16 +75,16 @@ module _ (c : List ℕ) (m : ℕ) (h : isMember c m ≡ true) where
   low : 1 ≤ m
   low = within-low _ _ m h
 
-  perform-kept : (ids : ℕ) (r : List ℕ) (a : Ask) → Facts (setupOf c .members) ids r a → SameConfiguration c (perform c r a .card) m
+  perform-kept : (r : List ℕ) (a : Ask) → FactsIn c r a → SameConfiguration c (perform c r a .card) m
   unfolding perform
-  perform-kept ids r (Refused a) f = kept c m
-  perform-kept ids r QueryList f = kept c m
-  perform-kept ids r (UseList mask) f = use-kept c m low mask
-  perform-kept ids r (Read k op) f = kept c m
-  perform-kept ids r (Change k op) f = member-kept c m low k (f .0 .low) _
+  perform-kept r (Refused a) f = kept c m
+  perform-kept r QueryList f = kept c m
+  perform-kept r (UseList mask) f = use-kept c m low mask
+  perform-kept r (Read k op) f = kept c m
+  perform-kept r (Change k op) f = member-kept c m low k (f .0 .low) _
 
   respond-kept : (r : List ℕ) (room : ℕ) → SameConfiguration c (respond c r room .0) m
-  respond-kept r room = card-cases c r room (λ d. SameConfiguration c d m) (kept c m) (λ s. perform-kept _ r _ (asked-of c r))
+  respond-kept r room = card-cases c r room (λ d. SameConfiguration c d m) (kept c m) (λ s. perform-kept r _ (asked-of c r))
 
   abbrev After : ℕ × List ℕ → Type 0
   After y = SameConfiguration c (y .1) m
@@ -100,10 +98,17 @@ module _ (c : List ℕ) (m : ℕ) (h : isMember c m ≡ true) where
       on-member-cases c k _ AfterEvent (λ a d. kept c m) λ e i.
       if-done-cases AfterEvent _ _ c (λ d. kept c m) (λ d. member-kept c m low k (within-low _ _ k i) _)
 
+  back-kept : (k : ℕ) → SameConfiguration c (handBackOf c k .1) m
+  unfolding handBackOf withHandedBack
+  back-kept k =
+      on-member-cases c k _ AfterEvent (λ a d. kept c m) λ e i.
+      let l = within-low _ _ k i in
+      unless-cases AfterEvent _ _ _ (λ t. kept c m) (λ t. then-kept c _ _ m (member-kept c m low k l _) (holding-kept _ m low k l noBytes))
+
   begin-kept : (k : ℕ) → SameConfiguration c (beginOf c k .1) m
   unfolding beginOf
-  begin-kept k = restore-cases c k _ After (λ a. kept c m) λ s i.
-      unless-cases After _ _ _ (λ t. kept c m) (λ t. member-kept c m low k (within-low _ _ k i) _)
+  begin-kept k = restore-cases c k _ After (λ a. kept c m) λ p.
+      unless-cases After _ _ _ (λ t. kept c m) (λ t. member-kept c m low k (within-low _ _ k (p .member)) _)
 
   feed-kept : (k : ℕ) (x : List ℕ) → SameConfiguration c (feedOf c k x .1) m
   unfolding feedOf
@@ -122,11 +127,12 @@ module _ (c : List ℕ) (m : ℕ) (h : isMember c m ≡ true) where
 
 pub configuration-kept : ConfigurationKept
 unfolding step
-configuration-kept = record {
-  commands = respond-kept;
-  cardStores = store-kept;
-  begins = begin-kept;
-  feeds = feed-kept;
-  finishes = finish-kept;
-  drops = drop-kept;
+configuration-kept c m h = record {
+  commands = respond-kept c m h;
+  cardStores = store-kept c m h;
+  handBacks = back-kept c m h;
+  begins = begin-kept c m h;
+  feeds = feed-kept c m h;
+  finishes = finish-kept c m h;
+  drops = drop-kept c m h;
 }

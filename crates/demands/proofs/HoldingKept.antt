@@ -7,7 +7,7 @@ use Prim.Native.Nat.{ℕ, _+_, _≤_}
 use native.Mathlib.Omega.{arith}
 use lib.Dec.{eqb}
 use borrow.Author.Tests.{eqb-true, eqb-false}
-use Rattle.theory.proofs.Tests.{by-cases, inside, within-low}
+use Rattle.theory.proofs.Tests.{by-cases, within-low}
 use Rattle.protocol.specs.declared.ChangeOp.{ChangeOp}
 use Rattle.protocol.specs.declared.EventAnswer.{EventAnswer}
 use Rattle.member.specs.declared.Member.{Member}
@@ -24,12 +24,11 @@ use Rattle.events.specs.Events.{storeIn, store}
 use Rattle.events.proofs.Cases.{if-done-cases, on-member-cases}
 use Rattle.frame.specs.declared.Ask.{Ask}
 use Rattle.frame.specs.declared.Ask.the-variants.{Refused, QueryList, UseList, Read, Change}
-use Rattle.frame.proofs.Asked.{Facts}
 use Rattle.admin.specs.Command.{perform}
-use Rattle.admin.proofs.Respond.{card-cases}
+use Rattle.admin.proofs.Respond.{FactsIn, asked-of, card-cases}
+use Rattle.admin.proofs.Marks.{named-here, named-unmarked}
 use Rattle.demands.specs.Calls.{step}
 use Rattle.demands.specs.Claims.{SameHolding, HoldingKept}
-use Rattle.demands.proofs.Named.{asked-of}
 
 -- no change of a member touches what is held
 change-held : (queues gets sets : ℕ) (list : List ℕ) (op : ChangeOp) (m : Member) → changeOf queues gets sets list op m .member .held ≡ m .held
@@ -73,16 +72,16 @@ module _ (c : List ℕ) (m : ℕ) (h : isMember c m ≡ true) where
     member-kept : SameHolding c (withMember c k y) m
     member-kept = by-cases (eqb m k) (λ t. own-kept (eqb-true m k t)) (λ t. other-kept (eqb-false m k t))
 
-  perform-kept : Sound c → (r : List ℕ) (a : Ask) → Facts (setupOf c .members) (setupOf c .gets + setupOf c .sets) r a → SameHolding c (perform c r a .card) m
+  perform-kept : Sound c → (r : List ℕ) (a : Ask) → FactsIn c r a → SameHolding c (perform c r a .card) m
   unfolding perform
   perform-kept s r (Refused a) f = kept
   perform-kept s r QueryList f = kept
   perform-kept s r (UseList mask) f = use-kept mask
   perform-kept s r (Read k op) f = kept
   perform-kept s r (Change k op) f =
-      let i = inside 1 (setupOf c .members) k (f .0 .low) (f .0 .high) in
+      let i = named-here c r k (f .0) in
       let x = sound-member-in c s k i in
-      member-kept s k i _ (change-sound (setupOf c .queues) _ _ _ op (memberIn c k) _ (f .1) x)
+      member-kept s k i _ (change-sound (setupOf c .queues) _ _ _ op (memberIn c k) _ (f .1) (named-unmarked c r k (f .0)) x)
       (change-held (setupOf c .queues) (setupOf c .gets) (setupOf c .sets) _ op (memberIn c k))
 
   store-kept : Sound c → (k t s : ℕ) (value : List ℕ) → isMember c k ≡ true → SameHolding c (storeIn c k t s value .1) m

@@ -11,10 +11,10 @@ use lib.ListN.{length, replicate}
 use Rattle.theory.specs.Logic.{_and_}
 use Rattle.theory.proofs.Tests.{both}
 use Rattle.protocol.specs.Opcodes.{bit}
-use Rattle.card.specs.Layout.{setupOf, inUseOf}
+use Rattle.card.specs.Layout.{setupOf, inUseOf, isMarked}
 use Rattle.card.specs.Sound.{isSound}
 use Rattle.frame.specs.Frame.{longest}
-use Rattle.frame.specs.Ask.{reaches}
+use Rattle.frame.specs.Ask.{reaches, attended}
 use Rattle.host.specs.declared.Command.{Command}
 use Rattle.host.specs.declared.Command.the-variants as host
 use Rattle.host.specs.Request.{sentOf, requestOf}
@@ -39,6 +39,7 @@ abbrev takes : Command × List ℕ → Bool
 takes (x, list) =
     bit (inUseOf bench) (sentOf x .opcode)
     and reaches (setupOf bench .members) (sentOf x .opcode) (sentOf x .member)
+    and attended (isMarked bench (sentOf x .member)) (sentOf x .opcode)
     and inside (setupOf bench .gets + setupOf bench .sets) x list
     and leb (length (requestOf x list)) longest
 
@@ -46,8 +47,9 @@ takeable : (x : Command) (list : List ℕ) → takes (x, list) ≡ true → Take
 takeable x list e =
     let p = both _ _ e in
     let q = both _ _ (p .0) in
-    let r = both _ _ (q .0) in
-    record { sound = bench-sound; inUse = r .0; member = r .1; fields = q .1; short = leb-true _ _ (p .1) }
+    let w = both _ _ (q .0) in
+    let r = both _ _ (w .0) in
+    record { sound = bench-sound; inUse = r .0; member = r .1; unmarked = w .1; fields = q .1; short = leb-true _ _ (p .1) }
 
 -- a request of each command: two headers are asked for, and five bytes given to be set
 ten : List (Command × List ℕ)

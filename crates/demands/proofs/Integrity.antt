@@ -7,7 +7,7 @@ use native.Mathlib.Omega.{arith}
 use lib.ListN.{length, take}
 use Rattle.theory.specs.Logic.{if_then_else_}
 use Rattle.theory.specs.Bytes.{put}
-use Rattle.theory.proofs.Tests.{unless-cases, inside}
+use Rattle.theory.proofs.Tests.{unless-cases}
 use Rattle.theory.proofs.Bytes.{take-before, drop-after, length-bytesAt-le}
 use Rattle.wire.specs.Le.{bytes}
 use Rattle.protocol.specs.declared.Answer.{Answer}
@@ -19,25 +19,27 @@ use Rattle.objects.specs.declared.Found.the-variants.{Live, Nothing}
 use Rattle.objects.specs.Objects.{onFound}
 use Rattle.member.specs.declared.Member.{Member}
 use Rattle.member.specs.Objects.{lookupOf}
+use Rattle.member.specs.Record.{memberSize, holdingSize, memberBytes}
+use Rattle.member.specs.Member.{handedBack}
 use Rattle.changes.specs.declared.Changed.{Changed}
 use Rattle.changes.specs.Changes.{refuse, setPartsOf, changeOf}
 use Rattle.changes.proofs.Kept.{change-sound}
-use Rattle.card.specs.Layout.{inUseAt, recordSize, setupOf, recordAt, withInUse, withRecordBytes, memberIn, withFresh}
+use Rattle.card.specs.Layout.{inUseAt, memberBytesAt, holdingAt, recordSize, setupOf, recordAt, withInUse, withRecordBytes, memberIn, withMember, withHolding, noBytes, withRecord}
 use Rattle.card.proofs.LayoutLaws.{member-same}
 use Rattle.events.proofs.Cases.{on-member-cases}
 use Rattle.card.proofs.SoundLaws.{Sound, sound-of, sound-has, sound-member-in}
-use Rattle.events.specs.Events.{resetMember}
+use Rattle.events.specs.Events.{withHandedBack, handBack, wipe}
 use Rattle.frame.specs.declared.Ask.{Ask}
 use Rattle.frame.specs.declared.Ask.the-variants.{Refused, Change}
 use Rattle.frame.specs.Frame.{opcodeOf, targetOf, dataOf, givenList}
 use Rattle.frame.specs.Fields.{setIn, useIn, fieldsOf}
 use Rattle.frame.specs.Ask.{framedOf, askOf}
-use Rattle.frame.proofs.Asked.{Named, Facts}
 use Rattle.admin.specs.Command.{askIn, perform, respond}
 use Rattle.demands.specs.Calls.{step}
 use Rattle.demands.specs.Claims.{SameOutside, DifferAtMost, Integrity}
-use Rattle.admin.proofs.Respond.{card-cases}
-use Rattle.demands.proofs.Named.{Leaves, unchanged, changed, asked-of, named-leaves}
+use Rattle.admin.proofs.Respond.{NamedIn, FactsIn, asked-of, card-cases}
+use Rattle.admin.proofs.Marks.{named-here, named-unmarked}
+use Rattle.demands.proofs.Named.{Leaves, unchanged, changed, named-leaves}
 
 same : (at size : ℕ) (c : List ℕ) → SameOutside at size c c
 same at size c = record { before = refl; after = refl }
@@ -58,16 +60,29 @@ bytes-outside m c at n x i =
 
 leaves-outside : (m : ℕ) (c d : List ℕ) → Leaves m c d → DifferAtMost m d c
 leaves-outside m c _ unchanged = same _ _ c
-leaves-outside m c _ (changed {d} l h at n x i) =
+leaves-outside m c _ (changed {d} l h at n x i q) =
     let f = bytes-outside m d at n x i in
     let g = leaves-outside m c d l in
     record { before = f .before ∙ g .before; after = f .after ∙ g .after }
 
-reset-outside : (c : List ℕ) (m g : ℕ) → DifferAtMost m (resetMember c m g .1) c
-unfolding resetMember withFresh
-reset-outside c m g =
-    on-member-cases c m _ (λ (y : EventAnswer × List ℕ). DifferAtMost m (y .1) c) (λ a d. same _ _ c)
-    (λ s h. bytes-outside m c 0 recordSize _ (omega arith))
+-- both halves of a reset
+EventOutside : ℕ → List ℕ → EventAnswer × List ℕ → Type 0
+EventOutside m c y = DifferAtMost m (y .1) c
+
+back-outside : (c : List ℕ) (m : ℕ) → EventOutside m c (handBack c m)
+unfolding handBack withHandedBack withMember withHolding EventOutside
+back-outside c m =
+    on-member-cases c m _ (EventOutside m c) (λ a d. same _ _ c) λ s h.
+    unless-cases (EventOutside m c) _ _ _ (λ t. same _ _ c) λ t.
+    let f = bytes-outside m c memberBytesAt memberSize (memberBytes (handedBack (memberIn c m))) (omega arith) in
+    let g = bytes-outside m _ holdingAt holdingSize noBytes (omega arith) in
+    record { before = g .before ∙ f .before; after = g .after ∙ f .after }
+
+wipe-outside : (c : List ℕ) (m g : ℕ) → EventOutside m c (wipe c m g)
+unfolding wipe withRecord EventOutside
+wipe-outside c m g =
+    on-member-cases c m _ (EventOutside m c) (λ a d. same _ _ c) λ s h.
+    unless-cases (EventOutside m c) _ _ _ (λ t. same _ _ c) (λ t. bytes-outside m c 0 recordSize _ (omega arith))
 
 -- ---- a command, by its opcode ----
 
@@ -78,6 +93,7 @@ unfolding askIn askOf framedOf
 ask-at c r op e P f g =
     rw e
     (unless-cases P _ _ _ (λ t. f _) λ t.
+    unless-cases P _ _ _ (λ t. f _) λ t.
     unless-cases P _ _ _ (λ t. f _) λ t.
     unless-cases P _ _ _ (λ t. f _) λ t.
     unless-cases P _ _ _ (λ t. f _) λ t. g)
@@ -116,20 +132,19 @@ module _ (c : List ℕ) (s : Sound c) (r : List ℕ) where
   abbrev StaysAs : List ℕ → Type 0
   StaysAs d = Kept (memberIn c m) (memberIn d m)
 
-  put-kept : (id : ℕ) → Named (setupOf c .members) r m → id < setupOf c .gets + setupOf c .sets
+  put-kept : (id : ℕ) → NamedIn c r m → id < setupOf c .gets + setupOf c .sets
       → StaysAs (perform c r (Change m (SetParts id)) .card)
   unfolding perform
   put-kept id n b =
-      let h = inside 1 _ m (n .low) (n .high) in
+      let h = named-here c r m n in
       let x = sound-member-in c s m h in
-      let y = change-sound (setupOf c .queues) _ _ (givenList r) (SetParts id) (memberIn c m) _ b x in
+      let y = change-sound (setupOf c .queues) _ _ (givenList r) (SetParts id) (memberIn c m) _ b (named-unmarked c r m n) x in
       rw (member-same c m _ (sound-has c s m h) (y .shaped)) (set-kept (setupOf c .queues) (setupOf c .gets) (setupOf c .sets) id (givenList r) (memberIn c m))
 
-  asked-kept : opcodeOf r ≡ 0x10 → Facts (setupOf c .members) (setupOf c .gets + setupOf c .sets) r (askIn c r)
-      → StaysAs (perform c r (askIn c r) .card)
+  asked-kept : opcodeOf r ≡ 0x10 → FactsIn c r (askIn c r) → StaysAs (perform c r (askIn c r) .card)
   unfolding fieldsOf setIn perform if_then_else_ Kept
   asked-kept e =
-      let P : Ask → Type 0 = λ a. Facts (setupOf c .members) (setupOf c .gets + setupOf c .sets) r a → StaysAs (perform c r a .card) in
+      let P : Ask → Type 0 = λ a. FactsIn c r a → StaysAs (perform c r a .card) in
       ask-at c r 0x10 e P (λ a f. (refl, refl))
       (unless-cases P _ _ _ (λ t f. (refl, refl)) (λ t f. put-kept _ (f .0) (f .1)))
 
@@ -142,10 +157,11 @@ set-keeps c r room e =
 -- ---- the claim ----
 
 pub integrity : Integrity
-unfolding step Kept
+unfolding step Kept EventOutside
 integrity = record {
   named = λ c m x n. leaves-outside m c _ (named-leaves m c x n);
-  reset = reset-outside;
+  handedBack = back-outside;
+  wiped = wipe-outside;
   listUse = λ c r room. use-outside c r _;
   partsSet = λ c r room. set-keeps c r _;
 }

@@ -8,10 +8,10 @@ use native.Mathlib.Omega.{arith}
 use lib.ListN.{length, getD, take, drop, replicate}
 use Rattle.theory.specs.Bytes.{same}
 use Rattle.theory.proofs.Tests.{same-true}
-use Rattle.theory.specs.Machine.{trace, seen, visible}
-use Rattle.card.specs.Layout.{recordSize, recordAt, isMember}
+use Rattle.theory.specs.Machine.{trace, run, seen, visible}
+use Rattle.card.specs.Layout.{recordSize, recordAt, isMember, isMarked}
 use Rattle.card.specs.Sound.{isSound}
-use Rattle.demands.specs.Calls.{Call, memberReset, cardStore, step, names, ofMember}
+use Rattle.demands.specs.Calls.{Call, handBack, wipe, cardStore, answered, step, names, ofWipe}
 use Rattle.host.specs.Request.{getAll}
 use Rattle.demands.specs.Claims.{DifferAtMost}
 use Rattle.demands.specs.Examples.{exampleCard, send, useList, create, setMode}
@@ -25,12 +25,13 @@ card₁ = step exampleCard (useList 0x3fc03) .0
 card₂ : List ℕ
 card₂ = step (step card₁ (create 0 0) .0) (setMode 1 1) .0
 
--- a queue address of member 1 is stored; member 2 is stopped in both; then member 1 is reset and asked again
+-- a queue address of member 1 is stored; member 2 is stopped in both. Member 1 is handed back: a command for it is refused, and
+-- a card store for it works. Then it is wiped and asked again
 calls₁ : List Call
-calls₁ = cardStore 1 0x104 0 (0 ∷ 1 ∷ replicate 30 0xaa) ∷ setMode 2 1 ∷ []
+calls₁ = cardStore 1 0x104 0 (0 ∷ 1 ∷ replicate 30 0xaa) ∷ setMode 2 1 ∷ handBack 1 ∷ create 0 0 ∷ []
 
 calls₂ : List Call
-calls₂ = setMode 2 1 ∷ create 1 1 ∷ send (getAll 1 0) ∷ []
+calls₂ = setMode 2 1 ∷ create 1 1 ∷ send (getAll 1 0) ∷ handBack 1 ∷ cardStore 1 0x103 0 (5 ∷ []) ∷ []
 
 later : List Call
 later = create 0 0 ∷ send (getAll 1 0) ∷ []
@@ -64,6 +65,14 @@ same-before = refl
 same-but-member : DifferAtMost 1 card₁ card₂
 same-but-member = record { before = same-before; after = same-true _ _ same-after }
 
+same-mark : isMarked card₁ 1 ≡ isMarked card₂ 1
+unfolding example
+same-mark = refl
+
+wipe-answers : step (run step card₁ calls₁) (wipe 1 7) .1 ≡ answered 0
+unfolding example
+wipe-answers = refl
+
 same-struck-out : visible (names 1) calls₁ ≡ visible (names 1) calls₂
 unfolding example
 same-struck-out = refl
@@ -78,13 +87,13 @@ sequences-differ : length calls₁ ≢ length calls₂
 unfolding example
 sequences-differ = omega arith
 
--- one reply before the reset, the reset, and two calls after it
-sees-four : length (seen (names 1) (length calls₁) (trace step card₁ (calls₁ ++ memberReset 1 7 ∷ later))) ≡ 4
+-- two replies before the wipe, the wipe, and two calls after it
+sees-five : length (seen (names 1) (length calls₁) (trace step card₁ (calls₁ ++ wipe 1 7 ∷ later))) ≡ 5
 unfolding example
-sees-four = refl
+sees-five = refl
 
-isolated : seen (names 1) (length calls₁) (trace step card₁ (calls₁ ++ memberReset 1 7 ∷ later))
-    ≡ seen (names 1) (length calls₂) (trace step card₂ (calls₂ ++ memberReset 1 7 ∷ later))
+isolated : seen (names 1) (length calls₁) (trace step card₁ (calls₁ ++ wipe 1 7 ∷ later))
+    ≡ seen (names 1) (length calls₂) (trace step card₂ (calls₂ ++ wipe 1 7 ∷ later))
 isolated =
-    isolation card₁ card₂ sound₁ sound₂ 1 member-here same-but-member
-    calls₁ calls₂ same-struck-out (memberReset 1 7) ofMember later
+    isolation card₁ card₂ sound₁ sound₂ 1 member-here same-but-member same-mark
+    calls₁ calls₂ same-struck-out (wipe 1 7) (rw wipe-answers ofWipe) later

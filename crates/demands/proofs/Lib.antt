@@ -19,6 +19,8 @@ pub mod RestoreMask
 pub mod MessageMask
 pub mod Isolation
 pub mod IsolationExample
+pub mod Halves
+pub mod HalvesExample
 pub mod Integrity
 pub mod Commutation
 pub mod CommutationExample

@@ -16,22 +16,22 @@ use Rattle.objects.specs.Objects.{count, allUpTo, withinLimits}
 use Rattle.member.specs.Record.{memberOf, memberBytes}
 use Rattle.member.specs.Objects.{lookupOf, withObject}
 use Rattle.member.specs.Member.{freshOf}
-use Rattle.member.specs.Sound.{soundRecord}
+use Rattle.member.specs.Sound.{soundMark, soundRecord}
 use Rattle.changes.specs.Changes.{limited, createOf, modifyOf, destroyOf, setPartsOf}
 use Rattle.reads.specs.Reads.{queryOf, throughGet, selectedOf}
-use Rattle.card.specs.Layout.{setupIn, setupOf, inUseOf, withInUse, recordBytes, withRecordBytes, memberIn, withMember, configurationIn, generationIn, withConfiguration, noConfiguration, holdingIn, withHolding, noBytes, freshRecord, withFresh, freshHeader, freshCard}
+use Rattle.card.specs.Layout.{setupIn, setupOf, inUseOf, withInUse, recordBytes, withRecordBytes, memberIn, withMember, isMarked, configurationIn, generationIn, withConfiguration, noConfiguration, holdingIn, withHolding, noBytes, recordOf, withRecord, freshHeader, freshCard}
 use Rattle.card.specs.Sound.{inNumbers, soundSetup, soundUpTo, isSound}
-use Rattle.events.specs.Events.{setUp, memberAnswer, ifDone, onMember, resetMember, resetCard, storeIn, store}
+use Rattle.events.specs.Events.{setUp, memberAnswer, ifDone, onMember, withHandedBack, handBack, wipe, resetCard, storeIn, store}
 use Rattle.frame.specs.Fields.{objectValid, flagsValid, kindValid, createIn, modifyIn, queryIn, destroyIn, metadataIn, getIn, setIn, modeIn, useIn, fieldsOf}
-use Rattle.frame.specs.Ask.{usable, reaches, framedOf, askOf}
+use Rattle.frame.specs.Ask.{usable, reaches, attended, framedOf, askOf}
 use Rattle.reply.specs.Result.{numberBytes, resultOf}
 use Rattle.reply.specs.Reply.{headOf, finalOf, replyOf, replied}
 use Rattle.admin.specs.Command.{askIn, perform, conclude, respond}
 use Rattle.staging.specs.Staging.{withHeldBytes, withoutHeld, memberRefusal, openRefusal, ifNone, onMember as onRestoring, onOpen, beginOf, feedOf, finishOf, dropOf}
 use Rattle.staging.specs.Claims.{joined as fragmentsJoined, fed}
 use Rattle.message.specs.Format.{responseHeader, responseFields, responseOf}
-use Rattle.message.specs.Access.{isRequest, readIn, writeIn, wholeOf, speaksFor, accessOf}
-use Rattle.message.specs.Message.{isInside, readable, isApplied, nextGeneration, appliedTo, actOf, fitting, answerOf, delivered, messageOf}
+use Rattle.message.specs.Access.{isRequest, readIn, writeIn, wholeOf, speaksFor}
+use Rattle.message.specs.Message.{accessIn, isInside, readable, isApplied, nextGeneration, appliedTo, actOf, fitting, answerOf, delivered, messageOf}
 use Rattle.demands.specs.Calls.{refused, step, names}
 use Rattle.demands.specs.Statuses.{firstOf, namesObject, hasFlags, hasKind, needsGet, badField, badList, askedSize, resultSize, rowsAt}
 use Rattle.host.specs.Request.{sentOf, objectHeader, before, fixedOf, listFor, request, startWith, requestOf}
@@ -43,13 +43,13 @@ unfolding if_then_else_ unless_answer_then_ _and_ _or_ within indicator put repe
     inventoryRows rowAt present offsetOf selectorOf isRow seek placeOf powerBelow ringSize queueAllowed valueAllowed queuesAllowed headerOf headerAt stepAt atMost partsFrom
     known knownOrSkipped lengthRight sizeRight featuresSame asksKnown whole every among repeated causeIn askedIn storable stored applied
     headerItem headersOf partAt asks partItem partsWritten memberOf memberBytes lookupOf withObject count allUpTo withinLimits
-    freshOf soundRecord limited createOf modifyOf destroyOf setPartsOf queryOf throughGet selectedOf
-    setupIn setupOf inUseOf withInUse recordBytes withRecordBytes memberIn withMember configurationIn generationIn withConfiguration noConfiguration holdingIn withHolding noBytes freshRecord withFresh freshHeader freshCard inNumbers soundSetup soundUpTo isSound
-    setUp memberAnswer ifDone onMember resetMember resetCard storeIn store
+    freshOf soundMark soundRecord limited createOf modifyOf destroyOf setPartsOf queryOf throughGet selectedOf
+    setupIn setupOf inUseOf withInUse recordBytes withRecordBytes memberIn withMember isMarked configurationIn generationIn withConfiguration noConfiguration holdingIn withHolding noBytes recordOf withRecord freshHeader freshCard inNumbers soundSetup soundUpTo isSound
+    setUp memberAnswer ifDone onMember withHandedBack handBack wipe resetCard storeIn store
     objectValid flagsValid kindValid createIn modifyIn queryIn destroyIn metadataIn getIn setIn modeIn useIn fieldsOf
-    usable reaches framedOf askOf numberBytes resultOf headOf finalOf replyOf replied askIn perform conclude respond
+    usable reaches attended framedOf askOf numberBytes resultOf headOf finalOf replyOf replied askIn perform conclude respond
     withHeldBytes withoutHeld memberRefusal openRefusal ifNone onRestoring onOpen beginOf feedOf finishOf dropOf fragmentsJoined fed
-    responseHeader responseFields responseOf isRequest readIn writeIn wholeOf speaksFor accessOf isInside readable isApplied nextGeneration appliedTo actOf fitting answerOf delivered messageOf
+    responseHeader responseFields responseOf isRequest readIn writeIn wholeOf speaksFor accessIn isInside readable isApplied nextGeneration appliedTo actOf fitting answerOf delivered messageOf
     refused step names
     firstOf namesObject hasFlags hasKind needsGet badField badList askedSize resultSize rowsAt
     sentOf objectHeader before fixedOf listFor request startWith requestOf exampleCard headersListed joined nineHeaders nineParts workedExamples repliesTo lastSize

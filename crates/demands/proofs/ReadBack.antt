@@ -13,7 +13,7 @@ use Rattle.theory.proofs.Tests.{by-cases, if-cases, unless-cases, both, inside}
 use Rattle.wire.specs.Le.{bytes, number}
 use Rattle.wire.proofs.Le.{le-bytes}
 use Rattle.protocol.specs.declared.Answer.{Answer}
-use Rattle.protocol.specs.declared.Answer.the-variants.{Done, BadLength, BadGroup, BadOpcode, NoMember, BadField, Exists, NotLive, NoRoom, WrongKind, Running, BadList, ShortReply}
+use Rattle.protocol.specs.declared.Answer.the-variants.{Done, BadLength, BadGroup, BadOpcode, NoMember, Marked, BadField, Exists, NotLive, NoRoom, WrongKind, Running, BadList, ShortReply}
 use Rattle.protocol.specs.declared.Body.{Body}
 use Rattle.protocol.specs.declared.Body.the-variants as body
 use Rattle.protocol.specs.declared.Metadata.{Metadata}
@@ -42,7 +42,6 @@ use Rattle.frame.specs.declared.Ask.the-variants.{Refused, QueryList, UseList, 
 use Rattle.frame.specs.Frame.{typeAt}
 use Rattle.frame.specs.Fields.{metadataIs, createIn, modifyIn, queryIn, destroyIn, metadataIn, getIn, setIn, modeIn, useIn, fieldsOf}
 use Rattle.frame.specs.Ask.{framedOf, askOf}
-use Rattle.frame.proofs.Asked.{Facts, asked}
 use Rattle.reply.specs.Result.{numberBytes, resultOf}
 use Rattle.reply.proofs.Result.{number-long}
 use Rattle.reply.specs.Reply.{headSize, headOf, finalOf, replyOf}
@@ -55,7 +54,7 @@ use Rattle.host.specs.Request.{sentOf, requestOf}
 use Rattle.host.specs.Reply.{formOf, countFits, resultFits, lengthRight, knownStatus, handledStatus, handledQualifier, readReply}
 use Rattle.host.proofs.Request.{command-supported, opcode-small, opcode-request, data-request}
 use Rattle.demands.specs.Host.{effectIn, answerIn, told, ReadBack}
-use Rattle.admin.proofs.Respond.{respond-is}
+use Rattle.admin.proofs.Respond.{FactsIn, asked-of, respond-is}
 use Rattle.host.proofs.Asked.{dataFor, laid, request-is}
 
 -- ---- what is asked fixes the form of the result ----
@@ -120,17 +119,18 @@ fields-ask ids m (host.Set k id) list what w t = unless-cases (Asks (Exactly 0))
 fields-ask ids m (host.SetMode k mode) list what w t = unless-cases (Asks (Exactly 0)) _ _ _ (λ e. refl) (λ e. refl)
 
 -- steps 2 to 7
-request-asks : (members ids inUse : ℕ) (x : Command) (list : List ℕ) (what : ℕ) → what < 256 → TypeOf x what
-    → Asks (formOf (sentOf x .opcode) what) (askOf members ids inUse (requestOf x list))
+request-asks : (members ids inUse : ℕ) (marked : Bool) (x : Command) (list : List ℕ) (what : ℕ) → what < 256 → TypeOf x what
+    → Asks (formOf (sentOf x .opcode) what) (askOf members ids inUse marked (requestOf x list))
 unfolding askOf framedOf
-request-asks members ids inUse x list what w t =
+request-asks members ids inUse marked x list what w t =
     let P = Asks (formOf (sentOf x .opcode) what) in
     unless-cases P _ _ _ (λ e. refl) (λ e.
     unless-cases P _ _ _ (λ e. refl) (λ e.
     unless-cases P _ _ _ (λ e. refl) (λ e.
     unless-cases P _ _ _ (λ e. refl) (λ e.
+    unless-cases P _ _ _ (λ e. refl) (λ e.
     rw (request-is x list, opcode-request (sentOf x .opcode) 1 (sentOf x .member) (dataFor x list) (opcode-small x), data-request)
-    (fields-ask ids _ x list what w t)))))
+    (fields-ask ids _ x list what w t))))))
 
 -- ---- the result has the form of what is asked ----
 
@@ -182,7 +182,7 @@ module _ (queues : ℕ) (list values : List ℕ) (few : queues < 5) (long : leng
       (λ e. success-fits WholeParts body.Selected (written-whole Asked queues list values long)))
   reading-fits m (GetAll id) = through-get WholeParts id m _ (success-fits WholeParts body.All (written-whole All queues [] values long))
 
-effect-fits : (c r : List ℕ) → Sound c → (form : ResultForm) (a : Ask) → Facts (setupOf c .members) (setupOf c .gets + setupOf c .sets) r a
+effect-fits : (c r : List ℕ) → Sound c → (form : ResultForm) (a : Ask) → FactsIn c r a
     → Asks form a → isDone (perform c r a .outcome) ≡ true → resultFits form (perform c r a .result) ≡ true
 unfolding perform resultFits bytes
 effect-fits c r x form (Refused a) f h d = cc
@@ -207,6 +207,7 @@ all-readable BadLength = refl
 all-readable BadGroup = refl
 all-readable BadOpcode = refl
 all-readable NoMember = refl
+all-readable Marked = refl
 all-readable BadField = refl
 all-readable Exists = refl
 all-readable NotLive = refl
@@ -276,15 +277,11 @@ final-done a size room = by-cases (isDone a) (λ d e. d) (λ d. rw d (λ e. sym 
 
 -- ---- the claim ----
 
-asked-in : (c r : List ℕ) → Facts (setupOf c .members) (setupOf c .gets + setupOf c .sets) r (askIn c r)
-unfolding askIn
-asked-in c r = asked (setupOf c .members) (setupOf c .gets + setupOf c .sets) r (inUseOf c) _ refl
-
 request-asks-in : (c : List ℕ) (x : Command) (list : List ℕ) (what : ℕ) → what < 256 → TypeOf x what
     → Asks (formOf (sentOf x .opcode) what) (askIn c (requestOf x list))
 unfolding askIn
 request-asks-in c x list what w t =
-    request-asks (setupOf c .members) (setupOf c .gets + setupOf c .sets) (inUseOf c) x list what w t
+    request-asks (setupOf c .members) (setupOf c .gets + setupOf c .sets) (inUseOf c) _ x list what w t
 
 pub read-back : ReadBack
 unfolding replyOf
@@ -294,7 +291,7 @@ read-back c x list room what sound h w t =
     let e = effectIn c r in
     let a = answerIn c r room in
     let fits : isDone (e .outcome) ≡ true → resultFits (formOf op what) (e .result) ≡ true =
-    effect-fits c r (sound-of c sound) (formOf op what) (askIn c r) (asked-in c r) (request-asks-in c x list what w t) in
+    effect-fits c r (sound-of c sound) (formOf op what) (askIn c r) (asked-of c r) (request-asks-in c x list what w t) in
     record {
       outcome =
           rw (respond-is c r room h sound)

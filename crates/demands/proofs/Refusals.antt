@@ -10,15 +10,15 @@ use Rattle.theory.specs.Logic.{if_then_else_, unless_answer_then_}
 use Rattle.theory.proofs.Tests.{by-cases, unless-cases, and-false}
 use Rattle.wire.specs.Le.{le, bytes, number}
 use Rattle.protocol.specs.declared.Answer.{Answer}
-use Rattle.protocol.specs.declared.Answer.the-variants.{Done, BadLength, BadGroup, BadOpcode, NoMember, BadField, Exists, NotLive, NoRoom, WrongKind, Running, BadList, ShortReply}
+use Rattle.protocol.specs.declared.Answer.the-variants.{Done, BadLength, BadGroup, BadOpcode, NoMember, Marked, BadField, Exists, NotLive, NoRoom, WrongKind, Running, BadList, ShortReply}
 use Rattle.protocol.specs.declared.EventAnswer.{EventAnswer}
 use Rattle.protocol.specs.Answers.{statusOf, isDone, eventNumber}
 use Rattle.card.specs.Sound.{isSound}
-use Rattle.events.specs.Events.{resetMember, resetCard, storeIn, store}
+use Rattle.events.specs.Events.{handBack as handBackOf, wipe as wipeOf, resetCard, storeIn, store}
 use Rattle.events.proofs.Cases.{if-done-cases, on-unsound, on-member-cases}
 use Rattle.reply.specs.Reply.{headOf, replyOf}
 use Rattle.admin.specs.Command.{askIn, perform, respond}
-use Rattle.demands.specs.Calls.{Call, command, memberReset, cardReset, cardStore, restoreBegin, restoreFeed, restoreFinish, restoreDrop, message, written, answered, refused, step}
+use Rattle.demands.specs.Calls.{Call, command, handBack, wipe, cardReset, cardStore, restoreBegin, restoreFeed, restoreFinish, restoreDrop, message, written, answered, refused, step}
 use Rattle.demands.specs.Claims.{afterRefusal, RefusalsChangeNothing}
 use Rattle.admin.proofs.Respond.{lastAnswer, respond-none, respond-cases}
 use Rattle.staging.specs.Staging.{withoutHeld, beginOf, feedOf, finishOf, dropOf}
@@ -69,6 +69,7 @@ done-zero BadLength result e = never e
 done-zero BadGroup result e = never e
 done-zero BadOpcode result e = never e
 done-zero NoMember result e = never e
+done-zero Marked result e = never e
 done-zero BadField result e = never e
 done-zero Exists result e = never e
 done-zero NotLive result e = never e
@@ -96,7 +97,7 @@ respond-four c r room =
 begin-keeps : (c : List ℕ) (m : ℕ) → KeepsRestore c (beginOf c m)
 unfolding KeepsRestore beginOf refused
 begin-keeps c m =
-    restore-cases c m _ (KeepsRestore c) (λ a e. refl) (λ s h. unless-cases (KeepsRestore c) _ _ _ (λ t e. refl) (λ t e. cc))
+    restore-cases c m _ (KeepsRestore c) (λ a e. refl) (λ p. unless-cases (KeepsRestore c) _ _ _ (λ t e. refl) (λ t e. cc))
 
 feed-drops : (c : List ℕ) (m : ℕ) (x : List ℕ) → DropsAlike (feedOf c m x) (dropOf c m)
 unfolding DropsAlike feedOf dropOf refused
@@ -116,9 +117,12 @@ drop-keeps c m = on-open-cases c m _ (KeepsRestore c) (λ a e. refl) (λ p e. cc
 -- ---- every call ----
 
 pub refusals-change-nothing : RefusalsChangeNothing
-unfolding step resetMember resetCard store storeIn refused KeepsEvent afterRefusal KeepsRestore DropsAlike
+unfolding step handBackOf wipeOf resetCard store storeIn refused KeepsEvent afterRefusal KeepsRestore DropsAlike
 refusals-change-nothing c (command r room) = respond-keeps c r _
-refusals-change-nothing c (memberReset m g) = on-member-cases c m _ (KeepsEvent c) (λ a d e. refl) (λ s h e. cc)
+refusals-change-nothing c (handBack m) =
+    on-member-cases c m _ (KeepsEvent c) (λ a d e. refl) (λ s h. unless-cases (KeepsEvent c) _ _ _ (λ t e. refl) (λ t e. cc))
+refusals-change-nothing c (wipe m g) =
+    on-member-cases c m _ (KeepsEvent c) (λ a d e. refl) (λ s h. unless-cases (KeepsEvent c) _ _ _ (λ t e. refl) (λ t e. cc))
 refusals-change-nothing c (cardReset g) =
     unless-cases (KeepsEvent c) _ _ _ (λ t e. refl) (λ t e. cc)
 refusals-change-nothing c (cardStore m t s value) =
@@ -132,9 +136,10 @@ refusals-change-nothing c (message x room) = λ e. no-data-keeps c x room (eqb-t
 
 -- a card that is not sound stays
 pub unsound-stays : (c : List ℕ) (x : Call) → isSound c ≡ false → step c x .0 ≡ c
-unfolding step resetMember resetCard store beginOf feedOf finishOf dropOf unless_answer_then_
+unfolding step handBackOf wipeOf resetCard store beginOf feedOf finishOf dropOf unless_answer_then_
 unsound-stays c (command r room) e = ap (λ (y : List ℕ × List ℕ). y .0) (respond-none c r _ (rw e (and-false _)))
-unsound-stays c (memberReset m g) e = rw (on-unsound c m _ e)
+unsound-stays c (handBack m) e = rw (on-unsound c m _ e)
+unsound-stays c (wipe m g) e = rw (on-unsound c m _ e)
 unsound-stays c (cardReset g) e = rw e
 unsound-stays c (cardStore m t s value) e = rw (on-unsound c m _ e)
 unsound-stays c (restoreBegin m) e = rw (on-member-unsound c m _ e)

@@ -1,7 +1,7 @@
 -- What the calls of a restore in fragments do to the masked card of Mask.antt, for another member. Assumes nothing.
 use mathlib.Core.Path.{_≡_, refl, ap, sym, _∙_}
 use mathlib.Core.Logic.{_≢_}
-use mathlib.Core.Bool.{true}
+use mathlib.Core.Bool.{true, not}
 use mathlib.Core.List.{List}
 use Prim.Native.Nat.{ℕ, _+_, _-_, _≤_}
 use native.Mathlib.Omega.{arith}
@@ -12,11 +12,12 @@ use Rattle.theory.specs.Logic.{unless_answer_then_}
 use Rattle.theory.proofs.Tests.{by-cases, within-low}
 use Rattle.wire.specs.Le.{number}
 use Rattle.member.specs.declared.Member.{Member}
-use Rattle.member.specs.Record.{memberSize, holdingSize, memberBytes}
+use Rattle.member.specs.Record.{holdingSize}
 use Rattle.member.specs.Member.{withHeld}
-use Rattle.card.specs.Layout.{inUseAt, memberBytesAt, holdingAt, setupOf, isMember, memberIn, withMember, holdingIn, withHolding, noBytes}
+use Rattle.card.specs.Layout.{holdingAt, cardSize, setupOf, isMember, memberIn, withMember, isMarked, holdingIn, withHolding, noBytes}
 use Rattle.card.specs.Sound.{isSound}
-use Rattle.card.proofs.LayoutLaws.{length-with-member, setup-with-bytes, setup-with-fresh, fresh-other, fresh-apart, fresh-swap}
+use Rattle.card.proofs.LayoutLaws.{length-with-member, setup-with-member, length-with-holding, setup-with-holding, setup-with-record, record-other, record-apart}
+use Rattle.card.proofs.SoundLaws.{member-small}
 use Rattle.host.specs.Request.{setParts}
 use Rattle.reply.specs.Reply.{headSize}
 use Rattle.admin.specs.Command.{respond}
@@ -25,8 +26,8 @@ use Rattle.staging.proofs.Refusals.{on-member-sound, on-open-sound}
 use Rattle.staging.proofs.Places.{has, held-short}
 use Rattle.demands.specs.Calls.{command, step}
 use Rattle.demands.proofs.Sound.{stays-sound}
-use Rattle.demands.proofs.Named.{names-set, member-small}
-use Rattle.demands.proofs.Mask.{mask, mask-mask, mask-bytes, mask-member, has-head, masked-sound, respond-answers}
+use Rattle.demands.proofs.Named.{names-set}
+use Rattle.demands.proofs.Mask.{mask, mask-mask, swap-member, swap-holding, mask-member, is-whole, masked-sound, masked-mark, respond-answers}
 
 -- the same answer, and cards with the same mask
 pub record Alike (m : ℕ) (x y : ℕ × List ℕ) : Type 0 where
@@ -38,31 +39,24 @@ pub record Alike (m : ℕ) (x y : ℕ × List ℕ) : Type 0 where
 module _ (m : ℕ) (low : 1 ≤ m) (k : ℕ) (l : 1 ≤ k) (o : k ≢ m) where
   module _ (c : List ℕ) where
     member-unmasked : memberIn (mask m c) k ≡ memberIn c k
-    member-unmasked = fresh-other c m (setupOf c .features) 0 k low l o
+    member-unmasked = record-other c m _ 0 k low l o
 
     bytes-unmasked : holdingIn (mask m c) k ≡ holdingIn c k
     unfolding holdingIn
-    bytes-unmasked = fresh-apart c m (setupOf c .features) 0 k holdingAt holdingSize (omega arith) low l o
+    bytes-unmasked = record-apart c m _ 0 k holdingAt holdingSize (omega arith) low l o
 
     number-unmasked : heldIn (mask m c) k ≡ heldIn c k
     number-unmasked = ap (λ (x : Member). x .held) member-unmasked
 
-    swap-member : (x : Member) → withMember (mask m c) k x ≡ mask m (withMember c k x)
-    unfolding withMember
-    swap-member x = rw setup-with-bytes (fresh-swap c m (setupOf c .features) 0 k memberBytesAt memberSize (memberBytes x) low (omega arith) l o)
-
   -- it is changed in the masked card alike
-  mask-holding : (c : List ℕ) → inUseAt ≤ length c → (x : List ℕ) → mask m (withHolding (mask m c) k x) ≡ mask m (withHolding c k x)
-  unfolding withHolding
-  mask-holding c long x = mask-bytes m low c long k holdingAt holdingSize x (omega arith) l o
-
-  module _ (c : List ℕ) (long : inUseAt ≤ length c) where
+  module _ (c : List ℕ) (whole : length c ≡ cardSize (setupOf c .members)) where
     mask-held : (n : ℕ) (x : List ℕ) → mask m (withHeldBytes (mask m c) k n x) ≡ mask m (withHeldBytes c k n x)
     unfolding withHeldBytes
     mask-held n x =
-        ap (λ (y : Member). mask m (withHolding (withMember (mask m c) k (withHeld y n)) k x)) (member-unmasked c)
-        ∙ ap (λ d. mask m (withHolding d k x)) (swap-member c (withHeld (memberIn c k) n))
-        ∙ mask-holding (withMember c k (withHeld (memberIn c k) n)) (rw length-with-member long) x
+        let y = withHeld (memberIn c k) n in
+        ap (mask m) (rw (member-unmasked c, swap-member m low c k y l o) (swap-holding m low (withMember c k y) k x l o))
+        ∙ mask-mask m (withHolding (withMember c k y) k x)
+        (rw (length-with-holding, length-with-member, setup-with-holding, setup-with-member) whole)
 
     mask-gone : mask m (withoutHeld (mask m c) k) ≡ mask m (withoutHeld c k)
     unfolding withoutHeld
@@ -71,28 +65,31 @@ module _ (m : ℕ) (low : 1 ≤ m) (k : ℕ) (l : 1 ≤ k) (o : k ≢ m) where
 -- ---- the calls ----
 
 module _ (m : ℕ) (low : 1 ≤ m) (c : List ℕ) (e : isSound c ≡ true) (k : ℕ) (o : k ≢ m) where
-  long : inUseAt ≤ length c
-  long = has-head m low c e
+  whole : length c ≡ cardSize (setupOf c .members)
+  whole = is-whole m low c e
 
   masked : isSound (mask m c) ≡ true
   masked = masked-sound m low c e
 
   unchanged : (n : ℕ) → Alike m (n, mask m c) (n, c)
-  unchanged n = record { says = refl; cards = mask-mask m c long }
+  unchanged n = record { says = refl; cards = mask-mask m c whole }
 
   on-member-alike : (x y : ℕ × List ℕ) → (isMember c k ≡ true → Alike m x y) → Alike m (onMember (mask m c) k x) (onMember c k y)
   unfolding unless_answer_then_
   on-member-alike x y f =
-      rw (on-member-sound (mask m c) k x masked, on-member-sound c k y e, setup-with-fresh)
-      (by-cases (isMember c k) (λ t. rw t (f t)) (λ t. rw t (unchanged _)))
+      rw (on-member-sound (mask m c) k x masked, on-member-sound c k y e, setup-with-record, masked-mark m low c e k)
+      (by-cases (isMember c k)
+      (λ t. rw t (by-cases (isMarked c k) (λ u. rw u (unchanged _)) (λ u. rw u (f t))))
+      (λ t. rw t (unchanged _)))
 
   on-open-alike : (x y : ℕ × List ℕ) → (isMember c k ≡ true → Alike m x y) → Alike m (onOpen (mask m c) k x) (onOpen c k y)
   unfolding unless_answer_then_
   on-open-alike x y f =
-      rw (on-open-sound (mask m c) k x masked, on-open-sound c k y e, setup-with-fresh)
+      rw (on-open-sound (mask m c) k x masked, on-open-sound c k y e, setup-with-record, masked-mark m low c e k)
       (by-cases (isMember c k)
       (λ t. rw (t, number-unmasked m low k (within-low _ _ k t) o c)
-      (by-cases (isOpen c k) (λ u. rw u (f t)) (λ u. rw u (unchanged _))))
+      (by-cases (isMarked c k) (λ v. rw v (unchanged _)) λ v. rw v
+      (by-cases (isOpen c k) (λ u. rw u (f t)) (λ u. rw u (unchanged _)))))
       (λ t. rw t (unchanged _)))
 
   pub begin-alike : Alike m (beginOf (mask m c) k) (beginOf c k)
@@ -101,7 +98,7 @@ module _ (m : ℕ) (low : 1 ≤ m) (c : List ℕ) (e : isSound c ≡ true) (k : 
       let l = within-low _ _ k h in
       rw (number-unmasked m low k l o c, member-unmasked m low k l o c)
       (by-cases (eqb (heldIn c k) 0)
-      (λ t. rw t (record { says = refl; cards = mask-member m low c long k _ l o }))
+      (λ t. rw t (record { says = refl; cards = mask-member m low c whole k _ l o }))
       (λ t. rw t (unchanged _)))
 
   pub feed-alike : (x : List ℕ) → Alike m (feedOf (mask m c) k x) (feedOf c k x)
@@ -110,17 +107,18 @@ module _ (m : ℕ) (low : 1 ≤ m) (c : List ℕ) (e : isSound c ≡ true) (k : 
       let l = within-low _ _ k h in
       rw (number-unmasked m low k l o c, bytes-unmasked m low k l o c)
       (by-cases (leb (heldIn c k - 1 + length x) holdingSize)
-      (λ t. rw t (record { says = refl; cards = mask-held m low k l o c long _ _ }))
-      (λ t. rw t (record { says = refl; cards = mask-gone m low k l o c long })))
+      (λ t. rw t (record { says = refl; cards = mask-held m low k l o c whole _ _ }))
+      (λ t. rw t (record { says = refl; cards = mask-gone m low k l o c whole })))
 
   pub drop-alike : Alike m (dropOf (mask m c) k) (dropOf c k)
   unfolding dropOf
-  drop-alike = on-open-alike _ _ λ h. record { says = refl; cards = mask-gone m low k (within-low _ _ k h) o c long }
+  drop-alike = on-open-alike _ _ λ h. record { says = refl; cards = mask-gone m low k (within-low _ _ k h) o c whole }
 
   -- the command that a finish is leaves a sound card
-  long-after : (d : List ℕ) → isSound d ≡ true → (r : List ℕ) → inUseAt ≤ length (respond d r headSize .0)
+  whole-after : (d : List ℕ) → isSound d ≡ true → (r : List ℕ)
+      → length (respond d r headSize .0) ≡ cardSize (setupOf (respond d r headSize .0) .members)
   unfolding step
-  long-after d f r = has-head m low _ (stays-sound d (command r headSize) f)
+  whole-after d f r = is-whole m low _ (stays-sound d (command r headSize) f)
 
   pub finish-alike : (id : ℕ) → Alike m (finishOf (mask m c) k id) (finishOf c k id)
   unfolding finishOf
@@ -133,7 +131,7 @@ module _ (m : ℕ) (low : 1 ≤ m) (c : List ℕ) (e : isSound c ≡ true) (k : 
       (record {
         says = ap (number 0 4) (z .0);
         cards =
-            sym (mask-gone m low k l o _ (long-after (mask m c) masked r))
+            sym (mask-gone m low k l o _ (whole-after (mask m c) masked r))
             ∙ ap (λ d. mask m (withoutHeld d k)) (z .1)
-            ∙ mask-gone m low k l o _ (long-after c e r);
+            ∙ mask-gone m low k l o _ (whole-after c e r);
       })

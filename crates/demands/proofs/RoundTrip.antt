@@ -1,7 +1,7 @@
 -- DEMAND 2: a full capture, set in a stopped member of a card with the same setup, is accepted, and a capture there gives the
 -- same bytes. Assumes nothing.
 use mathlib.Core.Path.{_≡_, refl, ap, sym, _∙_}
-use mathlib.Core.Bool.{true}
+use mathlib.Core.Bool.{true, false}
 use mathlib.Core.List.{List, [], _++_}
 use Prim.Native.Nat.{ℕ, _+_, _^_, _≤_, _<_}
 use native.Mathlib.Omega.{arith}
@@ -32,20 +32,21 @@ use Rattle.member.specs.declared.Member.{Member}
 use Rattle.member.specs.Objects.{lookupOf}
 use Rattle.member.specs.Member.{featuresIn, withValues}
 use Rattle.member.proofs.Sound.{sound-applied}
-use Rattle.member.proofs.Live.{live-below}
+use Rattle.member.proofs.Live.{live-below, live-unmarked}
 use Rattle.changes.specs.Changes.{setPartsOf}
 use Rattle.changes.proofs.Allowed.{accepted-allowed}
 use Rattle.reads.specs.Reads.{throughGet}
 use Rattle.card.specs.declared.Setup.{Setup}
-use Rattle.card.specs.Layout.{setupOf, inUseOf, isMember, memberIn, withMember}
+use Rattle.card.specs.Layout.{setupOf, inUseOf, isMember, memberIn, withMember, isMarked}
 use Rattle.card.specs.Sound.{isSound}
 use Rattle.card.proofs.LayoutLaws.{setup-with-member, use-with-member, member-same}
+use Rattle.card.proofs.MarkLaws.{marked-is}
 use Rattle.card.proofs.SoundLaws.{Sound, SoundIn, sound-of, is-sound, sound-has, sound-member-in, sound-with-member}
 use Rattle.reply.specs.Result.{resultOf}
 use Rattle.reply.specs.Reply.{headOf, finalOf, replyOf}
 use Rattle.admin.specs.Command.{askIn, effect, perform, respond}
 use Rattle.frame.specs.declared.Ask.the-variants.{Read}
-use Rattle.frame.specs.Ask.{reaches}
+use Rattle.frame.specs.Ask.{reaches, attended}
 use Rattle.host.specs.declared.Command.the-variants as host
 use Rattle.host.specs.Request.{getAll}
 use Rattle.host.proofs.Request.{request-long}
@@ -89,14 +90,19 @@ module _ (c : List ℕ) (m : ℕ) (x : Reached c m) where
   unfolding reaches
   reached op = rw (x .here) (or-true _)
 
+  -- nor is the member marked
+  unmarked : (i : ℕ) (k : ObjectKind) → lookupOf (memberIn c m) i ≡ Live k → isMarked c m ≡ false
+  unmarked i k e = marked-is c m (x .here) ∙ live-unmarked _ _ _ _ (memberIn c m) i k member e
+
   -- the request of a full capture is taken
   get-taken : (i : ℕ) → lookupOf (memberIn c m) i ≡ Live Get → bit (inUseOf c) 0x0f ≡ true → askIn c (getAll m i) ≡ Read m (GetAll i)
-  unfolding inside _and_ _or_ laid
+  unfolding inside attended _and_ _or_ laid
   get-taken i e u =
       taken c (host.Get m i 1) [] (record {
         sound = x .sound;
         inUse = u;
         member = reached 0x0f;
+        unmarked = rw (unmarked i Get e);
         fields = rw (lt-ltb i _ (valid i Get e));
         short = rw (request-long (host.Get m i 1) []) (omega arith);
       }) .asked
@@ -193,7 +199,7 @@ module _ (c : List ℕ) (m i : ℕ) (d : List ℕ) (k j l : ℕ) (x : Restorable
       let n = list-long in
       let f = few-queues in
       let v = small d k target j (valid d k target j Set (x .targetSet)) in
-      rw (captured-is r₁ h, after-head, respond-parts-set d k (x .soundTarget) (x .targetMember) r₂ g j v list (omega arith))
+      rw (captured-is r₁ h, after-head, respond-parts-set d k (x .soundTarget) (x .targetMember) (unmarked d k target j Set (x .targetSet)) r₂ g j v list (omega arith))
       (rw (set-done d k target j list (x .targetSet) (x .setInUse) (x .stopped) list-accepted))
 
   -- the target's card after it, and a capture there

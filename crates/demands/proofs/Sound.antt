@@ -4,37 +4,36 @@ use mathlib.Core.Bool.{true}
 use mathlib.Core.List.{List}
 use Prim.Native.Nat.{ℕ, _+_}
 use native.Mathlib.Omega.{arith}
-use Rattle.theory.proofs.Tests.{inside, within-low, unless-cases}
+use Rattle.theory.proofs.Tests.{within-low, unless-cases}
 use Rattle.protocol.specs.declared.EventAnswer.{EventAnswer}
 use Rattle.values.proofs.Kept.{done-allowed}
-use Rattle.member.proofs.Sound.{sound-part}
+use Rattle.member.proofs.Sound.{sound-part, sound-handed-back}
 use Rattle.changes.proofs.Kept.{change-sound}
-use Rattle.card.specs.Layout.{setupOf, isMember, memberIn}
-use Rattle.events.specs.Events.{resetMember, resetCard, storeIn, store}
+use Rattle.card.specs.Layout.{setupOf, isMember, memberIn, noBytes}
+use Rattle.events.specs.Events.{withHandedBack, handBack as handBackOf, wipe as wipeOf, resetCard, storeIn, store}
 use Rattle.events.proofs.Cases.{if-done-cases, on-member-cases}
 use Rattle.card.proofs.LayoutLaws.{features-long}
-use Rattle.card.proofs.SoundLaws.{Sound, sound-of, is-sound, numbers-sound, sound-long, sound-member-in, sound-with-member, sound-with-fresh, sound-with-configuration, sound-with-use, sound-fresh-card}
+use Rattle.card.proofs.SoundLaws.{Sound, sound-of, is-sound, numbers-sound, sound-long, sound-member-in, sound-with-member, sound-with-fresh, sound-with-configuration, sound-with-holding, sound-with-use, sound-fresh-card}
 use Rattle.frame.specs.declared.Ask.{Ask}
 use Rattle.frame.specs.declared.Ask.the-variants.{Refused, QueryList, UseList, Read, Change}
-use Rattle.frame.proofs.Asked.{Facts}
 use Rattle.admin.specs.Command.{perform, respond}
-use Rattle.demands.specs.Calls.{Call, command, memberReset, cardReset, cardStore, restoreBegin, restoreFeed, restoreFinish, restoreDrop, message, step}
+use Rattle.demands.specs.Calls.{Call, command, handBack, wipe, cardReset, cardStore, restoreBegin, restoreFeed, restoreFinish, restoreDrop, message, step}
 use Rattle.demands.specs.Claims.{StaysSound}
-use Rattle.admin.proofs.Respond.{card-cases}
+use Rattle.admin.proofs.Respond.{FactsIn, asked-of, card-cases}
+use Rattle.admin.proofs.Marks.{named-here, named-unmarked}
 use Rattle.message.proofs.Cases.{card-cases as message-cases}
 use Rattle.staging.proofs.Kept.{begin-sound, feed-sound, finish-sound, drop-sound}
-use Rattle.demands.proofs.Named.{asked-of}
 
 module _ (c : List ℕ) (s : Sound c) where
-  perform-sound : (r : List ℕ) (a : Ask) → Facts (setupOf c .members) (setupOf c .gets + setupOf c .sets) r a → Sound (perform c r a .card)
+  perform-sound : (r : List ℕ) (a : Ask) → FactsIn c r a → Sound (perform c r a .card)
   unfolding perform
   perform-sound r (Refused a) f = s
   perform-sound r QueryList f = s
   perform-sound r (UseList mask) f = sound-with-use c mask s (f .1)
   perform-sound r (Read m op) f = s
   perform-sound r (Change m op) f =
-      let x = sound-member-in c s m (inside 1 _ m (f .0 .low) (f .0 .high)) in
-      sound-with-member c m _ s (f .0 .low) (change-sound (setupOf c .queues) _ _ _ op (memberIn c m) _ (f .1) x)
+      let x = sound-member-in c s m (named-here c r m (f .0)) in
+      sound-with-member c m _ s (f .0 .low) (change-sound (setupOf c .queues) _ _ _ op (memberIn c m) _ (f .1) (named-unmarked c r m (f .0)) x)
 
   pub respond-sound : (r : List ℕ) (room : ℕ) → Sound (respond c r room .0)
   respond-sound r room = card-cases c r room Sound s (λ e. perform-sound r _ (asked-of c r))
@@ -50,10 +49,16 @@ abbrev Leaves : EventAnswer × List ℕ → Type 0
 Leaves y = Sound (y .1)
 
 step-sound : (c : List ℕ) (x : Call) → Sound c → Sound (step c x .0)
-unfolding step resetMember resetCard store
+unfolding step handBackOf withHandedBack wipeOf resetCard store
 step-sound c (command r room) s = respond-sound c s r _
-step-sound c (memberReset m g) s =
-    on-member-cases c m _ Leaves (λ a d. s) (λ e h. sound-with-fresh c m g s (within-low _ _ m h))
+step-sound c (handBack m) s =
+    on-member-cases c m _ Leaves (λ a d. s) λ e h.
+    let l = within-low _ _ m h in
+    unless-cases Leaves _ _ _ (λ t. s) λ t.
+    sound-with-holding _ m noBytes (sound-with-member c m _ s l (sound-handed-back _ _ _ _ (memberIn c m) (sound-member-in c s m h))) l
+step-sound c (wipe m g) s =
+    on-member-cases c m _ Leaves (λ a d. s) λ e h.
+    unless-cases Leaves _ _ _ (λ t. s) (λ t. sound-with-fresh c m g s (within-low _ _ m h))
 step-sound c (cardReset g) s =
     unless-cases Leaves _ _ _ (λ t. s) λ t.
     sound-fresh-card (setupOf c) g (numbers-sound _ (s .numbers)) (features-long c (omega (arith, sound-long c s)))

@@ -30,11 +30,11 @@ use Rattle.member.specs.Objects.{roomIn}
 use Rattle.member.specs.Member.{featuresIn}
 use Rattle.changes.specs.Changes.{limited, createOf, modifyOf, destroyOf, setPartsOf}
 use Rattle.reads.specs.Reads.{queryOf, throughGet, selectedOf}
-use Rattle.card.specs.Layout.{setupOf, inUseOf, isMember}
+use Rattle.card.specs.Layout.{setupOf, inUseOf, isMember, isMarked}
 use Rattle.card.proofs.SoundLaws.{Sound, sound-of, sound-member-in}
 use Rattle.frame.specs.Frame.{opcodeOf, groupOf, targetOf, dataOf, askedList, givenList}
 use Rattle.frame.specs.Fields.{objectValid, flagsValid, kindValid, createIn, modifyIn, queryIn, destroyIn, metadataIn, getIn, setIn, modeIn, useIn, fieldsOf}
-use Rattle.frame.specs.Ask.{usable, reaches, framedOf, askOf}
+use Rattle.frame.specs.Ask.{usable, reaches, attended, framedOf, askOf}
 use Rattle.reply.specs.Result.{numberBytes, resultOf}
 use Rattle.reply.specs.Reply.{headOf, finalOf, replyOf}
 use Rattle.reply.proofs.Result.{number-long}
@@ -62,7 +62,7 @@ says xs n = (firstOf xs .0, (firstOf xs .1, if eqb (firstOf xs .0) 0 then n else
 abbrev Agree : List ℕ → List ℕ → ℕ → ℕ → Type 0
 Agree c r room op =
     ends room (perform c r (fieldsOf (setupOf c .gets + setupOf c .sets) (targetOf r) op (dataOf r)))
-    ≡ says (drop 4 (rowsAt c r room op)) (resultSize c r op)
+    ≡ says (drop 5 (rowsAt c r room op)) (resultSize c r op)
 
 -- ---- cases: first where a step stops, then what is below it ----
 
@@ -304,14 +304,23 @@ reaches-is true true = refl
 reaches-is true false = refl
 reaches-is false w = refl
 
+-- and the mark
+attended-is : (n w : Bool) → not w or not n ≡ not (n and w)
+unfolding _and_ _or_
+attended-is true true = refl
+attended-is true false = refl
+attended-is false true = refl
+attended-is false false = refl
+
 agree : (c r : List ℕ) (room : ℕ) → Sound c → ends room (perform c r (askIn c r)) ≡ says (rows c r room) (resultSize c r (opcodeOf r))
-unfolding askIn askOf framedOf usable reaches perform finalOf firstOf rowsAt if_then_else_ unless_answer_then_
+unfolding askIn askOf framedOf usable reaches attended perform finalOf firstOf rowsAt if_then_else_ unless_answer_then_
 agree c r room s =
     test (within 24 4096 (length r)) (λ e. rw e) λ e. rw e (
     test (eqb (groupOf r) 1) (λ e. rw e) λ e. rw e (
-    test (supported (opcodeOf r) and bit (inUseOf c) (opcodeOf r)) (λ e. rw e) λ u. rw (u, reaches-is) (
-    by-cases (namesMember (opcodeOf r) and not (isMember c (targetOf r))) (λ e. rw e) λ n. rw n (
-    by-opcode c r room s (opcodeOf r) (both _ _ u .0) n))))
+    test (supported (opcodeOf r) and bit (inUseOf c) (opcodeOf r)) (λ e. rw e) λ u. rw (u, reaches-is (namesMember (opcodeOf r)) (isMember c (targetOf r))) (
+    by-cases (namesMember (opcodeOf r) and not (isMember c (targetOf r))) (λ e. rw e) λ n. rw (n, attended-is) (
+    by-cases (namesMember (opcodeOf r) and isMarked c (targetOf r)) (λ e. rw e) λ w. rw w (
+    by-opcode c r room s (opcodeOf r) (both _ _ u .0) n)))))
 
 -- ---- the claim ----
 

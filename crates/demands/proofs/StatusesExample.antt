@@ -8,7 +8,7 @@ use native.Mathlib.Omega.{arith}
 use Rattle.theory.specs.Logic.{if_then_else_}
 use Rattle.theory.specs.Machine.{run}
 use Rattle.card.specs.Sound.{isSound}
-use Rattle.demands.specs.Calls.{Call, command, memberReset, cardReset, cardStore, restoreBegin, restoreFeed, restoreFinish, restoreDrop, message, step}
+use Rattle.demands.specs.Calls.{Call, command, handBack, wipe, cardReset, cardStore, restoreBegin, restoreFeed, restoreFinish, restoreDrop, message, step}
 use Rattle.host.specs.Request.{request, getAll, setParts}
 use Rattle.demands.specs.Examples.{exampleCard, send, useList, setMode, create, destroy, metadata, allUsed, objectsLive}
 use Rattle.demands.specs.Statuses.{Row, firstOf, rows, FirstRowAnswers}
@@ -34,7 +34,8 @@ place (x ∷ xs) = if x .applies then 0 else suc (place xs)
 
 placeFor : List ℕ → Call → ℕ
 placeFor c (command r room) = place (rows c r room)
-placeFor c (memberReset m g) = 0
+placeFor c (handBack m) = 0
+placeFor c (wipe m g) = 0
 placeFor c (cardReset g) = 0
 placeFor c (cardStore m t s value) = 0
 placeFor c (restoreBegin m) = 0
@@ -53,6 +54,7 @@ cases =
     ∷ ([], send (request 0xffff 2 0 []))  -- 3
     ∷ ([], send (request 0x0a 1 0 []))  -- 4: not in use
     ∷ (allUsed, setMode 3 1)  -- 5: of two members
+    ∷ (useList 0x3fc03 ∷ handBack 1 ∷ [], setMode 1 2)  -- marked
     ∷ (allUsed, setMode 1 2)  -- 7: a mode bit
     ∷ (objectsLive, create 0 0)  -- 8: a live id
     ∷ (allUsed, destroy 0)  -- no live id
@@ -65,6 +67,6 @@ cases =
     ∷ []
 
 every-row-applies : map (λ (x : Case). placeFor (run step exampleCard (x .0)) (x .1)) cases
-    ≡ 0 ∷ 1 ∷ 2 ∷ 3 ∷ 4 ∷ 5 ∷ 6 ∷ 7 ∷ 8 ∷ 9 ∷ 10 ∷ 11 ∷ 12 ∷ []
+    ≡ 0 ∷ 1 ∷ 2 ∷ 3 ∷ 4 ∷ 5 ∷ 6 ∷ 7 ∷ 8 ∷ 9 ∷ 10 ∷ 11 ∷ 12 ∷ 13 ∷ []
 unfolding model place placeFor cases
 every-row-applies = refl

@@ -23,7 +23,7 @@ use Rattle.host.specs.declared.Command.the-variants as host
 use Rattle.host.specs.Request.{sentOf}
 use Rattle.host.proofs.Request.{command-supported}
 use Rattle.demands.specs.Host.{askFor, inside, Taken}
-use Rattle.host.proofs.Asked.{dataFor, laid, asked-frame, headers-given, parts-given, create-read, modify-read, query-read, destroy-read, metadata-read, get-read, set-read, use-read, mode-read}
+use Rattle.host.proofs.Asked.{dataFor, laid, sent-target, asked-frame, headers-given, parts-given, create-read, modify-read, query-read, destroy-read, metadata-read, get-read, set-read, use-read, mode-read}
 
 -- ---- the member ----
 
@@ -110,10 +110,11 @@ unfolding askIn framedOf usable unless_answer_then_
 taken c x list t =
     let n = sound-of c (t .sound) .numbers in
     let ids = setupOf c .gets + setupOf c .sets in
+    let small = member-small (setupOf c .members) x (n .fewMembers) (t .member) in
     record {
       asked =
-          asked-frame x list (setupOf c .members) ids (inUseOf c) (member-small (setupOf c .members) x (n .fewMembers) (t .member)) (t .short)
-          ∙ rw (and-i _ _ (command-supported x) (t .inUse), t .member)
+          asked-frame x list (setupOf c .members) ids (inUseOf c) _ small (t .short)
+          ∙ rw (sent-target x list small, and-i _ _ (command-supported x) (t .inUse), t .member, t .unmarked)
           (fields-read ids x list (omega arith) (t .fields));
       headers = λ m id which e. rw e (headers-given m id which list);
       parts = λ m id e. rw e (parts-given m id list);

@@ -11,7 +11,7 @@ use Rattle.theory.specs.Logic.{if_then_else_}
 use Rattle.theory.proofs.Tests.{by-cases}
 use Rattle.wire.specs.Le.{number}
 use Rattle.frame.specs.Frame.{opcodeOf}
-use Rattle.demands.specs.Calls.{Call, command, memberReset, cardReset, cardStore, restoreBegin, restoreFeed, restoreFinish, restoreDrop, message, Reply, written, answered, responded, refused, step}
+use Rattle.demands.specs.Calls.{Call, command, handBack, wipe, cardReset, cardStore, restoreBegin, restoreFeed, restoreFinish, restoreDrop, message, Reply, written, answered, responded, refused, step}
 use Rattle.demands.specs.Examples.{exampleCard, refuses, succeeds, gives, aNumber, metadata, getSelected, sizeOf}
 use Rattle.demands.specs.WrongPrograms.{Passes}
 use Rattle.demands.proofs.WrongPrograms.{obeyed, reply}
@@ -24,7 +24,8 @@ Answering = List ℕ → List ℕ → List ℕ × Reply → List ℕ × Reply
 answering : Answering → List ℕ → Call → List ℕ × Reply
 unfolding Answering
 answering f c (command r room) = f c r (step c (command r room))
-answering f c (memberReset m g) = step c (memberReset m g)
+answering f c (handBack m) = step c (handBack m)
+answering f c (wipe m g) = step c (wipe m g)
 answering f c (cardReset g) = step c (cardReset g)
 answering f c (cardStore m t s value) = step c (cardStore m t s value)
 answering f c (restoreBegin m) = step c (restoreBegin m)
@@ -59,7 +60,8 @@ once : ℕ × List ℕ → Call → (ℕ × List ℕ) × Reply
 once s (command r room) =
     let x = step (s .1) (command r room) in
     if eqb (s .0) 0 then ((1, x .0), x .1) else (s, refuses 22 2)
-once s (memberReset m g) = let x = step (s .1) (memberReset m g) in ((s .0, x .0), x .1)
+once s (handBack m) = let x = step (s .1) (handBack m) in ((s .0, x .0), x .1)
+once s (wipe m g) = let x = step (s .1) (wipe m g) in ((s .0, x .0), x .1)
 once s (cardReset g) = let x = step (s .1) (cardReset g) in ((s .0, x .0), x .1)
 once s (cardStore m t k value) = let x = step (s .1) (cardStore m t k value) in ((s .0, x .0), x .1)
 once s (restoreBegin m) = let x = step (s .1) (restoreBegin m) in ((s .0, x .0), x .1)

@@ -9,7 +9,7 @@ use Rattle.wire.specs.Le.{number}
 use Rattle.protocol.specs.declared.EventAnswer.{EventAnswer}
 use Rattle.protocol.specs.Answers.{eventNumber}
 use Rattle.protocol.specs.Opcodes.{namesMember}
-use Rattle.events.specs.Events.{resetMember, resetCard, store}
+use Rattle.events.specs.Events.{handBack as handBackOf, wipe as wipeOf, resetCard, store}
 use Rattle.frame.specs.Frame.{opcodeOf, groupOf, targetOf}
 use Rattle.admin.specs.Command.{respond}
 use Rattle.staging.specs.Staging.{beginOf, feedOf, finishOf, dropOf}
@@ -17,12 +17,13 @@ use Rattle.message.specs.Format.{lengthOf}
 use Rattle.message.specs.Access.{wholeOf, speaksFor}
 use Rattle.message.specs.Message.{answerOf}
 
--- SPEC 8.1: commands, resets of one member, resets of the whole card and card stores, with any arguments. A command is the
+-- SPEC 8.1: commands, hand backs, wipes, resets of the whole card and card stores, with any arguments. A command is the
 -- bytes of its request and the length of its reply buffer, whose bytes do not count
 pub data Call : Type 0 where
   command : List ℕ → ℕ → Call
-  -- a reset is given the generation to start from: 02, request 3
-  memberReset : ℕ → ℕ → Call
+  -- the two halves of a member reset, 02, request 10; a wipe and a card reset are given the generation to start from
+  handBack : ℕ → Call
+  wipe : ℕ → ℕ → Call
   cardReset : ℕ → Call
   cardStore : ℕ → ℕ → ℕ → List ℕ → Call
   -- restore in fragments, SPEC 13.6: the reply is the answer
@@ -64,7 +65,8 @@ ofMessage x = (x .0, responded (x .1))
 -- one call on a card
 unfoldable pub step : List ℕ → Call → List ℕ × Reply
 step c (command r room) = ofCommand (respond c r room)
-step c (memberReset m generation) = ofEvent (resetMember c m generation)
+step c (handBack m) = ofEvent (handBackOf c m)
+step c (wipe m generation) = ofEvent (wipeOf c m generation)
 step c (cardReset generation) = ofEvent (resetCard c generation)
 step c (cardStore m t s value) = ofEvent (store c m t s value)
 step c (restoreBegin m) = ofRestore (beginOf c m)
@@ -79,7 +81,8 @@ step c (message x room) = ofMessage (answerOf c x room)
 unfoldable pub names : ℕ → Call → Bool
 names m (command r room) =
     within 24 4096 (length r) and eqb (groupOf r) 1 and namesMember (opcodeOf r) and eqb (targetOf r) m
-names m (memberReset k generation) = false
+names m (handBack k) = false
+names m (wipe k generation) = false
 names m (cardReset generation) = false
 names m (cardStore k t s value) = eqb k m
 names m (restoreBegin k) = eqb k m
@@ -88,7 +91,7 @@ names m (restoreFinish k id) = eqb k m
 names m (restoreDrop k) = eqb k m
 names m (message x room) = speaksFor m (wholeOf x)
 
--- a reset of m, SPEC 8.3: its own, or that of the whole card
-pub data Resets (m : ℕ) : Call → Type 0 where
-  ofMember : {generation : ℕ} → Resets m (memberReset m generation)
-  ofCard : {generation : ℕ} → Resets m (cardReset generation)
+-- a reset of m, SPEC 8.3, by the call and its reply: a wipe of m that answers 0, or a reset of the whole card
+pub data Resets (m : ℕ) : Call → Reply → Type 0 where
+  ofWipe : {generation : ℕ} → Resets m (wipe m generation) (answered 0)
+  ofCard : {generation : ℕ} {reply : Reply} → Resets m (cardReset generation) reply

@@ -1,29 +1,33 @@
 -- WHAT IS CLAIMED OF THE CARD, by demand, SPEC 9, and by request, SPEC 13. Each claim is over the definitions that the
 -- contracts of the exported functions cite: setUp, commandOf (a command with its buffer; respond is the same without it),
--- resetMember, resetCard, store, beginOf, feedOf, finishOf, dropOf and messageOf (of which answerOf is the same without the
--- buffer). The record Claims at the end lists all of them, and ../proofs/Claims.antt proves it. A claim with hypotheses says
--- which example meets them; where no file is named it is in ../proofs/ClaimsExample.antt. Assumes nothing.
+-- handBack, wipe, resetCard, store, beginOf, feedOf, finishOf, dropOf and messageOf (of which answerOf is the same without
+-- the buffer). The record Claims at the end lists all of them, and ../proofs/Claims.antt proves it. A claim with hypotheses
+-- says which example meets them; where no file is named it is in ../proofs/ClaimsExample.antt. Assumes nothing.
 use mathlib.Core.Path.{_≡_}
 use mathlib.Core.Logic.{_≢_}
 use mathlib.Core.Bool.{true, false}
-use mathlib.Core.List.{List, _∷_, _++_}
-use Prim.Native.Nat.{ℕ, _+_, _≤_, _<_}
+use mathlib.Core.List.{List, [], _∷_, _++_}
+use Prim.Native.Nat.{ℕ, _+_, _*_, _≤_, _<_}
 use lib.ListN.{length, take, drop, replicate}
-use Rattle.theory.specs.Machine.{trace, seen, visible, Swappable}
+use Rattle.theory.specs.Machine.{trace, run, seen, visible, Swappable}
+use Rattle.protocol.specs.declared.Answer.the-variants.{Marked}
 use Rattle.protocol.specs.declared.EventAnswer.the-variants.{Done}
 use Rattle.protocol.specs.Opcodes.{opcodeRow, fixedSize}
-use Rattle.card.specs.Layout.{inUseAt, recordSize, setupOf, isMember, recordAt, memberIn, holdingIn}
+use Rattle.card.specs.Layout.{inUseAt, recordSize, setupOf, inUseOf, isMember, recordAt, memberIn, isMarked, holdingIn}
 use Rattle.card.specs.Sound.{isSound}
 use Rattle.frame.specs.Frame.{opcodeOf, targetOf}
-use Rattle.events.specs.Events.{setupWith, setUp}
+use Rattle.frame.specs.Ask.{usable}
+use Rattle.reply.specs.Reply.{headOf}
+use Rattle.events.specs.Events.{setupWith, setUp, resetMember}
 use Rattle.admin.specs.Command.{respond, commandOf}
 use Rattle.staging.specs.Staging.{dropOf}
 use Rattle.staging.specs.Claims.{FinishIsPartsSet, HoldsJoined, CutAnywhere}
-use Rattle.demands.specs.Calls.{Call, command, memberReset, cardReset, cardStore, restoreBegin, restoreFeed, restoreFinish, restoreDrop, message, refused, step, names, Resets}
+use Rattle.demands.specs.Calls.{Call, command, handBack, wipe, cardReset, cardStore, restoreBegin, restoreFeed, restoreFinish, restoreDrop, message, written, answered, responded, refused, step, names, Resets}
 use Rattle.demands.specs.Statuses.{Statuses}
 use Rattle.demands.specs.Examples.{ExamplesHold}
 use Rattle.demands.specs.Lengths.{LengthExamplesHold}
 use Rattle.demands.specs.QueueSizes.{RingsOnly, QueueExamplesHold}
+use Rattle.demands.specs.Halves.{HalvesExamplesHold}
 use Rattle.demands.specs.WrongPrograms.{WrongProgramsRejected}
 use Rattle.demands.specs.RoundTrip.{RoundTrip}
 use Rattle.demands.specs.Host.{Taken, ReadBack}
@@ -60,7 +64,8 @@ Delivered = (c r b : List ℕ) → Delivers c r b
 -- with the holding place gone. Examples: refused-command; refused-feed and refused-finish in ../proofs/RestoreExample.antt
 unfoldable pub afterRefusal : List ℕ → Call → List ℕ
 afterRefusal c (command r room) = c
-afterRefusal c (memberReset m generation) = c
+afterRefusal c (handBack m) = c
+afterRefusal c (wipe m generation) = c
 afterRefusal c (cardReset generation) = c
 afterRefusal c (cardStore m t s value) = c
 afterRefusal c (restoreBegin m) = c
@@ -99,25 +104,26 @@ pub record SameOutside (at size : ℕ) (c d : List ℕ) : Type 0 where
 abbrev pub DifferAtMost : ℕ → List ℕ → List ℕ → Type 0
 DifferAtMost m c d = SameOutside (recordAt m) recordSize c d
 
--- Two sound cards differ in member m's record at most. Two sequences of calls, p₁ then r then t on the one and p₂ then
--- r then t on the other: r resets m, t is any, and p₁ and p₂ are the same once every call that names m is struck out of
--- both. Then the replies, one by one, to all calls before r that do not name m are the same on both cards, and so are
+-- Two sound cards differ in member m's record at most, and m's mark is the same in both. Two sequences of calls, p₁ then r
+-- then t on the one and p₂ then r then t on the other: r resets m, by its reply on the first card, t is any, and p₁ and p₂
+-- are the same once every call that names m is struck out of both. No hand back and no wipe is. Then the replies, one by one, to all calls before r that do not name m are the same on both cards, and so are
 -- the reply to r and to every call after it, and the whole card after r and after each later call. Example:
 -- ../proofs/IsolationExample.antt
 abbrev pub Isolation : Type 0
 Isolation =
     (c₁ c₂ : List ℕ) → isSound c₁ ≡ true → isSound c₂ ≡ true
-    → (m : ℕ) → isMember c₁ m ≡ true → DifferAtMost m c₁ c₂
+    → (m : ℕ) → isMember c₁ m ≡ true → DifferAtMost m c₁ c₂ → isMarked c₁ m ≡ isMarked c₂ m
     → (p₁ p₂ : List Call) → visible (names m) p₁ ≡ visible (names m) p₂
-    → (r : Call) → Resets m r → (t : List Call)
+    → (r : Call) → Resets m r (step (run step c₁ p₁) r .1) → (t : List Call)
     → seen (names m) (length p₁) (trace step c₁ (p₁ ++ r ∷ t)) ≡ seen (names m) (length p₂) (trace step c₂ (p₂ ++ r ∷ t))
 
 -- Integrity, SPEC 9.4, beside isolation, on any card: what a call leaves alone. Examples: names-member, uses-list, sets-parts
 pub record Integrity : Type 0 where
-  -- one that names m, and a reset of m, changes m's record at most: the setup, the list in use and every other record
-  -- stay
+  -- one that names m, a hand back of m and a wipe of m changes m's record at most: the setup, the list in use and every
+  -- other record stay
   pub named : (c : List ℕ) (m : ℕ) (x : Call) → names m x ≡ true → DifferAtMost m (step c x .0) c
-  pub reset : (c : List ℕ) (m generation : ℕ) → DifferAtMost m (step c (memberReset m generation) .0) c
+  pub handedBack : (c : List ℕ) (m : ℕ) → DifferAtMost m (step c (handBack m) .0) c
+  pub wiped : (c : List ℕ) (m generation : ℕ) → DifferAtMost m (step c (wipe m generation) .0) c
   -- list use changes the list in use alone
   pub listUse : (c r : List ℕ) (room : ℕ) → opcodeOf r ≡ 0x01 → SameOutside inUseAt 8 (step c (command r room) .0) c
   -- parts set keeps the member's mode and objects
@@ -194,6 +200,36 @@ pub record HoldingKept : Type 0 where
 
 -- What a message leaves, what it touches, what else touches a configuration, and the worked examples M1 to M12: Messages.antt
 
+-- ---- REQUEST 10, SPEC 13.10: reset in two halves ----
+
+-- The two in a row do what member reset did: on a sound card, for a member that is not marked, both answer 0 and leave the
+-- card that `resetMember` gives. Example: ../proofs/HalvesExample.antt
+pub record DoesReset (c : List ℕ) (m generation : ℕ) : Type 0 where
+  pub handsBack : step c (handBack m) .1 ≡ answered 0
+  pub wipes : step (step c (handBack m) .0) (wipe m generation) ≡ (resetMember c m generation .1, answered 0)
+
+abbrev pub TwoHalves : Type 0
+TwoHalves =
+    (c : List ℕ) (m generation : ℕ) → isSound c ≡ true → isMember c m ≡ true → isMarked c m ≡ false → DoesReset c m generation
+
+-- Between them a command that names m, and whose opcode is in use, answers 11/7 in any buffer of 8 bytes or more, and a call
+-- of SPEC 13.6 for m answers 11/7; a message that names m gets the bus outcome; the card stays. Example:
+-- ../proofs/HalvesExample.antt
+abbrev pub refusesMarked : ℕ
+refusesMarked = 11 + 65536 * 7
+
+pub record Between (c : List ℕ) (m : ℕ) : Type 0 where
+  pub commands : (r : List ℕ) (room : ℕ) → names m (command r room) ≡ true → usable (inUseOf c) (opcodeOf r) ≡ true → 8 ≤ room
+      → step c (command r room) ≡ (c, written (headOf Marked))
+  pub begins : step c (restoreBegin m) ≡ (c, answered refusesMarked)
+  pub feeds : (x : List ℕ) → step c (restoreFeed m x) ≡ (c, answered refusesMarked)
+  pub finishes : (id : ℕ) → step c (restoreFinish m id) ≡ (c, answered refusesMarked)
+  pub drops : step c (restoreDrop m) ≡ (c, answered refusesMarked)
+  pub messages : (x : List ℕ) (room : ℕ) → names m (message x room) ≡ true → step c (message x room) ≡ (c, responded [])
+
+abbrev pub MarkedRefused : Type 0
+MarkedRefused = (c : List ℕ) (m : ℕ) → isSound c ≡ true → isMember c m ≡ true → isMarked c m ≡ true → Between c m
+
 -- ---- all of them ----
 
 pub record Claims : Type 1 where
@@ -237,3 +273,7 @@ pub record Claims : Type 1 where
   pub onlyConfiguration : OnlyConfiguration
   pub configurationKept : ConfigurationKept
   pub messageExamples : MessageExamplesHold
+  -- request 10
+  pub twoHalves : TwoHalves
+  pub markedRefused : MarkedRefused
+  pub halvesExamples : HalvesExamplesHold

@@ -14,13 +14,13 @@ use Rattle.protocol.specs.declared.ChangeOp.the-variants.{Create, Modify, Destr
 use Rattle.protocol.specs.Answers.{statusOf, qualifierOf, isDone, modeOf}
 use Rattle.protocol.specs.Opcodes.{bit, supportedOnly}
 use Rattle.inventory.specs.Header.{headerSize}
-use Rattle.card.specs.Layout.{setupOf, inUseOf}
+use Rattle.card.specs.Layout.{setupOf, inUseOf, isMarked}
 use Rattle.card.specs.Sound.{isSound}
 use Rattle.frame.specs.declared.Ask.{Ask}
 use Rattle.frame.specs.declared.Ask.the-variants.{QueryList, UseList, Read, Change}
 use Rattle.frame.specs.Frame.{longest, askedList, givenList}
 use Rattle.frame.specs.Fields.{kindIn, metadataIs}
-use Rattle.frame.specs.Ask.{reaches}
+use Rattle.frame.specs.Ask.{reaches, attended}
 use Rattle.reply.specs.Reply.{headSize, finalOf}
 use Rattle.admin.specs.Command.{askIn, Effect, perform, respond}
 use Rattle.host.specs.declared.Command.{Command}
@@ -64,6 +64,8 @@ pub record Takeable (c : List ℕ) (x : Command) (list : List ℕ) : Type 0 wher
   pub inUse : bit (inUseOf c) (sentOf x .opcode) ≡ true
   -- member 1 to N, where the command names one
   pub member : reaches (setupOf c .members) (sentOf x .opcode) (sentOf x .member) ≡ true
+  -- and that member is not marked
+  pub unmarked : attended (isMarked c (sentOf x .member)) (sentOf x .opcode) ≡ true
   pub fields : inside (setupOf c .gets + setupOf c .sets) x list ≡ true
   pub short : length (requestOf x list) ≤ longest
 

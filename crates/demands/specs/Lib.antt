@@ -8,4 +8,5 @@ pub mod RoundTrip
 pub mod Host
 pub mod Places
 pub mod Messages
+pub mod Halves
 pub mod Claims

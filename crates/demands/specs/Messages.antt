@@ -9,7 +9,7 @@ use Rattle.wire.specs.Le.{bytes}
 use Rattle.card.specs.Layout.{setupOf, inUseOf, isMember, memberIn, holdingIn, configurationIn, generationIn}
 use Rattle.message.specs.Format.{lengthOf}
 use Rattle.message.specs.Message.{answerOf, messageOf}
-use Rattle.demands.specs.Calls.{Call, command, memberReset, cardReset, cardStore, restoreBegin, restoreFeed, restoreFinish, restoreDrop, message, Reply, answered, responded, step, names}
+use Rattle.demands.specs.Calls.{Call, command, handBack, wipe, cardReset, cardStore, restoreBegin, restoreFeed, restoreFinish, restoreDrop, message, Reply, answered, responded, step, names}
 use Rattle.demands.specs.Examples.{exampleCard, Example, example, repliesTo}
 
 -- ---- the claims ----
@@ -48,15 +48,20 @@ pub record OnlyConfiguration : Type 0 where
   pub others : (c : List ℕ) (m : ℕ) → isMember c m ≡ true → (x : List ℕ) (room : ℕ) → names m (message x room) ≡ false
       → SameConfiguration c (step c (message x room) .0) m
 
--- No command, card store or call of a restore touches a configuration, whomever it is for: messages and both resets alone do.
+-- No command, card store, hand back or call of a restore touches a configuration, whomever it is for: messages, wipes and resets
+-- of the card alone do.
 -- Example: member-here
-pub record ConfigurationKept : Type 0 where
-  pub commands : (c : List ℕ) (m : ℕ) → isMember c m ≡ true → (r : List ℕ) (room : ℕ) → SameConfiguration c (step c (command r room) .0) m
-  pub cardStores : (c : List ℕ) (m : ℕ) → isMember c m ≡ true → (k t s : ℕ) (value : List ℕ) → SameConfiguration c (step c (cardStore k t s value) .0) m
-  pub begins : (c : List ℕ) (m : ℕ) → isMember c m ≡ true → (k : ℕ) → SameConfiguration c (step c (restoreBegin k) .0) m
-  pub feeds : (c : List ℕ) (m : ℕ) → isMember c m ≡ true → (k : ℕ) (x : List ℕ) → SameConfiguration c (step c (restoreFeed k x) .0) m
-  pub finishes : (c : List ℕ) (m : ℕ) → isMember c m ≡ true → (k id : ℕ) → SameConfiguration c (step c (restoreFinish k id) .0) m
-  pub drops : (c : List ℕ) (m : ℕ) → isMember c m ≡ true → (k : ℕ) → SameConfiguration c (step c (restoreDrop k) .0) m
+pub record KeepsConfiguration (c : List ℕ) (m : ℕ) : Type 0 where
+  pub commands : (r : List ℕ) (room : ℕ) → SameConfiguration c (step c (command r room) .0) m
+  pub cardStores : (k t s : ℕ) (value : List ℕ) → SameConfiguration c (step c (cardStore k t s value) .0) m
+  pub handBacks : (k : ℕ) → SameConfiguration c (step c (handBack k) .0) m
+  pub begins : (k : ℕ) → SameConfiguration c (step c (restoreBegin k) .0) m
+  pub feeds : (k : ℕ) (x : List ℕ) → SameConfiguration c (step c (restoreFeed k x) .0) m
+  pub finishes : (k id : ℕ) → SameConfiguration c (step c (restoreFinish k id) .0) m
+  pub drops : (k : ℕ) → SameConfiguration c (step c (restoreDrop k) .0) m
+
+abbrev pub ConfigurationKept : Type 0
+ConfigurationKept = (c : List ℕ) (m : ℕ) → isMember c m ≡ true → KeepsConfiguration c m
 
 -- ---- the worked examples ----
 
@@ -104,8 +109,8 @@ messageExamples =
     ∷ example (send (writeTo 0 0 0 fourBytes) ∷ [])
     (send (writeTo 0 0 0 (7 ∷ [])) ∷ send (writeTo 0 2 0 (7 ∷ [])) ∷ send (readFrom 0 0 4) ∷ [])
     (hasWritten 0 1 0 [] ∷ hasWritten 0 1 0 [] ∷ hasRead 0 1 0 fourBytes ∷ [])
-    -- M4 a reset gives the generation to start from; from 4,294,967,295 a write moves it to 0
-    ∷ example (memberReset 1 4294967295 ∷ [])
+    -- M4 a wipe gives the generation to start from; from 4,294,967,295 a write moves it to 0
+    ∷ example (handBack 1 ∷ wipe 1 4294967295 ∷ [])
     (send (writeTo 0 4294967295 0 fourBytes) ∷ send (writeTo 0 0 4 fourBytes) ∷ [])
     (hasWritten 0 0 0 fourBytes ∷ hasWritten 0 1 4 fourBytes ∷ [])
     -- M5 past byte 12: length 0, the offset echoed. The sum of offset and length does not wrap
@@ -139,10 +144,10 @@ messageExamples =
     ∷ send (head 0 0x06 0 24 ++ (bytes 4 0 ++ (bytes 4 0 ++ (bytes 4 65540 ++ fourBytes))))
     ∷ send (head 0 0x06 0 16 ++ (bytes 4 0 ++ bytes 4 0)) ∷ send [] ∷ [])
     (busOutcome ∷ busOutcome ∷ busOutcome ∷ busOutcome ∷ busOutcome ∷ busOutcome ∷ [])
-    -- M12 a reset makes the bytes zero and starts from the generation given, that of the card with one for all members
+    -- M12 a wipe makes the bytes zero and starts from the generation given, that of the card with one for all members
     ∷ example (send (writeTo 0 0 0 fourBytes) ∷ send (writeTo 1 0 0 fourBytes) ∷ [])
-    (memberReset 1 7 ∷ send (readFrom 0 0 4) ∷ send (readFrom 1 0 4) ∷ cardReset 9 ∷ send (readFrom 0 0 1) ∷ send (readFrom 1 0 1) ∷ [])
-    (answered 0 ∷ hasRead 0 7 0 (replicate 4 0) ∷ hasRead 1 1 0 fourBytes ∷ answered 0 ∷ hasRead 0 9 0 (0 ∷ []) ∷ hasRead 1 9 0 (0 ∷ []) ∷ [])
+    (handBack 1 ∷ wipe 1 7 ∷ send (readFrom 0 0 4) ∷ send (readFrom 1 0 4) ∷ cardReset 9 ∷ send (readFrom 0 0 1) ∷ send (readFrom 1 0 1) ∷ [])
+    (answered 0 ∷ answered 0 ∷ hasRead 0 7 0 (replicate 4 0) ∷ hasRead 1 1 0 fourBytes ∷ answered 0 ∷ hasRead 0 9 0 (0 ∷ []) ∷ hasRead 1 9 0 (0 ∷ []) ∷ [])
     ∷ []
 
 abbrev pub MessageExamplesHold : Type 0

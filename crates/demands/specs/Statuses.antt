@@ -21,7 +21,7 @@ use Rattle.objects.specs.Objects.{slotFor, onFound}
 use Rattle.member.specs.declared.Member.{Member}
 use Rattle.member.specs.Objects.{lookupOf, withObject, roomIn}
 use Rattle.member.specs.Member.{featuresIn}
-use Rattle.card.specs.Layout.{setupOf, inUseOf, isMember, memberIn}
+use Rattle.card.specs.Layout.{setupOf, inUseOf, isMember, memberIn, isMarked}
 use Rattle.card.specs.Sound.{isSound}
 use Rattle.frame.specs.Frame.{opcodeOf, groupOf, targetOf, dataOf, askedList, givenList}
 use Rattle.frame.specs.Fields.{kindIn}
@@ -135,6 +135,7 @@ rowsAt c r room op =
     ∷ row (not (eqb (groupOf r) 1)) 22 4  -- 3
     ∷ row (not (supported op and bit (inUseOf c) op)) 22 2  -- 4
     ∷ row (namesMember op and not (isMember c (targetOf r))) 22 5  -- 5
+    ∷ row (namesMember op and isMarked c (targetOf r)) 11 7  -- 02, request 10: handed back and not yet wiped
     ∷ row (badField (setupOf c .gets + setupOf c .sets) op (dataOf r)) 22 3  -- 7
     -- 8a: a create, and the id is live
     ∷ row (eqb op 0x0a and isLive (objectNamed c r)) 17 1

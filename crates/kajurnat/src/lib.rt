@@ -5,7 +5,7 @@ ghost use mathlib.Core.List.{[]};
 ghost use Rattle.theory.specs.Logic.{indicator};
 ghost use Rattle.card.specs.Layout.{version, cardBytes};
 ghost use Rattle.card.specs.Sound.{isSound};
-ghost use Rattle.events.specs.Events.{numbered, setUp, resetMember, resetCard, store};
+ghost use Rattle.events.specs.Events.{numbered, setUp, handBack, wipe, resetCard, store};
 ghost use Rattle.admin.specs.Command.{commandOf};
 ghost use Rattle.host.specs.Request.{built};
 ghost use Rattle.host.specs.Reply.{readReply};
@@ -62,12 +62,20 @@ pub extern "C" fn kajurnat_command(card: &mut [u8], request: &[u8], reply: &mut 
     admin::command(card, request, reply)
 }
 
-// A reset is given the generation that the member, or every member, starts from.
+// The two halves of a member reset: hand back, which the data path answers by letting go of the guest, and wipe. A wipe and a
+// card reset are given the generation that the member, or every member, starts from.
 #[no_mangle]
-pub extern "C" fn kajurnat_reset_member(card: &mut [u8], member: u64, generation: u32) -> u8
-    ensures { λ r. ⌜ (r, now (card .exit)) ≡ numbered (resetMember (now (card .entry)) member generation) ⌝ }
+pub extern "C" fn kajurnat_hand_back(card: &mut [u8], member: u64) -> u8
+    ensures { λ r. ⌜ (r, now (card .exit)) ≡ numbered (handBack (now (card .entry)) member) ⌝ }
 {
-    protocol::event_number(events::reset_member(card, member, generation))
+    protocol::event_number(events::hand_back(card, member))
+}
+
+#[no_mangle]
+pub extern "C" fn kajurnat_wipe(card: &mut [u8], member: u64, generation: u32) -> u8
+    ensures { λ r. ⌜ (r, now (card .exit)) ≡ numbered (wipe (now (card .entry)) member generation) ⌝ }
+{
+    protocol::event_number(events::wipe(card, member, generation))
 }
 
 #[no_mangle]

@@ -4,18 +4,19 @@ use mathlib.Core.Bool.{true, false}
 use mathlib.Core.List.{List, [], _++_}
 use Prim.Native.Nat.{ℕ, _+_, _^_, _≤_, _<_}
 use native.Mathlib.Omega.{arith}
+use lib.Dec.{leb}
 use lib.ListN.{length, length-drop}
 use borrow.Author.Tests.{eqb-true, eq-eqb, leb-true}
 use Rattle.theory.specs.Logic.{unless_answer_then_}
-use Rattle.theory.proofs.Tests.{unless-cases, both, inside}
+use Rattle.theory.proofs.Tests.{by-cases, if-cases, unless-cases, both, inside}
 use Rattle.wire.specs.Le.{le, bytes, number}
 use Rattle.wire.proofs.Le.{le-bytes}
-use Rattle.card.specs.Layout.{configurationSize, setupOf, isMember, generationIn, withConfiguration}
+use Rattle.card.specs.Layout.{configurationSize, setupOf, isMember, isMarked, generationIn, withConfiguration}
 use Rattle.card.specs.Sound.{isSound}
 use Rattle.message.specs.declared.Access.{Access}
 use Rattle.message.specs.declared.Access.the-variants.{Nothing, Read, Write}
-use Rattle.message.specs.Format.{dataAt, lengthOf, dataOf, responseHeader, responseFields, responseOf}
-use Rattle.message.specs.Access.{wholeOf, speaksFor}
+use Rattle.message.specs.Format.{memberFor, dataAt, lengthOf, dataOf, responseHeader, responseFields, responseOf}
+use Rattle.message.specs.Access.{readIn, writeIn, wholeOf, speaksFor}
 use Rattle.message.specs.Message.{isApplied, nextGeneration, appliedTo, actOf, fitting, accessIn, answerOf}
 use Rattle.message.proofs.Asked.{Facts, access-cases, asked}
 use Rattle.message.proofs.Acted.{applied-is}
@@ -38,11 +39,39 @@ module _ (c x : List ℕ) (room : ℕ) where
 
 -- ---- whom a message names ----
 
+never : {P : Type 0} → false ≡ true → P
+never e = absurd (let z : _≡_ {A = ℕ} 0 1 = cc in omega arith)
+
 pub speaks-one : (a : Access) (m k : ℕ) → speaksFor m a ≡ true → speaksFor k a ≡ true → m ≡ k
 unfolding speaksFor
-speaks-one Nothing m k e f = absurd (let z : _≡_ {A = ℕ} 0 1 = cc in omega arith)
+speaks-one Nothing m k e f = never e
 speaks-one (Read j offset n) m k e f = sym (eqb-true j m e) ∙ eqb-true j k f
 speaks-one (Write j sent offset n) m k e f = sym (eqb-true j m e) ∙ eqb-true j k f
+
+-- the member that its device number speaks for
+Numbered : ℕ → List ℕ → Access → Type 0
+Numbered m x a = speaksFor m a ≡ true → memberFor x ≡ m
+
+speaks-number : (m : ℕ) (x : List ℕ) → speaksFor m (wholeOf x) ≡ true → memberFor x ≡ m
+unfolding wholeOf readIn writeIn Numbered speaksFor
+speaks-number m x =
+    unless-cases (Numbered m x) _ _ _ (λ t e. never e) λ t.
+    if-cases (Numbered m x) _ _ _ (λ u. unless-cases (Numbered m x) _ _ _ (λ v e. never e) (λ v. eqb-true _ m)) λ u.
+    if-cases (Numbered m x) _ _ _ (λ v. unless-cases (Numbered m x) _ _ _ (λ w e. never e) (λ w. eqb-true _ m))
+    (λ v e. never e)
+
+-- it gets no response where that member is marked
+pub answer-marked : (c x : List ℕ) (m room : ℕ) → isMarked c m ≡ true → speaksFor m (wholeOf x) ≡ true → answerOf c x room ≡ (c, [])
+unfolding accessIn actOf fitting unless_answer_then_
+answer-marked c x m room u e =
+    by-cases (isSound c)
+    (λ s.
+    rw (answer-sound c x room s, speaks-number m x e, u)
+    (by-cases (isMember c m) (λ i. rw i (none-fits c room)) (λ i. rw i (none-fits c room))))
+    (λ s. answer-unsound c x room s)
+  where
+    none-fits : (c : List ℕ) (room : ℕ) → fitting c room (c, []) ≡ (c, [])
+    none-fits c room = by-cases (leb 0 room) (λ t. rw t) (λ t. rw t)
 
 -- ---- the card after it: the same, or with another configuration and generation of the member that it names ----
 

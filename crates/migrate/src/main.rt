@@ -8,7 +8,7 @@ const MEMBERS: u64 = 4;
 
 const QUEUES: u64 = 2;
 
-const CARD: usize = 5084;
+const CARD: usize = 5088;
 // A full capture: the reply's head and all parts.
 const CAPTURE: usize = 309;
 
@@ -293,7 +293,8 @@ fn second_place(card: &mut [u8], reply: &mut [u8], leaving: &[u8], arrived: &mut
 // The first place again: a reset, and another guest.
 fn next_guest(card: &mut [u8], reply: &mut [u8], next: &mut [u8]) {
     transcript::print(b"\nFirst card, member 2: reset, and the next guest\n");
-    kajurnat::kajurnat_reset_member(card, 2, 0);
+    kajurnat::kajurnat_hand_back(card, 2);
+    kajurnat::kajurnat_wipe(card, 2, 0);
     prepare(card, 2, reply);
     get_all(card, 2, next);
 }

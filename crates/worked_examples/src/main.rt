@@ -319,7 +319,7 @@ fn lists(card: &mut [u8]) {
 }
 
 fn main() {
-    let mut card = [0u8; 2556];
+    let mut card = [0u8; 2558];
     fresh(&mut card);
     before_use(&mut card);
     send(Request::list_use(transcript::ALL), &mut card);
