@@ -19,8 +19,9 @@
  *   - A sound card stays sound.
  *   - A capture of all parts of a member can be set in a stopped member of a
  *     card of the same setup, and a capture there gives the same bytes.
- *   - Once a member is reset, no reply and no byte of the card depends on the
- *     commands, messages, stores and restores that named it before.
+ *   - Once a member is wiped, or the card is reset, no reply and no byte of the
+ *     card depends on the commands, messages, stores and restores that named it
+ *     before.
  *   - A list of parts that is restored in fragments is set as one parts set
  *     would set it, with the same answer and the same card, however it was
  *     cut.
@@ -72,7 +73,7 @@ extern "C" {
  * What the bytes of a card mean: raised whenever that changes. A card is for
  * the library whose kajurnat_version() is the one it was made with.
  */
-#define KAJURNAT_VERSION 3
+#define KAJURNAT_VERSION 4
 
 /* The stack that a call takes at most, memcpy, memmove and memset aside. */
 #define KAJURNAT_STACK_BYTES 2560
@@ -95,9 +96,9 @@ enum {
  * sizes. kajurnat_card_bytes() gives the same number at run time.
  */
 #define KAJURNAT_CARD_BYTES(members) \
-    ((size_t)28 + (size_t)1264 * (size_t)(members))
+    ((size_t)28 + (size_t)1265 * (size_t)(members))
 
-/* The answers of setup, of the two resets and of store. */
+/* The answers of setup, hand back, wipe, reset and store. */
 enum {
     KAJURNAT_DONE = 0,
     KAJURNAT_NO_SUCH_MEMBER = 1,
@@ -105,6 +106,7 @@ enum {
     KAJURNAT_WRONG_LENGTH = 3,
     KAJURNAT_BAD_SETUP = 4,
     KAJURNAT_BAD_QUEUE_SIZE = 5, /* a size that no ring has; see Parts */
+    KAJURNAT_OUT_OF_ORDER = 6,   /* of the two halves of a member's reset */
     KAJURNAT_NOT_SOUND = 9 /* the buffer is not a sound card; no status */
 };
 
@@ -178,7 +180,8 @@ enum {
 enum {
     KAJURNAT_STATUS_OK = 0,      /* Q_OK */
     KAJURNAT_STATUS_ENXIO = 6,   /* Q_INVALID_COMMAND: the id is not live */
-    KAJURNAT_STATUS_EAGAIN = 11, /* Q_TRYAGAIN: parts set, member running */
+    KAJURNAT_STATUS_EAGAIN = 11, /* Q_TRYAGAIN: parts set, member running; or
+                                    the member is handed back */
     KAJURNAT_STATUS_ENOMEM = 12, /* Q_NORESOURCE: reply buffer too short */
     KAJURNAT_STATUS_EEXIST = 17, /* Q_INVALID_COMMAND: create, the id is live */
     KAJURNAT_STATUS_EINVAL = 22, /* Q_INVALID_..: the qualifier says what */
@@ -208,6 +211,7 @@ enum {
  *    3  EINVAL INVALID_GROUP    the group type is not KAJURNAT_GROUP_SRIOV
  *    4  EINVAL INVALID_OPCODE   the opcode is not supported, or not in use
  *    5  EINVAL INVALID_MEMBER   0x0a to 0x11: there is no such member
+ *       EAGAIN TRYAGAIN         0x0a to 0x11: the member is handed back
  *    7  EINVAL INVALID_FIELD    a mask bit that is not supported, an object
  *                               type other than KAJURNAT_OBJ_DEV_PARTS, an id
  *                               of gets + sets or more, flags that are not
@@ -362,19 +366,31 @@ size_t kajurnat_command(uint8_t *card, size_t card_len, const uint8_t *request,
                         size_t request_len, uint8_t *reply, size_t reply_len);
 
 /*
- * Makes one member fresh, as after setup, and changes nothing else. Its
- * configuration starts from the generation given, so that the count does not
- * tell of the former guest.
+ * The reset of a member has two halves, so that the data path has time to let go
+ * of its guest. The first: the objects and the holding place of the member are
+ * ended, and it is stopped and marked. Its parts and its configuration stay. Until
+ * it is wiped every command and every restore for it is refused with EAGAIN and
+ * TRYAGAIN, and a message gets the bus outcome; kajurnat_store() still works.
  *
- * Returns KAJURNAT_DONE, or the first that applies of KAJURNAT_NOT_SOUND and
- * KAJURNAT_NO_SUCH_MEMBER.
+ * Returns KAJURNAT_DONE, or the first that applies of KAJURNAT_NOT_SOUND,
+ * KAJURNAT_NO_SUCH_MEMBER and KAJURNAT_OUT_OF_ORDER: it is marked.
  */
-uint8_t kajurnat_reset_member(uint8_t *card, size_t card_len, uint64_t member,
-                              uint32_t generation);
+uint8_t kajurnat_hand_back(uint8_t *card, size_t card_len, uint64_t member);
 
 /*
- * Makes the whole card fresh, as after setup. The configuration of every member
- * starts from the generation given.
+ * The second half: makes a member that is marked fresh, as after setup, and
+ * changes nothing else. The mark is gone. The configuration starts from the
+ * generation given, so that the count does not tell of the former guest.
+ *
+ * Returns KAJURNAT_DONE, or the first that applies of KAJURNAT_NOT_SOUND,
+ * KAJURNAT_NO_SUCH_MEMBER and KAJURNAT_OUT_OF_ORDER: it is not marked.
+ */
+uint8_t kajurnat_wipe(uint8_t *card, size_t card_len, uint64_t member,
+                      uint32_t generation);
+
+/*
+ * Makes the whole card fresh, as after setup, marked members too. The
+ * configuration of every member starts from the generation given.
  *
  * Returns KAJURNAT_DONE or KAJURNAT_NOT_SOUND.
  */
@@ -392,7 +408,7 @@ uint8_t kajurnat_is_sound(const uint8_t *card, size_t card_len);
 uint32_t kajurnat_version(void);
 
 /*
- * Sets one part of one member, running or stopped, for the data path.
+ * Sets one part of one member, running, stopped or marked, for the data path.
  * selector is the queue index or the offset: the eight selector bytes of a
  * part header as a little-endian number. It is not read for other parts.
  *
@@ -409,14 +425,16 @@ uint8_t kajurnat_store(uint8_t *card, size_t card_len, uint64_t member,
 /*
  * A list of parts may come in fragments that end anywhere. Each member has a
  * holding place for them, which is open from begin until finish or drop. Only
- * these four functions and the two resets touch it; commands and stores go on
- * meanwhile, for the same member too.
+ * these four functions, kajurnat_hand_back(), kajurnat_wipe() and
+ * kajurnat_reset_card() touch it; commands and stores go on meanwhile, for the
+ * same member too.
  *
  * Each function returns a status and, in the upper 16 bits, its qualifier, or
  * KAJURNAT_NOT_SOUND, which is no status. The first row that applies answers.
  *
  *   KAJURNAT_NOT_SOUND      the buffer is not a sound card
  *   EINVAL INVALID_MEMBER   there is no such member
+ *   EAGAIN TRYAGAIN         the member is handed back
  *   EEXIST INVALID_COMMAND  begin: the holding place is open
  *   ENXIO  INVALID_COMMAND  feed, finish, drop: it is not open
  *   EINVAL INVALID_COMMAND  feed: over KAJURNAT_RESTORE_BYTES_MAX in all
@@ -512,7 +530,7 @@ enum { KAJURNAT_MSG_GET_CONFIG = 0x05, KAJURNAT_MSG_SET_CONFIG = 0x06 };
  *   - the message is not one whole request of the two kinds: its length,
  *     msg_size and, of a set request, 20 + length have to be the same, and so
  *     have 16 and the length of a get request;
- *   - dev_num is not below members;
+ *   - dev_num is not below members, or its member is handed back;
  *   - the card is not sound;
  *   - the reply buffer is too short for the response to this message.
  */

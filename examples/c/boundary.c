@@ -307,8 +307,11 @@ static void try_restore(void)
                kajurnat_restore_finish(card, sizeof card, 2, SET_ID) ==
                    ANSWER(EINVAL, INVALID_OPCODE) &&
                kajurnat_restore_begin(card, sizeof card, 1) == ANSWER(OK, OK) &&
-               kajurnat_reset_member(card, sizeof card, 1, 0) == KAJURNAT_DONE,
-           "restore: drop, a refused finish and a reset end it");
+               kajurnat_hand_back(card, sizeof card, 1) == KAJURNAT_DONE &&
+               kajurnat_restore_begin(card, sizeof card, 1) ==
+                   ANSWER(EAGAIN, TRYAGAIN) &&
+               kajurnat_wipe(card, sizeof card, 1, 0) == KAJURNAT_DONE,
+           "restore: drop, a refused finish and a hand back end it");
     expect(memcmp(card, before, sizeof card) == 0,
            "restore: nothing is left of it");
 
@@ -327,7 +330,10 @@ static void try_messages(void)
                            0, 0, 0, 0, KAJURNAT_CONFIG_BYTES, 0, 0, 0};
     uint8_t reply[KAJURNAT_MSG_RESPONSE_BYTES_MAX];
 
-    expect(kajurnat_reset_member(card, sizeof card, 2, 7) == KAJURNAT_DONE,
+    expect(kajurnat_hand_back(card, sizeof card, 2) == KAJURNAT_DONE &&
+               kajurnat_message(card, sizeof card, get, sizeof get, reply,
+                                sizeof reply) == 0 &&
+               kajurnat_wipe(card, sizeof card, 2, 7) == KAJURNAT_DONE,
            "message: the generation to start from");
     expect(kajurnat_message(card, sizeof card, set, sizeof set, reply, 21) == 0,
            "message: no room for the response");
@@ -374,7 +380,8 @@ static void try_lengths(void)
            "NULL: command");
     expect(kajurnat_is_sound(NULL, 0) == 0, "NULL: is_sound");
     expect(kajurnat_reset_card(NULL, 0, 0) == KAJURNAT_NOT_SOUND &&
-               kajurnat_reset_member(NULL, 0, 1, 0) == KAJURNAT_NOT_SOUND,
+               kajurnat_hand_back(NULL, 0, 1) == KAJURNAT_NOT_SOUND &&
+               kajurnat_wipe(NULL, 0, 1, 0) == KAJURNAT_NOT_SOUND,
            "NULL: resets");
     expect(kajurnat_store(NULL, 0, 1, KAJURNAT_PART_DEVICE_STATUS, 0, NULL,
                           0) == KAJURNAT_NOT_SOUND &&
@@ -430,7 +437,13 @@ static void try_stores(void)
                kajurnat_store(card, sizeof card, 2, KAJURNAT_PART_VQ_CFG, 0,
                               queue, 31) == KAJURNAT_WRONG_LENGTH,
            "a queue size that no ring has");
-    expect(kajurnat_reset_member(card, sizeof card, 2, 0) == KAJURNAT_DONE &&
+    expect(kajurnat_wipe(card, sizeof card, 2, 0) == KAJURNAT_OUT_OF_ORDER &&
+               kajurnat_hand_back(card, sizeof card, 2) == KAJURNAT_DONE &&
+               kajurnat_hand_back(card, sizeof card, 2) ==
+                   KAJURNAT_OUT_OF_ORDER &&
+               kajurnat_wipe(card, sizeof card, 2, 0) == KAJURNAT_DONE &&
+               kajurnat_hand_back(card, sizeof card, 3) ==
+                   KAJURNAT_NO_SUCH_MEMBER &&
                kajurnat_reset_card(card, sizeof card, 0) == KAJURNAT_DONE,
            "the resets");
 }

@@ -4,8 +4,9 @@
  * The source card is set up, its data path stores some parts of member 1, and
  * the member is stopped and captured. The capture comes to the destination card
  * in fragments, as from a slow connection, and is set in member 2 and captured
- * again: the bytes are the same. In the end member 1 of the source is reset,
- * and nothing of its parts is left.
+ * again: the bytes are the same. In the end member 1 of the source is handed
+ * back, and wiped once the data path has let go of it: nothing of its parts is
+ * left.
  */
 #include "common.h"
 #include "kajurnat.h"
@@ -304,12 +305,29 @@ static void load(struct card *card, uint64_t member,
     report(card, member, "has the parts of the source, byte for byte");
 }
 
+/* The two halves of a reset. The data path may still store parts of the member
+ * between them, and nothing else reaches it. */
 static void reset(struct card *card, uint64_t member)
 {
-    uint8_t answer =
-        kajurnat_reset_member(card->bytes, sizeof card->bytes, member, 0);
-    expect(answer == KAJURNAT_DONE, "the member is reset");
-    report(card, member, "reset");
+    static const uint8_t status = 0x00; /* the data path has let go */
+
+    expect(kajurnat_hand_back(card->bytes, sizeof card->bytes, member) ==
+               KAJURNAT_DONE,
+           "the member is handed back");
+    report(card, member, "handed back");
+    struct reply reply =
+        command(card, KAJURNAT_CMD_DEV_MODE_SET,
+                kajurnat_request_mode(request, sizeof request, member,
+                                      KAJURNAT_MODE_RESUME));
+    expect(reply.status == KAJURNAT_STATUS_EAGAIN, "it takes no command");
+    expect(kajurnat_store(card->bytes, sizeof card->bytes, member,
+                          KAJURNAT_PART_DEVICE_STATUS, 0, &status,
+                          sizeof status) == KAJURNAT_DONE,
+           "the data path stores a last part");
+    expect(kajurnat_wipe(card->bytes, sizeof card->bytes, member, 0) ==
+               KAJURNAT_DONE,
+           "the member is wiped");
+    report(card, member, "wiped");
 
     create_object(card, member, GET_ID, KAJURNAT_OBJ_GET);
     struct capture fresh = capture(card, member);

@@ -86,7 +86,10 @@ MEASURED(size_t, kajurnat_message,
          (uint8_t * card, size_t card_len, const uint8_t *message,
           size_t message_len, uint8_t *reply, size_t reply_len),
          (card, card_len, message, message_len, reply, reply_len))
-MEASURED(uint8_t, kajurnat_reset_member,
+MEASURED(uint8_t, kajurnat_hand_back,
+         (uint8_t * card, size_t card_len, uint64_t member),
+         (card, card_len, member))
+MEASURED(uint8_t, kajurnat_wipe,
          (uint8_t * card, size_t card_len, uint64_t member,
           uint32_t generation),
          (card, card_len, member, generation))

@@ -37,7 +37,8 @@ use core::fmt;
 ///
 /// // The bytes are the whole card. They may be kept, and taken up again.
 /// let mut again = Card::from_bytes(&mut memory)?;
-/// again.reset_member(1, 0)?;
+/// again.hand_back(1)?;
+/// again.wipe(1, 0)?;
 /// assert_eq!(again, Card::new(&SETUP)?);
 /// # Ok::<(), Box<dyn std::error::Error>>(())
 /// ```
@@ -259,19 +260,35 @@ impl<B: AsMut<[u8]>> Card<B> {
         self.memory.as_mut()
     }
 
-    /// Makes one member fresh and changes nothing else. Its configuration
-    /// starts from this generation, so that the count does not tell of the
-    /// former guest.
+    /// Takes one member back from its guest: its objects and its holding place
+    /// are ended, and it is stopped. Until [`Card::wipe`] every command and every
+    /// restore for it is refused with [`Status::EAGAIN`], and no message reaches
+    /// it; the data path may still store its parts.
     ///
     /// # Errors
     ///
-    /// [`EventError::NoSuchMember`] if the card has no such member.
-    pub fn reset_member(&mut self, member: u64, generation: u32) -> Result<(), EventError> {
-        EventError::from_answer(raw::reset_member(self.memory.as_mut(), member, generation))
+    /// The first that applies of [`EventError::NoSuchMember`] and
+    /// [`EventError::OutOfOrder`].
+    ///
+    /// [`Status::EAGAIN`]: crate::Status::EAGAIN
+    pub fn hand_back(&mut self, member: u64) -> Result<(), EventError> {
+        EventError::from_answer(raw::hand_back(self.memory.as_mut(), member))
     }
 
-    /// Makes the whole card fresh. The configuration of every member starts
-    /// from this generation.
+    /// Makes one member that is handed back fresh and changes nothing else. Its
+    /// configuration starts from this generation, so that the count does not
+    /// tell of the former guest.
+    ///
+    /// # Errors
+    ///
+    /// The first that applies of [`EventError::NoSuchMember`] and
+    /// [`EventError::OutOfOrder`].
+    pub fn wipe(&mut self, member: u64, generation: u32) -> Result<(), EventError> {
+        EventError::from_answer(raw::wipe(self.memory.as_mut(), member, generation))
+    }
+
+    /// Makes the whole card fresh, members that are handed back too. The
+    /// configuration of every member starts from this generation.
     pub fn reset(&mut self, generation: u32) {
         let answer = raw::reset_card(self.memory.as_mut(), generation);
         EventError::from_answer(answer).expect("a sound card can be reset");

@@ -1,8 +1,9 @@
-//! The answers to card events: resets and card stores.
+//! The answers to card events: hand backs, wipes and card stores.
 
 use core::fmt;
 
-/// Why a reset or a card store was refused. The card is then unchanged.
+/// Why a hand back, a wipe or a card store was refused. The card is then
+/// unchanged.
 #[derive(Clone, Copy, Debug, PartialEq, Eq)]
 #[non_exhaustive]
 pub enum EventError {
@@ -16,6 +17,9 @@ pub enum EventError {
     /// The value is that of a queue, and no ring has its size: neither a power
     /// of two, nor 0 while the queue is not enabled.
     BadQueueSize,
+    /// The member is handed back already, or is to be wiped and is not handed
+    /// back.
+    OutOfOrder,
 }
 
 impl EventError {
@@ -27,6 +31,7 @@ impl EventError {
             2 => Err(Self::NoSuchPart),
             3 => Err(Self::WrongLength),
             5 => Err(Self::BadQueueSize),
+            6 => Err(Self::OutOfOrder),
             other => panic!("the archive answered {other} to an event of a sound card"),
         }
     }
@@ -39,6 +44,7 @@ impl fmt::Display for EventError {
             Self::NoSuchPart => "the member has no such part to store",
             Self::WrongLength => "the part's value has another length",
             Self::BadQueueSize => "the queue has a size that no ring has",
+            Self::OutOfOrder => "the halves of the member's reset are out of order",
         })
     }
 }

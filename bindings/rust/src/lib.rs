@@ -3,7 +3,7 @@
 //!
 //! A [`Card`] takes group administration commands as bytes and answers in
 //! bytes. Its host builds a [`Request`] from the fields of a command and reads
-//! the reply, resets the card or one of its members; its data path stores the
+//! the reply, resets the card or takes a member back; its data path stores the
 //! parts of its members. What every call answers, and the card after it, is
 //! proved of the archive that this package links; the bindings are not part of
 //! the proof.
@@ -39,8 +39,10 @@
 //!     "the card refused the command: status 22 (EINVAL), qualifier 5 (INVALID_MEMBER)"
 //! );
 //!
-//! // The next guest of member 1 finds nothing of the last one.
-//! card.reset_member(1, 0)?;
+//! // The data path lets go of member 1, and its next guest finds nothing of the
+//! // last one.
+//! card.hand_back(1)?;
+//! card.wipe(1, 0)?;
 //! # Ok::<(), Box<dyn std::error::Error>>(())
 //! ```
 //!

@@ -207,7 +207,8 @@ impl core::error::Error for BadResponse {}
 
 /// The bus outcome: a message gets no response, and nothing is changed. It is
 /// not one whole request that reads or writes a configuration, the card has no
-/// such device, or the buffer is too short for the response.
+/// such device, its member is handed back, or the buffer is too short for the
+/// response.
 #[derive(Clone, Copy, Debug, PartialEq, Eq)]
 pub struct NoResponse;
 

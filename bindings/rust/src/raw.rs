@@ -93,7 +93,8 @@ pub fn command(card: &mut [u8], request: &[u8], reply: &mut [u8]) -> usize {
 /// The bytes of `reply` past that number keep their values. Returns 0, the bus
 /// outcome, with nothing written and nothing changed, if `card` is not sound,
 /// the message is not one whole request of these two kinds for a device that
-/// the card has, or `reply` is too short for the response.
+/// the card has and whose member is not marked, or `reply` is too short for the
+/// response.
 #[must_use]
 pub fn message(card: &mut [u8], message: &[u8], reply: &mut [u8]) -> usize {
     // SAFETY: as in `command`.
@@ -109,13 +110,24 @@ pub fn message(card: &mut [u8], message: &[u8], reply: &mut [u8]) -> usize {
     }
 }
 
-/// Makes one member fresh, with this generation of its configuration. Answers
-/// 0 done, 9 card not sound, 1 no such member.
+/// Ends objects and holding place of one member, stops it and marks it: the
+/// first half of its reset. Answers 0 done, 9 card not sound, 1 no such member,
+/// 6 it is marked.
 #[must_use]
-pub fn reset_member(card: &mut [u8], member: u64, generation: u32) -> u8 {
+pub fn hand_back(card: &mut [u8], member: u64) -> u8 {
     // SAFETY: pointer and length are those of one slice, which is borrowed
     // mutably for the call.
-    unsafe { abi::kajurnat_reset_member(card.as_mut_ptr(), card.len(), member, generation) }
+    unsafe { abi::kajurnat_hand_back(card.as_mut_ptr(), card.len(), member) }
+}
+
+/// Makes one member that is marked fresh, with this generation of its
+/// configuration: the second half of its reset. Answers 0 done, 9 card not
+/// sound, 1 no such member, 6 it is not marked.
+#[must_use]
+pub fn wipe(card: &mut [u8], member: u64, generation: u32) -> u8 {
+    // SAFETY: pointer and length are those of one slice, which is borrowed
+    // mutably for the call.
+    unsafe { abi::kajurnat_wipe(card.as_mut_ptr(), card.len(), member, generation) }
 }
 
 /// Makes the whole card fresh, with this generation of the configuration of
@@ -154,7 +166,7 @@ pub fn store(card: &mut [u8], member: u64, part_type: u16, selector: u64, value:
 ///
 /// This and the three functions below answer a status and 65,536 times its
 /// qualifier, the first that applies: 9 card not sound, 22/5 no such member,
-/// then what stands there; 0 done.
+/// 11/7 it is marked, then what stands there; 0 done.
 ///
 /// Answers 17/1 if it is open.
 #[must_use]

@@ -36,7 +36,8 @@ use core::mem;
 /// It is a [`std::io::Write`] too, so that [`std::io::copy`] feeds it.
 ///
 /// Other calls of the card go through [`Restore::card`] meanwhile. Nothing but
-/// a restore of the same member and the two resets touches its holding place.
+/// a restore of the same member, its hand back and wipe, and a reset of the card
+/// touches its holding place.
 pub struct Restore<'c, B: AsMut<[u8]> = Vec<u8>> {
     card: &'c mut Card<B>,
     member: u64,

@@ -43,7 +43,7 @@ impl Setup {
     /// sizes of arrays.
     #[must_use]
     pub const fn card_bytes(&self) -> usize {
-        28 + 1264 * self.members as usize
+        28 + 1265 * self.members as usize
     }
 
     /// The setup that the head of a sound card holds: the four numbers, one
@@ -118,7 +118,7 @@ mod tests {
     #[test]
     fn an_error_says_what_would_do() {
         assert_eq!(SetupError::Members(17).to_string(), "17 members: a setup has 1 to 16");
-        let error = SetupError::Length { memory: 100, card: 1292 };
-        assert_eq!(error.to_string(), "100 bytes of memory: a card of this setup has 1292");
+        let error = SetupError::Length { memory: 100, card: 1293 };
+        assert_eq!(error.to_string(), "100 bytes of memory: a card of this setup has 1293");
     }
 }

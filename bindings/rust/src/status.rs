@@ -9,7 +9,7 @@ wire_number! {
     OK = 0,
     /// No live object has the id given.
     ENXIO = 6,
-    /// Parts were to be set in a running member.
+    /// Parts were to be set in a running member, or the member is handed back.
     EAGAIN = 11,
     /// The reply buffer is too short for the result.
     ENOMEM = 12,

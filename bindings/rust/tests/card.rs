@@ -190,7 +190,11 @@ fn a_reset_leaves_nothing_of_a_member() {
     card.store(1, PartType::VQ_CFG, 0, &QUEUE).unwrap();
     assert_ne!(capture(&mut card, 1).unwrap(), fresh);
 
-    card.reset_member(1, 0).unwrap();
+    card.hand_back(1).unwrap();
+    let later = refused(Status::EAGAIN, Qualifier::TRYAGAIN);
+    assert_eq!(capture(&mut card, 1), later);
+    card.store(1, PartType::DEVICE_STATUS, 0, &[0]).unwrap();
+    card.wipe(1, 0).unwrap();
     let ended = refused(Status::ENXIO, Qualifier::INVALID_COMMAND);
     assert_eq!(capture(&mut card, 1), ended);
     card.send(Request::create(1, GET, Kind::Get)).unwrap();
@@ -210,8 +214,9 @@ fn a_bad_event_is_named_and_changes_nothing() {
     let mut card = ready_card();
     let before = card.clone();
     let no_member = Err(EventError::NoSuchMember);
-    assert_eq!(card.reset_member(0, 0), no_member);
-    assert_eq!(card.reset_member(u64::MAX, 0), no_member);
+    assert_eq!((card.hand_back(0), card.wipe(0, 1)), (no_member, no_member));
+    assert_eq!(card.hand_back(u64::MAX), no_member);
+    assert_eq!(card.wipe(1, 1), Err(EventError::OutOfOrder));
     assert_eq!(card.store(3, PartType::VQ_CFG, 9, &[]), no_member);
     let no_part = Err(EventError::NoSuchPart);
     assert_eq!(card.store(1, PartType::VQ_CFG, 1, &[0; 32]), no_part);

@@ -14,7 +14,8 @@ fn use_card<B: AsMut<[u8]>>(card: &mut Card<B>) -> Result<(), Box<dyn Error>> {
     stop(card, 2)?;
     let parts = capture(card, 1)?;
     restore(card, 2, &parts)?;
-    card.reset_member(1, 0)?;
+    card.hand_back(1)?;
+    card.wipe(1, 0)?;
     card.command(Request::capture(2, GET), &mut [0; Reply::MAX])?;
     Ok(())
 }

@@ -32,7 +32,9 @@ fn a_reset_gives_the_generation_to_start_from() {
     let mut card = fresh_card();
     let read = Message::get_config(1, 0, 1);
     hear(&mut card, &Message::set_config(1, 0, 0, &[9]).unwrap());
-    card.reset_member(2, u32::MAX).unwrap();
+    card.hand_back(2).unwrap();
+    assert_eq!(card.message(&read, &mut [0; Response::MAX]), Err(NoResponse));
+    card.wipe(2, u32::MAX).unwrap();
     assert_eq!(hear(&mut card, &read), (vec![0], u32::MAX));
     let write = Message::set_config(1, u32::MAX, 0, &[9]).unwrap();
     assert_eq!(hear(&mut card, &write), (vec![9], 0));

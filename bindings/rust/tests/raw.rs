@@ -10,8 +10,8 @@ fn sound_card() -> Vec<u8> {
 }
 
 #[test]
-fn the_bindings_are_for_version_3() {
-    assert_eq!(raw::version(), 3);
+fn the_bindings_are_for_version_4() {
+    assert_eq!(raw::version(), 4);
 }
 
 #[test]
@@ -29,7 +29,7 @@ fn card_bytes_grow_by_one_record_a_member() {
     for members in Setup::MEMBERS {
         let setup = Setup { members, queues: 1, gets: 0, sets: 0, features: [0; 16] };
         assert_eq!(raw::card_bytes(members.into()), setup.card_bytes());
-        assert_eq!(setup.card_bytes(), 28 + 1264 * usize::from(members));
+        assert_eq!(setup.card_bytes(), 28 + 1265 * usize::from(members));
     }
     for members in [0, 17, (1 << 32) + 1, u64::MAX] {
         assert_eq!(raw::card_bytes(members), 0);
@@ -73,7 +73,8 @@ fn a_card_that_is_not_sound_is_refused() {
         let mut response = [0xee; 20];
         assert_eq!(raw::message(&mut card, &read, &mut response), 0);
         assert_eq!(response, [0xee; 20]);
-        assert_eq!(raw::reset_member(&mut card, 1, 0), 9);
+        assert_eq!(raw::hand_back(&mut card, 1), 9);
+        assert_eq!(raw::wipe(&mut card, 1, 0), 9);
         assert_eq!(raw::reset_card(&mut card, 0), 9);
         assert_eq!(raw::store(&mut card, 1, 0x103, 0, &[1]), 9);
         assert_eq!(raw::restore_begin(&mut card, 1), 9);
@@ -93,8 +94,11 @@ fn the_first_cause_is_the_answer() {
     assert_eq!(raw::store(&mut card, 1, 0x104, 0, &[100; 31]), 3);
     assert_eq!(raw::store(&mut card, 1, 0x104, 0, &[100; 32]), 5);
     assert_eq!(raw::store(&mut card, 1, 0x103, 0, &[1]), 0);
-    assert_eq!(raw::reset_member(&mut card, 3, 0), 1);
-    assert_eq!(raw::reset_member(&mut card, 1, 0), 0);
+    assert_eq!((raw::hand_back(&mut card, 3), raw::wipe(&mut card, 3, 0)), (1, 1));
+    assert_eq!(raw::wipe(&mut card, 1, 0), 6);
+    assert_eq!((raw::hand_back(&mut card, 1), raw::hand_back(&mut card, 1)), (0, 6));
+    assert_eq!(raw::restore_begin(&mut card, 1), 11 + 65_536 * 7);
+    assert_eq!(raw::wipe(&mut card, 1, 0), 0);
     assert_eq!(card, sound_card());
 }
 

@@ -202,7 +202,8 @@ fn a_reset_ends_a_restore() {
     let (mut card, parts) = card_and_parts();
     let mut restore = card.begin_restore(2).unwrap();
     restore.feed(&parts).unwrap();
-    restore.card().reset_member(2, 0).unwrap();
+    restore.card().hand_back(2).unwrap();
+    restore.card().wipe(2, 0).unwrap();
     assert_eq!(numbers(restore.feed(&parts)), NOTHING_BEGUN);
     assert_eq!(numbers(restore.finish(SET)), NOTHING_BEGUN);
     let mut restore = card.begin_restore(2).unwrap();

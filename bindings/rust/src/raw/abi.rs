@@ -37,12 +37,9 @@ extern "C" {
         reply_len: usize,
     ) -> usize;
 
-    pub fn kajurnat_reset_member(
-        card: *mut u8,
-        card_len: usize,
-        member: u64,
-        generation: u32,
-    ) -> u8;
+    pub fn kajurnat_hand_back(card: *mut u8, card_len: usize, member: u64) -> u8;
+
+    pub fn kajurnat_wipe(card: *mut u8, card_len: usize, member: u64, generation: u32) -> u8;
 
     pub fn kajurnat_reset_card(card: *mut u8, card_len: usize, generation: u32) -> u8;
 

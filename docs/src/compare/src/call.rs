@@ -22,8 +22,10 @@ pub enum Call {
     Command { request: Buffer, room: Room },
     /// A message with a reply buffer.
     Message { message: Buffer, room: Room },
-    /// Reset of one member, with the generation to start from.
-    ResetMember { member: u64, generation: u32 },
+    /// Hand back of one member.
+    HandBack(u64),
+    /// Wipe of one member, with the generation to start from.
+    Wipe { member: u64, generation: u32 },
     /// Reset of the whole card, with the generation to start from.
     ResetCard(u32),
     /// Card store.
@@ -83,6 +85,13 @@ impl Call {
             }
             Call::Message { message, .. } => Some(Message::read(message)?.member()),
             Call::Store { member, .. } => Some(*member),
+            _ => self.restored(),
+        }
+    }
+
+    /// The member of a call of a restore in fragments.
+    pub fn restored(&self) -> Option<u64> {
+        match self {
             Call::Begin(member) | Call::Drop(member) => Some(*member),
             Call::Feed { member, .. } | Call::Finish { member, .. } => Some(*member),
             _ => None,
@@ -156,8 +165,9 @@ impl fmt::Display for Call {
                 write!(f, "message of {} bytes: {message}", message.len())?;
                 write!(f, ", reply buffer of {room}")
             }
-            Call::ResetMember { member, generation } => {
-                write!(f, "reset of member {member}, generation {generation}")
+            Call::HandBack(member) => write!(f, "hand back of member {member}"),
+            Call::Wipe { member, generation } => {
+                write!(f, "wipe of member {member}, generation {generation}")
             }
             Call::ResetCard(generation) => {
                 write!(f, "reset of the whole card, generation {generation}")
@@ -236,11 +246,12 @@ mod tests {
     }
 
     #[test]
-    fn a_store_names_its_member_and_a_reset_does_not() {
+    fn a_store_names_its_member_and_resets_do_not() {
         let value = vec![].into();
         let store = Call::Store { member: 99, part_type: 0, selector: 0, value };
         assert_eq!(store.named(), Some(99));
-        assert_eq!(Call::ResetMember { member: 1, generation: 0 }.named(), None);
+        assert_eq!(Call::HandBack(1).named(), None);
+        assert_eq!(Call::Wipe { member: 1, generation: 0 }.named(), None);
         assert_eq!(Call::ResetCard(0).named(), None);
     }
 }

@@ -14,7 +14,7 @@ use crate::device::Seen;
 const STATUSES: [&str; 12] =
     ["none", "22/1", "22/4", "22/2", "22/5", "22/3", "17/1", "6/1", "28/1", "11/7", "12/6", "0/0"];
 /// Answers of events in their order.
-const ANSWERS: [&str; 7] = ["9", "1", "2", "3", "5", "4", "0"];
+const ANSWERS: [&str; 8] = ["9", "1", "2", "3", "5", "6", "4", "0"];
 /// What becomes of a request to build and of a reply to read.
 const OUTCOMES: [&str; 2] = ["refused", "done"];
 
@@ -35,8 +35,8 @@ const RESTORES: [&str; 4] = ["restore begin", "restore feed", "restore finish", 
 /// Answers of these in their order.
 const RESTORE_ANSWERS: [&str; 9] =
     ["9", "22/5", "17/1", "6/1", "22/1", "22/2", "22/3", "11/7", "0/0"];
-const EVENTS: [&str; 5] =
-    ["setup", "reset of a member", "reset of the card", "card store", "is sound"];
+const EVENTS: [&str; 6] =
+    ["setup", "hand back", "wipe", "reset of the card", "card store", "is sound"];
 const MESSAGES: [&str; 3] = ["message: read", "message: write", "other messages"];
 /// What becomes of a message.
 const RESPONSES: [&str; 3] = ["none", "length 0", "data"];
@@ -49,15 +49,16 @@ pub struct Coverage(BTreeMap<(&'static str, String), u64>);
 impl Coverage {
     /// Counts a call and its answer, and whether the card after it is sound.
     pub fn note(&mut self, call: &Call, seen: &Seen) {
-        self.count(EVENTS[4], seen.sound.to_string());
+        self.count(EVENTS[5], seen.sound.to_string());
         let (kind, answer) = match call {
             Call::CardBytes(_) | Call::Card(_) => return,
             Call::Command { request, .. } => (command(request), status(seen)),
             Call::Setup { .. } => (EVENTS[0], seen.answer.to_string()),
             Call::Message { message, .. } => (message_kind(message), response(seen)),
-            Call::ResetMember { .. } => (EVENTS[1], seen.answer.to_string()),
-            Call::ResetCard(_) => (EVENTS[2], seen.answer.to_string()),
-            Call::Store { .. } => (EVENTS[3], seen.answer.to_string()),
+            Call::HandBack(_) => (EVENTS[1], seen.answer.to_string()),
+            Call::Wipe { .. } => (EVENTS[2], seen.answer.to_string()),
+            Call::ResetCard(_) => (EVENTS[3], seen.answer.to_string()),
+            Call::Store { .. } => (EVENTS[4], seen.answer.to_string()),
             Call::Begin(_) => (RESTORES[0], restore(seen)),
             Call::Feed { .. } => (RESTORES[1], restore(seen)),
             Call::Finish { .. } => (RESTORES[2], restore(seen)),

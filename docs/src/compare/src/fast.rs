@@ -4,7 +4,7 @@
 //! plain card makes, soundness of the whole card included. All else is left to
 //! the plain card.
 
-use plain_card::bytes::{HEADER, HELD, MODE, OBJECTS, RECORD, VALUES};
+use plain_card::bytes::{HEADER, HELD, MARK, MODE, OBJECTS, RECORD, VALUES};
 use plain_card::exported;
 use plain_card::frame::{array_at, u16_at, u32_at, u64_at};
 use plain_card::holding::ROOM;
@@ -82,11 +82,20 @@ fn sound(header: &[u8; HEADER], records: &[u8]) -> bool {
         (record[MODE] < 2)
             & (u16_at(record, HELD) <= 1 + ROOM as u16)
             & (record[VALUES..VALUES + 16] == features)
+            && (record[MARK] == 0 || let_go(record))
             && objects.iter().fold(true, |low, byte| low & (*byte <= 2))
             && objects[ids..].iter().all(|byte| *byte == 0)
             && sum(&objects, |byte| byte % 2) <= gets
             && sum(&objects, |byte| byte / 2) <= sets
     })
+}
+
+/// Whether a record with a mark is that of a stopped member without objects and
+/// holding place.
+fn let_go(record: &[u8]) -> bool {
+    record[MARK] == 1
+        && record[MODE] == 1
+        && record[OBJECTS..HELD + 2].iter().all(|byte| *byte == 0)
 }
 
 /// Where size and enabled field stand in the first eight bytes of a queue.

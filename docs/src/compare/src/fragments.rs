@@ -43,6 +43,7 @@ impl Trial for Fragments {
         let member = 1 + random.below(card.members.len()) as u64;
         let record = card.member_mut(member);
         record.holding.held = None;
+        record.marked = false;
         if random.chance(70) {
             record.mode = Mode::Stopped;
         }

@@ -157,7 +157,7 @@ mod tests {
             let (_, reply) = side.reply(&call);
             tried.insert((halves.fields.opcode as u16, u16_at(&reply, 0) == 0));
         }
-        // List use and mode set are refused for their fields alone.
-        assert_eq!(tried.len(), 2 * 10 - 2);
+        // List use is refused for its field alone.
+        assert_eq!(tried.len(), 2 * 10 - 1);
     }
 }

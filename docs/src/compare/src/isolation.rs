@@ -1,10 +1,11 @@
 //! Demand 3, tried on random pairs of sequences.
 //!
-//! Two sound cards differ in member m's record at most. Up to a reset of m the
-//! two sequences are the same but for calls that name m; from the reset on
-//! they are the same. The calls before the reset that do not name m must give
-//! the same replies, and from the reset on all calls the same replies and the
-//! same card.
+//! Two sound cards differ in member m's record at most, and not in its mark. A
+//! wipe of m that answers 0, or a reset of the whole card, is its reset. Up to
+//! that the two sequences are the same but for calls that name m, which hand
+//! backs and wipes do not; from the reset on they are the same. The calls before
+//! the reset that do not name m must give the same replies, and from the reset on
+//! all calls the same replies and the same card.
 
 use std::fmt;
 
@@ -44,15 +45,21 @@ impl Trial for Pair {
         let [member, other_member] = [(); 2].map(|()| 1 + random.below(card.members.len()) as u64);
         let favoured = Favoured::members(member, other_member);
         let mut other = card.clone();
-        *other.member_mut(member) = draw::other_record(random, &card.setup);
+        let marked = card.member(member).marked;
+        *other.member_mut(member) = draw::record(random, &card.setup, marked);
         let (left, right) = (card.clone(), other.clone());
         let mut cards = [card, other];
-        let before: Vec<Turn> = (0..random.below(40))
+        let mut before: Vec<Turn> = (0..random.below(40))
             .map(|_| Turn::draw(random, &mut cards, member, favoured))
             .collect();
         let generation = draw::generation(random);
         let reset = match random.chance(75) {
-            true => Call::ResetMember { member, generation },
+            true => {
+                if !cards[0].member(member).marked {
+                    before.push(Turn::both(Call::HandBack(member), &mut cards));
+                }
+                Call::Wipe { member, generation }
+            }
             false => Call::ResetCard(generation),
         };
         apply(&mut cards[0], &reset);
@@ -70,7 +77,14 @@ impl Trial for Pair {
                 return Some(format!("different replies before the reset: {}", turn.call));
             }
         }
-        for call in std::iter::once(&self.reset).chain(&self.after) {
+        let (reset, other) = (left.see(&self.reset), right.see(&self.reset));
+        if reset.answer != 0 {
+            return None; // no reset
+        }
+        if reset != other {
+            return Some(format!("different replies or cards of the reset: {}", self.reset));
+        }
+        for call in &self.after {
             if left.see(call) != right.see(call) {
                 return Some(format!("different replies or cards after the reset: {call}"));
             }
@@ -96,15 +110,23 @@ impl Trial for Pair {
 
 impl Pair {
     /// The pair with another left card; the right one differs from it in the
-    /// member's record alone.
+    /// member's record alone, and not in its mark.
     fn with_cards(&self, left: &Card) -> Pair {
         let mut right = left.clone();
-        *right.member_mut(self.member) = self.right.member(self.member).clone();
+        let record = right.member_mut(self.member);
+        *record = self.right.member(self.member).clone();
+        record.marked = left.member(self.member).marked;
         Pair { left: left.clone(), right, ..self.clone() }
     }
 }
 
 impl Turn {
+    /// A call that both sequences have.
+    fn both(call: Call, cards: &mut [Card; 2]) -> Turn {
+        cards.iter_mut().for_each(|card| apply(card, &call));
+        Turn { call, left: true, right: true }
+    }
+
     /// A call drawn on one of the cards. One that names m goes to that card
     /// alone, any other to both.
     fn draw(random: &mut Random, cards: &mut [Card; 2], member: u64, favoured: Favoured) -> Turn {

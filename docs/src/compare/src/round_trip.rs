@@ -1,7 +1,8 @@
 //! The round trip of demand 2, tried on random cards.
 //!
 //! A full capture of one member, set in a stopped member of a sound card with
-//! the same setup, is accepted, and a capture there gives the same bytes.
+//! the same setup, is accepted, and a capture there gives the same bytes. Neither
+//! is handed back.
 
 use std::fmt;
 
@@ -47,6 +48,8 @@ impl Trial for RoundTrip {
         let target_get = live(random, &mut target, to, Kind::Get);
         let target_set = live(random, &mut target, to, Kind::Set);
         target.member_mut(to).mode = Mode::Stopped;
+        source.member_mut(from).marked = false;
+        target.member_mut(to).marked = false;
         RoundTrip { source, from, source_get, target, to, target_get, target_set }
     }
 

@@ -54,6 +54,9 @@ fn difference(f: &mut fmt::Formatter, record: &Member, fresh: &Member) -> fmt::R
     if record.mode == Mode::Stopped {
         write!(f, ", stopped")?;
     }
+    if record.marked {
+        write!(f, ", handed back")?;
+    }
     for (id, object) in record.objects.0.iter().enumerate() {
         if let Some(kind) = object {
             write!(f, ", object {id} {kind:?}")?;

@@ -50,6 +50,7 @@ fn changes<'a>(record: &Member, fresh: &'a Member) -> Vec<Change<'a>> {
         Box::new(|record| *record = fresh.clone()),
         Box::new(|record| record.values = fresh.values.clone()),
         Box::new(|record| record.objects = Objects::default()),
+        Box::new(|record| record.marked = false),
         Box::new(|record| record.mode = Mode::Running),
         Box::new(|record| record.configuration = fresh.configuration.clone()),
         Box::new(|record| record.holding = Holding::default()),

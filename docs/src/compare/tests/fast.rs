@@ -27,9 +27,8 @@ impl Device for Fast {
             }
             Call::Command { request, .. } => fast::command(card, request, reply.bytes_mut()),
             Call::Message { message, .. } => exported::message(card, message, reply.bytes_mut()),
-            Call::ResetMember { member, generation } => {
-                exported::reset_member(card, *member, *generation).into()
-            }
+            Call::HandBack(member) => exported::hand_back(card, *member).into(),
+            Call::Wipe { member, generation } => exported::wipe(card, *member, *generation).into(),
             Call::ResetCard(generation) => exported::reset_card(card, *generation).into(),
             Call::Store { member, part_type, selector, value } => {
                 exported::store(card, *member, *part_type, *selector, value).into()

@@ -138,7 +138,8 @@ fn a_card_is_not_sound() {
     let mut reply = [7; 600];
     assert_eq!(raw::command(card, &capture(), &mut reply), 0);
     assert_eq!(raw::message(card, &READ, &mut reply), 0);
-    assert_eq!(raw::reset_member(card, 1, 0), 9);
+    assert_eq!(raw::hand_back(card, 1), 9);
+    assert_eq!(raw::wipe(card, 1, 0), 9);
     assert_eq!(raw::reset_card(card, 0), 9);
     assert_eq!(raw::store(card, 1, 0x101, 0, &[7; 16]), 9);
     assert_eq!(raw::restore_begin(card, 1), 9);

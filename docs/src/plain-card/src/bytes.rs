@@ -3,8 +3,9 @@
 //! | header | bytes | record | bytes |
 //! |---|---|---|---|
 //! | N, Q, G, S | 1 each | mode: 0 running, 1 stopped | 1 |
-//! | device features | 16 | objects: 0 free, 1 get, 2 set | 16 |
-//! | list in use, little-endian | 8 | holding place, little-endian: 0 none, k + 1 open with k bytes | 2 |
+//! | device features | 16 | mark: 0 none, 1 handed back | 1 |
+//! | list in use, little-endian | 8 | objects: 0 free, 1 get, 2 set | 16 |
+//! | | | holding place, little-endian: 0 none, k + 1 open with k bytes | 2 |
 //! | | | values of the parts for Q = 4, in order | 205 |
 //! | | | configuration | 12 |
 //! | | | generation, little-endian | 4 |
@@ -26,8 +27,10 @@ pub const HEADER: usize = 28;
 pub const RECORD: usize = HOLDING + ROOM;
 /// Where the mode stands in a record.
 pub const MODE: usize = 0;
+/// Where the mark stands in a record.
+pub const MARK: usize = MODE + 1;
 /// Where the objects stand in a record.
-pub const OBJECTS: usize = MODE + 1;
+pub const OBJECTS: usize = MARK + 1;
 /// Where it stands in a record whether a holding place is open.
 pub const HELD: usize = OBJECTS + IDS;
 /// Where the values stand in a record.
@@ -40,7 +43,8 @@ pub const GENERATION: usize = CONFIGURATION + configuration::LENGTH;
 pub const HOLDING: usize = GENERATION + 4;
 
 /// The card that the bytes say, sound or not. Bytes of another length than the
-/// header's N asks for, a mode byte over 1 and an object byte over 2 say none.
+/// header's N asks for, a mode byte or a mark over 1 and an object byte over 2 say
+/// none.
 pub fn read(bytes: &[u8]) -> Option<Card> {
     let (header, records) = bytes.split_at_checked(HEADER)?;
     let setup = Setup {
@@ -59,7 +63,8 @@ pub fn read(bytes: &[u8]) -> Option<Card> {
 
 fn read_record(record: &[u8]) -> Option<Member> {
     Some(Member {
-        mode: read_mode(record[MODE])?,
+        mode: if read_bit(record[MODE])? { Mode::Stopped } else { Mode::Running },
+        marked: read_bit(record[MARK])?,
         objects: read_objects(&record[OBJECTS..HELD])?,
         values: read_values(&record[VALUES..CONFIGURATION]),
         configuration: Configuration {
@@ -73,12 +78,8 @@ fn read_record(record: &[u8]) -> Option<Member> {
     })
 }
 
-fn read_mode(byte: u8) -> Option<Mode> {
-    match byte {
-        0 => Some(Mode::Running),
-        1 => Some(Mode::Stopped),
-        _ => None,
-    }
+fn read_bit(byte: u8) -> Option<bool> {
+    (byte <= 1).then_some(byte == 1)
 }
 
 fn read_objects(bytes: &[u8]) -> Option<Objects> {
@@ -118,10 +119,8 @@ pub fn write(card: &Card) -> Vec<u8> {
 }
 
 fn write_record(bytes: &mut Vec<u8>, member: &Member) {
-    bytes.push(match member.mode {
-        Mode::Running => 0,
-        Mode::Stopped => 1,
-    });
+    bytes.push((member.mode == Mode::Stopped).into());
+    bytes.push(member.marked.into());
     bytes.extend(member.objects.0.iter().map(|object| match object {
         None => 0,
         Some(Kind::Get) => 1,

@@ -6,7 +6,7 @@ use crate::effect::{put, Effect};
 use crate::frame::Frame;
 use crate::member::{Member, Mode};
 use crate::object::{Kind, Objects};
-use crate::opcode::SUPPORTED;
+use crate::opcode::{Opcode, SUPPORTED};
 use crate::operation::{Command, Operation};
 use crate::setup::Setup;
 use crate::status::Refusal;
@@ -40,6 +40,7 @@ pub(crate) fn answer(card: &mut Card, request: &[u8], result: &mut [u8]) -> Resu
     frame.check_group_type()?; // step 3
     let opcode = frame.opcode_in_use(card.in_use)?; // step 4
     frame.check_member(opcode, &card.setup)?; // step 5
+    check_mark(card, &frame, opcode)?; // right after step 5
     let command = Command::read(opcode, frame.data, &card.setup)?; // step 7
     match command {
         Command::ListQuery => {
@@ -55,6 +56,13 @@ pub(crate) fn answer(card: &mut Card, request: &[u8], result: &mut [u8]) -> Resu
             operate(operation, member, &card.setup, result)
         }
     }
+}
+
+/// Request 10 of document 02: the member that the command names is not handed
+/// back.
+pub fn check_mark(card: &Card, frame: &Frame, opcode: Opcode) -> Result<(), Refusal> {
+    let marked = opcode.names_member() && card.member(frame.member).marked;
+    Refusal::HandedBack.unless(!marked)
 }
 
 /// Steps 8 to 12, for a command that names a member.

@@ -1,4 +1,5 @@
-//! Card events: the two resets and the card store.
+//! Card events: hand back and wipe, which together are the reset of a member
+//! (request 10 of document 02), the reset of the whole card, and the card store.
 
 use crate::card::Card;
 use crate::member::Member;
@@ -6,24 +7,39 @@ use crate::part::Part;
 use crate::status::EventError;
 
 impl Card {
-    /// Reset of one member: makes it fresh, with the generation to start from,
-    /// and changes nothing else.
-    pub fn reset_member(&mut self, member: u64, generation: u32) -> Result<(), EventError> {
-        EventError::NotSound.unless(self.is_sound())?;
-        EventError::NoMember.unless(self.setup.has_member(member))?;
+    /// Hand back of one member, which must not be marked: the first half of its
+    /// reset.
+    pub fn hand_back(&mut self, member: u64) -> Result<(), EventError> {
+        EventError::OutOfOrder.unless(!self.half_of_reset(member)?.marked)?;
+        self.member_mut(member).hand_back();
+        Ok(())
+    }
+
+    /// Wipe of one member, which has to be marked: makes it fresh, with the
+    /// generation to start from, and changes nothing else.
+    pub fn wipe(&mut self, member: u64, generation: u32) -> Result<(), EventError> {
+        EventError::OutOfOrder.unless(self.half_of_reset(member)?.marked)?;
         *self.member_mut(member) = Member::fresh(&self.setup, generation);
         Ok(())
     }
 
-    /// Reset of the whole card: as fresh as after setup, with one generation
-    /// for all members to start from.
+    /// The record of the member that hand back or wipe is for.
+    fn half_of_reset(&self, member: u64) -> Result<&Member, EventError> {
+        EventError::NotSound.unless(self.is_sound())?;
+        EventError::NoMember.unless(self.setup.has_member(member))?;
+        Ok(self.member(member))
+    }
+
+    /// Reset of the whole card: as fresh as after setup, marked members too,
+    /// with one generation for all members to start from.
     pub fn reset(&mut self, generation: u32) -> Result<(), EventError> {
         EventError::NotSound.unless(self.is_sound())?;
         *self = Card::fresh(self.setup.clone(), generation);
         Ok(())
     }
 
-    /// Card store: the data path sets one part of one member, in either mode.
+    /// Card store: the data path sets one part of one member, in either mode,
+    /// marked or not.
     pub fn store(
         &mut self,
         member: u64,

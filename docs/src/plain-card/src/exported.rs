@@ -67,9 +67,14 @@ pub fn message(card: &mut [u8], message: &[u8], reply: &mut [u8]) -> usize {
     written
 }
 
-/// Reset of one member, with the generation to start from.
-pub fn reset_member(card: &mut [u8], member: u64, generation: u32) -> u8 {
-    event(card, |card| card.reset_member(member, generation))
+/// Hand back of one member.
+pub fn hand_back(card: &mut [u8], member: u64) -> u8 {
+    event(card, |card| card.hand_back(member))
+}
+
+/// Wipe of one member, with the generation to start from.
+pub fn wipe(card: &mut [u8], member: u64, generation: u32) -> u8 {
+    event(card, |card| card.wipe(member, generation))
 }
 
 /// Reset of the whole card, with the generation to start from.

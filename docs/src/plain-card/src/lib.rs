@@ -1,10 +1,10 @@
 //! An independent plain Rust card and host, written from document 01 and
-//! requests 1, 2, 3, 5 and 6 of document 02 alone.
+//! requests 1, 2, 3, 5, 6 and 10 of document 02 alone.
 //!
 //! It is the readable, executable version of these and the reference that the
 //! verified archive is compared with. It shares no code with the archive. Terms
 //! of these documents (card, sound, fresh, list in use, card store, holding
-//! place) are used as they stand there.
+//! place, hand back, wipe, mark) are used as they stand there.
 //!
 //! Start with [`command`](mod@command): the status table is two functions, one line a step.
 //!
@@ -14,7 +14,7 @@
 //! | [`frame`], [`opcode`], [`operation`] | from request bytes to what is asked: steps 2 to 7 |
 //! | [`list`] | lists of parts, asked and given: step 10 |
 //! | [`command`](mod@command), [`effect`] | the steps in order, and what a command does |
-//! | [`event`] | resets and card store |
+//! | [`event`] | hand back and wipe, reset of the card, card store |
 //! | [`restore`] | restore in fragments |
 //! | [`message`](mod@message) | configuration by message |
 //! | [`status`] | the numbers of the answers |

@@ -16,12 +16,14 @@ pub enum Mode {
     Stopped,
 }
 
-/// The record of a member: its mode, its live objects, its parts, its
+/// The record of a member: its mode, its mark, its live objects, its parts, its
 /// configuration and its holding place.
 #[derive(Clone, Debug, PartialEq, Eq)]
 pub struct Member {
     /// Running or stopped.
     pub mode: Mode,
+    /// Whether it is handed back and waits for its wipe.
+    pub marked: bool,
     /// The live objects.
     pub objects: Objects,
     /// The values of the parts.
@@ -35,10 +37,11 @@ pub struct Member {
 impl Member {
     /// A fresh member runs, has no objects, has device features as in the
     /// setup and every other part all zero. Its configuration is zero, with the
-    /// generation given. No holding place is open.
+    /// generation given. No holding place is open. It has no mark.
     pub fn fresh(setup: &Setup, generation: u32) -> Member {
         Member {
             mode: Mode::Running,
+            marked: false,
             objects: Objects::default(),
             values: Values { device_features: setup.features, ..Values::default() },
             configuration: Configuration::fresh(generation),
@@ -52,5 +55,22 @@ impl Member {
             && self.values.device_features == setup.features
             && self.values.queues_allowed(setup.queues)
             && self.holding.fits()
+            && (!self.marked || self.is_let_go())
+    }
+
+    /// Whether it is stopped, with no live object and no holding place.
+    fn is_let_go(&self) -> bool {
+        self.mode == Mode::Stopped
+            && self.objects == Objects::default()
+            && self.holding.held.is_none()
+    }
+
+    /// Ends objects and holding place, stops the member and marks it. Parts and
+    /// configuration stay as they are.
+    pub fn hand_back(&mut self) {
+        self.objects = Objects::default();
+        self.holding = Holding::default();
+        self.mode = Mode::Stopped;
+        self.marked = true;
     }
 }

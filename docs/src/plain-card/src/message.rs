@@ -41,7 +41,8 @@ pub enum Asked<'a> {
 }
 
 /// Hears a message and answers in `reply`. The number is that of the bytes
-/// written; 0 is the bus outcome, with nothing written and nothing changed.
+/// written; 0 is the bus outcome, with nothing written and nothing changed. A
+/// member that is handed back gives it too.
 pub fn message(card: &mut Card, message: &[u8], reply: &mut [u8]) -> usize {
     respond(card, message, reply).unwrap_or(0)
 }
@@ -51,7 +52,8 @@ pub fn message(card: &mut Card, message: &[u8], reply: &mut [u8]) -> usize {
 fn respond(card: &mut Card, message: &[u8], reply: &mut [u8]) -> Option<usize> {
     let message = Message::read(message).filter(|_| card.is_sound())?;
     let member = Some(message.member()).filter(|member| card.setup.has_member(*member))?;
-    let configuration = &mut card.member_mut(member).configuration;
+    let record = Some(card.member_mut(member)).filter(|record| !record.marked)?;
+    let configuration = &mut record.configuration;
     let (response, after) = message.response(configuration);
     reply.get_mut(..response.len())?.copy_from_slice(&response);
     *configuration = after;

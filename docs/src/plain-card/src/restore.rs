@@ -48,7 +48,9 @@ impl Card {
     fn holding(&mut self, member: u64) -> Result<&mut Holding, RestoreError> {
         RestoreError::NotSound.unless(self.is_sound())?;
         RestoreError::NoMember.unless(self.setup.has_member(member))?;
-        Ok(&mut self.member_mut(member).holding)
+        let record = self.member_mut(member);
+        RestoreError::HandedBack.unless(!record.marked)?;
+        Ok(&mut record.holding)
     }
 
     /// The holding place of a member, which has to be open.

@@ -11,6 +11,8 @@ pub enum Refusal {
     Opcode,
     /// Step 5: member not 1 to N.
     Member,
+    /// Right after step 5: the member is handed back.
+    HandedBack,
     /// Step 7: a field has a value that is not allowed.
     Field,
     /// Step 8: create on a live id.
@@ -37,6 +39,7 @@ impl Refusal {
             Refusal::GroupType => (22, 4),
             Refusal::Opcode => (22, 2),
             Refusal::Member => (22, 5),
+            Refusal::HandedBack => (11, 7),
             Refusal::Field => (22, 3),
             Refusal::IdLive => (17, 1),
             Refusal::IdNotLive => (6, 1),
@@ -82,6 +85,8 @@ pub enum EventError {
     BadSetup = 4,
     /// The value of a queue part has a size that no ring has.
     BadQueueSize = 5,
+    /// Hand back of a marked member, or wipe of one that is not marked.
+    OutOfOrder = 6,
 }
 
 impl EventError {
@@ -110,6 +115,8 @@ pub enum RestoreError {
     NotSound,
     /// Member not 1 to N.
     NoMember,
+    /// The member is handed back.
+    HandedBack,
     /// Begin while a holding place is open.
     AlreadyBegun,
     /// Another call while none is open.
@@ -135,6 +142,7 @@ impl RestoreError {
         match self {
             RestoreError::NotSound => None,
             RestoreError::NoMember => Some((22, 5)),
+            RestoreError::HandedBack => Some((11, 7)),
             RestoreError::AlreadyBegun => Some((17, 1)),
             RestoreError::NothingBegun => Some((6, 1)),
             RestoreError::TooLong => Some((22, 1)),

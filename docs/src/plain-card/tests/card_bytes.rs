@@ -6,6 +6,16 @@ use common::*;
 use plain_card::configuration::Configuration;
 use plain_card::{bytes, exported};
 
+/// The lengths of header and record, and where the fields of a record stand.
+const HEADER: usize = 28;
+const RECORD: usize = 1265;
+const OBJECTS: usize = 2;
+const HELD: usize = 18;
+const VALUES: usize = 20;
+const CONFIGURATION: usize = 225;
+const GENERATION: usize = 237;
+const HOLDING: usize = 241;
+
 /// The bytes of a card with N=2, Q=2, G=1, S=2 and both members in use.
 fn sample() -> Vec<u8> {
     let mut card = stopped(card(2, 2, 1, 2));
@@ -26,8 +36,10 @@ fn sound(card: &[u8]) -> bool {
     assert_eq!(exported::command(&mut copy, &[], &mut reply) != 0, sound);
     assert_eq!(exported::store(&mut copy, 0, 0, 0, &[]) != 9, sound);
     let read = [0, 5, 0, 0, 0, 0, 16, 0, 0, 0, 0, 0, 0, 0, 0, 0];
-    assert_eq!(exported::message(&mut copy, &read, &mut [PATTERN; 20]) != 0, sound);
-    assert_eq!(exported::reset_member(&mut copy, 0, 0) != 9, sound);
+    let answers = sound && card[HEADER + 1] == 0;
+    assert_eq!(exported::message(&mut copy, &read, &mut [PATTERN; 20]) != 0, answers);
+    assert_eq!(exported::hand_back(&mut copy, 0) != 9, sound);
+    assert_eq!(exported::wipe(&mut copy, 0, 0) != 9, sound);
     assert_eq!(exported::restore_begin(&mut copy, 0) != 9, sound);
     assert_eq!(exported::restore_feed(&mut copy, 0, &[]) != 9, sound);
     assert_eq!(exported::restore_finish(&mut copy, 0, 0) != 9, sound);
@@ -36,6 +48,11 @@ fn sound(card: &[u8]) -> bool {
     assert_eq!(exported::reset_card(&mut copy, 0) != 9, sound);
     assert!(sound || (copy == card && reply == [PATTERN; 8]));
     sound
+}
+
+/// The answers of the two halves of a reset.
+fn reset(card: &mut [u8], member: u64) -> [u8; 2] {
+    [exported::hand_back(card, member), exported::wipe(card, member, 0)]
 }
 
 /// The sample with one byte changed.
@@ -48,21 +65,21 @@ fn with(at: usize, byte: u8) -> Vec<u8> {
 #[test]
 fn the_layout() {
     let card = sample();
-    assert_eq!(card.len(), 28 + 2 * 1264);
+    assert_eq!(card.len(), HEADER + 2 * RECORD);
     assert_eq!(card[..4], [2, 2, 1, 2]);
     assert_eq!(card[20..28], ALL.to_le_bytes());
-    assert_eq!(card[28..33], [1, 1, 2, 0, 0]);
-    let second = &card[28 + 1264..];
-    assert_eq!(second[..17], [0; 17]);
+    assert_eq!(card[HEADER..HEADER + 6], [1, 0, 1, 2, 0, 0]);
+    let second = &card[HEADER + RECORD..];
+    assert_eq!(second[..HELD], [0; HELD]);
     // A holding place of 300 bytes.
-    assert_eq!(second[17..19], [45, 1]);
+    assert_eq!(second[HELD..VALUES], [45, 1]);
     // Queue 1 follows 16 + 16 + 4 + 4 + 2 + 2 + 1 value bytes and queue 0.
-    assert_eq!(second[19 + 45 + 32..19 + 45 + 64], queue(256, 9));
-    assert_eq!(second[19 + 45 + 64..224], [0; 205 - 45 - 64]);
-    assert_eq!(second[224..236], [5; 12]);
-    assert_eq!(second[236..240], [1, 2, 3, 4]);
-    assert_eq!(second[240..240 + 300], [6; 300]);
-    assert_eq!(second[240 + 300..], [0; 724]);
+    assert_eq!(second[VALUES + 45 + 32..VALUES + 45 + 64], queue(256, 9));
+    assert_eq!(second[VALUES + 45 + 64..CONFIGURATION], [0; 205 - 45 - 64]);
+    assert_eq!(second[CONFIGURATION..GENERATION], [5; 12]);
+    assert_eq!(second[GENERATION..HOLDING], [1, 2, 3, 4]);
+    assert_eq!(second[HOLDING..HOLDING + 300], [6; 300]);
+    assert_eq!(second[HOLDING + 300..], [0; 724]);
 }
 
 #[test]
@@ -80,7 +97,7 @@ fn read_and_write_are_inverse() {
 fn the_length_is_exact() {
     let card = sample();
     assert!(sound(&card));
-    for length in [0, 27, 28, 28 + 1264, card.len() - 1] {
+    for length in [0, 27, HEADER, HEADER + RECORD, card.len() - 1] {
         assert!(!sound(&card[..length]));
     }
     assert!(!sound(&[card, vec![0]].concat()));
@@ -93,11 +110,11 @@ fn the_setup_is_in_range() {
             assert_eq!(sound(&with(at, byte)), good.contains(&byte), "byte {at} is {byte}");
         }
     }
-    assert!(!sound(&[0; 28]));
+    assert!(!sound(&[0; HEADER]));
     for members in 1..=20 {
-        let mut header = bytes::write(&card(1, 1, 0, 0))[..28].to_vec();
+        let mut header = bytes::write(&card(1, 1, 0, 0))[..HEADER].to_vec();
         header[0] = members;
-        let card = [header, vec![0; 1264 * usize::from(members)]].concat();
+        let card = [header, vec![0; RECORD * usize::from(members)]].concat();
         assert_eq!(sound(&card), members <= 16);
     }
 }
@@ -113,20 +130,46 @@ fn the_list_in_use_has_supported_bits_only() {
 #[test]
 fn mode_and_object_bytes_say_something() {
     for byte in 0..=255 {
-        assert_eq!(sound(&with(28, byte)), byte <= 1);
+        assert_eq!(sound(&with(HEADER, byte)), byte <= 1);
         // Id 2 of member 1 is free, with room for one more set object.
-        assert_eq!(sound(&with(31, byte)), byte == 0 || byte == 2);
+        assert_eq!(sound(&with(HEADER + OBJECTS + 2, byte)), byte == 0 || byte == 2);
+    }
+}
+
+#[test]
+fn a_mark_is_that_of_a_member_that_is_let_go() {
+    // Member 1 is stopped and has objects; member 2 runs and holds bytes.
+    let let_go = |member: usize| {
+        let mut card = sample();
+        let record = HEADER + RECORD * member;
+        card[record] = 1;
+        card[record + OBJECTS..record + VALUES].fill(0);
+        (card, record)
+    };
+    for member in 0..2 {
+        for byte in 0..=255 {
+            let (mut card, record) = let_go(member);
+            card[record + 1] = byte;
+            assert_eq!(sound(&card), byte <= 1);
+        }
+        for (at, byte) in [(0, 0), (OBJECTS, 1), (OBJECTS + 2, 2), (HELD, 1), (HELD, 45)] {
+            let (mut card, record) = let_go(member);
+            card[record + at] = byte;
+            assert!(sound(&card));
+            card[record + 1] = 1;
+            assert!(!sound(&card));
+        }
     }
 }
 
 #[test]
 fn objects_fit() {
     // Id 3 is not below G + S, and G get and S set objects are the most.
-    assert!(!sound(&with(32, 2)) && !sound(&with(44, 2)));
-    assert!(!sound(&with(31, 1)));
-    let mut card = with(31, 2);
+    assert!(!sound(&with(HEADER + OBJECTS + 3, 2)) && !sound(&with(HEADER + OBJECTS + 15, 2)));
+    assert!(!sound(&with(HEADER + OBJECTS + 2, 1)));
+    let mut card = with(HEADER + OBJECTS + 2, 2);
     assert!(sound(&card));
-    card[29] = 2;
+    card[HEADER + OBJECTS] = 2;
     assert!(!sound(&card));
 }
 
@@ -134,25 +177,25 @@ fn objects_fit() {
 fn device_features_are_those_of_the_setup() {
     for at in 0..16 {
         assert!(!sound(&with(4 + at, 1)));
-        assert!(!sound(&with(28 + 19 + at, 1)));
-        assert!(!sound(&with(28 + 1264 + 19 + at, 1)));
+        assert!(!sound(&with(HEADER + VALUES + at, 1)));
+        assert!(!sound(&with(HEADER + RECORD + VALUES + at, 1)));
     }
 }
 
 #[test]
 fn other_values_are_free_and_carried() {
     // Size and enabled field of the two queues have a rule of their own.
-    let queues = 28 + 19 + 45..28 + 19 + 45 + 64;
+    let queues = HEADER + VALUES + 45..HEADER + VALUES + 45 + 64;
     let ruled =
         |at: &usize| queues.contains(at) && [0, 1, 4, 5].contains(&((at - queues.start) % 32));
-    for at in (28 + 19 + 16..28 + 1264).filter(|at| !ruled(at)) {
+    for at in (HEADER + VALUES + 16..HEADER + RECORD).filter(|at| !ruled(at)) {
         let mut card = with(at, 0xff);
         assert!(sound(&card));
         let before = card.clone();
-        assert_eq!(exported::reset_member(&mut card, 2, 0), 0);
-        assert_eq!(card[..28 + 1264], before[..28 + 1264]);
-        assert_eq!(exported::reset_member(&mut card, 1, 0), 0);
-        assert_eq!(card[28 + 19 + 16..], [0; 2 * 1264 - 19 - 16][..]);
+        assert_eq!(reset(&mut card, 2), [0, 0]);
+        assert_eq!(card[..HEADER + RECORD], before[..HEADER + RECORD]);
+        assert_eq!(reset(&mut card, 1), [0, 0]);
+        assert_eq!(card[HEADER + VALUES + 16..], [0; 2 * RECORD - VALUES - 16][..]);
     }
 }
 
@@ -160,33 +203,33 @@ fn other_values_are_free_and_carried() {
 fn a_holding_place_holds_1024_bytes_at_most() {
     for number in (0..=1100u16).chain([1280, 2049, 4096, 0x8000, 0xfffe, 0xffff]) {
         let mut card = sample();
-        card[28 + 17..28 + 19].copy_from_slice(&number.to_le_bytes());
+        card[HEADER + HELD..HEADER + HELD + 2].copy_from_slice(&number.to_le_bytes());
         let read = bytes::read(&card).unwrap();
         assert_eq!(read.members[0].holding.held, number.checked_sub(1));
         assert_eq!(read.is_sound(), number <= 1025);
         assert_eq!(bytes::write(&read), card);
     }
     for (high, low, good) in [(4, 1, true), (4, 2, false), (0x80, 0, false), (0xff, 0xff, false)] {
-        let mut card = with(28 + 17, low);
-        card[28 + 18] = high;
+        let mut card = with(HEADER + HELD, low);
+        card[HEADER + HELD + 1] = high;
         assert_eq!(sound(&card), good);
     }
 }
 
 #[test]
 fn setup_makes_a_fresh_card_or_zeros() {
-    let mut card = vec![PATTERN; 28 + 2 * 1264];
+    let mut card = vec![PATTERN; HEADER + 2 * RECORD];
     assert_eq!(exported::setup(&mut card, 2, 1, 1, 1, &[0; 16]), 0);
     assert_eq!(card, bytes::write(&fresh()));
     let refused: [(u64, u64, u64, u64, usize, usize); 9] = [
-        (0, 1, 1, 1, 16, 28),
-        (17, 1, 1, 1, 16, 28 + 17 * 1264),
-        (2, 0, 1, 1, 16, 28 + 2 * 1264),
-        (2, 5, 1, 1, 16, 28 + 2 * 1264),
-        (2, 1, 9, 1, 16, 28 + 2 * 1264),
-        (2, 1, 1, 9, 16, 28 + 2 * 1264),
-        (2, 1, 1, 1, 15, 28 + 2 * 1264),
-        (2, 1, 1, 1, 16, 28 + 2 * 1264 + 1),
+        (0, 1, 1, 1, 16, HEADER),
+        (17, 1, 1, 1, 16, HEADER + 17 * RECORD),
+        (2, 0, 1, 1, 16, HEADER + 2 * RECORD),
+        (2, 5, 1, 1, 16, HEADER + 2 * RECORD),
+        (2, 1, 9, 1, 16, HEADER + 2 * RECORD),
+        (2, 1, 1, 9, 16, HEADER + 2 * RECORD),
+        (2, 1, 1, 1, 15, HEADER + 2 * RECORD),
+        (2, 1, 1, 1, 16, HEADER + 2 * RECORD + 1),
         (2, 1, 1, 1, 16, 0),
     ];
     for (members, queues, gets, sets, features, length) in refused {
@@ -200,8 +243,8 @@ fn setup_makes_a_fresh_card_or_zeros() {
 
 #[test]
 fn the_length_of_a_card() {
-    assert_eq!(exported::card_bytes(1), 28 + 1264);
-    assert_eq!(exported::card_bytes(16), 28 + 16 * 1264);
+    assert_eq!(exported::card_bytes(1), HEADER + RECORD);
+    assert_eq!(exported::card_bytes(16), HEADER + 16 * RECORD);
     for members in [0, 17, 257, 1 << 32 | 1, u64::MAX] {
         assert_eq!(exported::card_bytes(members), 0);
     }

@@ -36,7 +36,7 @@ fn a_fresh_card() {
 fn reset_of_a_member_changes_nothing_else() {
     let before = busy();
     let mut card = before.clone();
-    assert_eq!(card.reset_member(1, 7), Ok(()));
+    assert_eq!((card.hand_back(1), card.wipe(1, 7)), (Ok(()), Ok(())));
     assert_eq!(card.members[0], Member::fresh(&card.setup, 7));
     assert_eq!(card.members[1], before.members[1]);
     assert_eq!((&card.setup, card.in_use), (&before.setup, before.in_use));
@@ -80,7 +80,8 @@ fn refusals_in_their_order() {
     let before = busy();
     let mut card = before.clone();
     for member in [0, 3, 1 << 32 | 1, u64::MAX] {
-        assert_eq!(card.reset_member(member, 7), Err(EventError::NoMember));
+        assert_eq!(card.hand_back(member), Err(EventError::NoMember));
+        assert_eq!(card.wipe(member, 7), Err(EventError::NoMember));
         assert_eq!(card.store(member, 0x999, [0; 8], &[]), Err(EventError::NoMember));
     }
     for part_type in [0x100, 0x106, 0x600] {
@@ -102,7 +103,8 @@ fn an_unsound_card_answers_9_first() {
     card.in_use = 4;
     let before = card.clone();
     assert_eq!(card.reset(7), Err(EventError::NotSound));
-    assert_eq!(card.reset_member(9, 7), Err(EventError::NotSound));
+    assert_eq!(card.hand_back(9), Err(EventError::NotSound));
+    assert_eq!(card.wipe(9, 7), Err(EventError::NotSound));
     assert_eq!(card.store(9, 0x999, [0; 8], &[]), Err(EventError::NotSound));
     assert_eq!(card, before);
 }
@@ -116,5 +118,6 @@ fn the_numbers_of_the_answers() {
     assert_eq!(answer(Err(EventError::WrongLength)), 3);
     assert_eq!(answer(Err(EventError::BadSetup)), 4);
     assert_eq!(answer(Err(EventError::BadQueueSize)), 5);
+    assert_eq!(answer(Err(EventError::OutOfOrder)), 6);
     assert_eq!(answer(Err(EventError::NotSound)), 9);
 }

@@ -154,7 +154,8 @@ fn empty_list_use_blocks_every_command_until_a_card_reset() {
     for (opcode, data) in whole() {
         assert_eq!(status(&mut card, &request(opcode, 1, &data)), (22, 2));
     }
-    card.reset_member(1, 0).unwrap();
+    card.hand_back(1).unwrap();
+    card.wipe(1, 0).unwrap();
     assert_eq!(status(&mut card, &request(LIST_USE, 0, &ALL.to_le_bytes())), (22, 2));
     card.reset(0).unwrap();
     assert_eq!(status(&mut card, &request(LIST_USE, 0, &ALL.to_le_bytes())), OK);

@@ -291,7 +291,7 @@ fn the_configuration_is_no_part() {
 #[test]
 fn resets_give_the_generation_to_start_from() {
     let mut card = ready();
-    assert_eq!(card.reset_member(2, 77), Ok(()));
+    assert_eq!((card.hand_back(2), card.wipe(2, 77)), (Ok(()), Ok(())));
     assert_eq!(card.members[1], Member::fresh(&card.setup, 77));
     assert_eq!(card.members[0].configuration.generation, 0);
     assert_eq!(answer(&mut card, &read(0, 1)), response(GET_CONFIG, 77, 0, &[0]));
@@ -299,6 +299,6 @@ fn resets_give_the_generation_to_start_from() {
     for member in &card.members {
         assert_eq!(member.configuration, Configuration::fresh(u32::MAX));
     }
-    assert!(card.reset_member(3, 5).is_err());
+    assert!(card.wipe(1, 5).is_err() && card.wipe(3, 5).is_err());
     assert!(card.members.iter().all(|member| member.configuration.generation == u32::MAX));
 }

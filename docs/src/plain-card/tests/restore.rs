@@ -240,7 +240,7 @@ fn each_member_has_a_place_of_its_own() {
 fn both_resets_drop_it() {
     let mut card = holding(&list());
     assert_eq!(card.restore_begin(2), Ok(()));
-    assert_eq!(card.reset_member(1, 0), Ok(()));
+    assert_eq!((card.hand_back(1), card.wipe(1, 0)), (Ok(()), Ok(())));
     assert_eq!((held(&card, 1), held(&card, 2)), (None, Some(&[][..])));
     assert_eq!(bytes::write(&card)[28 + 35..28 + 1248], [0; 1248 - 35]);
     let mut card = holding(&list());

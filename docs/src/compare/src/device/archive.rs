@@ -50,9 +50,8 @@ impl Archive {
             Call::Card(_) => 0,
             Call::Command { .. } => raw::command(card, input, reply),
             Call::Message { .. } => raw::message(card, input, reply),
-            Call::ResetMember { member, generation } => {
-                raw::reset_member(card, *member, *generation).into()
-            }
+            Call::HandBack(member) => raw::hand_back(card, *member).into(),
+            Call::Wipe { member, generation } => raw::wipe(card, *member, *generation).into(),
             Call::ResetCard(generation) => raw::reset_card(card, *generation).into(),
             Call::Store { member, part_type, selector, .. } => {
                 raw::store(card, *member, *part_type, *selector, input).into()

@@ -58,9 +58,8 @@ impl Plain {
                 Plain::Card(card) => message(card, sent, reply),
                 Plain::NoCard(_) => 0,
             },
-            Call::ResetMember { member, generation } => {
-                self.event(|card| card.reset_member(*member, *generation))
-            }
+            Call::HandBack(member) => self.event(|card| card.hand_back(*member)),
+            Call::Wipe { member, generation } => self.event(|card| card.wipe(*member, *generation)),
             Call::ResetCard(generation) => self.event(|card| card.reset(*generation)),
             Call::Store { member, part_type, selector, value } => {
                 self.event(|card| card.store(*member, *part_type, selector.to_le_bytes(), value))

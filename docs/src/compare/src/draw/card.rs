@@ -1,7 +1,8 @@
 //! Random setups and cards.
 
-use plain_card::bytes::{self, HEADER, HELD, HOLDING, MODE, OBJECTS, RECORD, VALUES};
+use plain_card::bytes::{self, HEADER, HELD, HOLDING, MARK, MODE, OBJECTS, RECORD, VALUES};
 use plain_card::configuration::Configuration;
+use plain_card::holding::ROOM;
 use plain_card::member::{Member, Mode};
 use plain_card::object::{Kind, IDS};
 use plain_card::opcode::SUPPORTED;
@@ -46,6 +47,12 @@ pub fn sound_card(random: &mut Random) -> Card {
 
 /// A record that may stand in a sound card of this setup.
 pub fn other_record(random: &mut Random, setup: &Setup) -> Member {
+    let marked = random.chance(12);
+    record(random, setup, marked)
+}
+
+/// The same with this mark.
+pub fn record(random: &mut Random, setup: &Setup, marked: bool) -> Member {
     let mut member = Member::fresh(setup, 0);
     if random.chance(50) {
         member.mode = Mode::Stopped;
@@ -61,6 +68,12 @@ pub fn other_record(random: &mut Random, setup: &Setup) -> Member {
     }
     if random.chance(30) {
         member.holding = restore::holding(random, setup);
+    }
+    if marked {
+        // What stands in the room of no holding place is not looked at.
+        let room = member.holding.room;
+        member.hand_back();
+        member.holding.room = if random.chance(30) { room } else { [0; ROOM] };
     }
     if random.chance(70) {
         let bytes = std::array::from_fn(|_| random.byte());
@@ -118,10 +131,11 @@ fn break_rule(random: &mut Random, card: &mut [u8]) {
     let last = (card.len() - HEADER) / RECORD - 1;
     let member = if random.chance(40) { last } else { random.below(last + 1) };
     let record = HEADER + RECORD * member;
-    let [mode, objects, held, features] = [MODE, OBJECTS, HELD, VALUES].map(|at| record + at);
+    let [mode, mark, objects, held, features] =
+        [MODE, MARK, OBJECTS, HELD, VALUES].map(|at| record + at);
     let queues = usize::from(card[1]);
     let valid = usize::from(card[2] + card[3]);
-    match random.below(12) {
+    match random.below(16) {
         0 => card[1] = random.pick(&[0, 5, 255]),
         1 => card[2 + random.below(2)] = random.pick(&[9, 16, 255]),
         2 => card[4 + random.below(16)] ^= 1 << random.below(8),
@@ -135,6 +149,18 @@ fn break_rule(random: &mut Random, card: &mut [u8]) {
             card[held..held + 2].copy_from_slice(&number.to_le_bytes());
         }
         9 => card[features + random.below(16)] ^= 1 << random.below(8),
+        10 => card[mark] = random.pick(&[2, 3, 128, 255]),
+        11..=13 => {
+            // Marked, and not let go in one way.
+            card[mode] = 1;
+            card[mark] = 1;
+            card[objects..features].fill(0);
+            match random.below(3) {
+                0 => card[mode] = 0,
+                1 if valid > 0 => card[objects + random.below(valid)] = 1 + random.byte() % 2,
+                _ => card[held] = random.pick(&[1, 1, 2, 200]),
+            }
+        }
         _ => {
             let queue = features + FIRST_QUEUE + 32 * random.below(queues);
             card[queue..queue + 32].copy_from_slice(&value::bad_queue(random));

@@ -119,9 +119,9 @@ fn mask(random: &mut Random) -> u64 {
     }
 }
 
-/// A member and an id that is free, or live and of a kind, on it; and the
-/// member stopped, if that is asked; more often a favoured one. Sometimes, or
-/// if there is none, any.
+/// A member that is not handed back and an id that is free, or live and of a
+/// kind, on it; and the member stopped, if that is asked; more often a favoured
+/// one. Sometimes, or if there is none, any.
 fn member_and_id(
     random: &mut Random,
     card: &Card,
@@ -132,7 +132,7 @@ fn member_and_id(
     let valid = u32::from(card.setup.gets) + u32::from(card.setup.sets);
     let mut fitting = vec![];
     for (member, record) in (1..).zip(&card.members) {
-        if !stopped || record.mode == Mode::Stopped {
+        if !record.marked && (!stopped || record.mode == Mode::Stopped) {
             let ids = (0..valid.min(IDS as u32)).filter(|id| record.objects.find(*id) == wanted);
             fitting.extend(ids.map(|id| (member, id)));
         }

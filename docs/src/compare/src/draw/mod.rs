@@ -10,7 +10,7 @@ mod restore;
 mod spoil;
 mod value;
 
-pub use card::{any_bytes, other_record, setup_numbers, sound_card};
+pub use card::{any_bytes, other_record, record, setup_numbers, sound_card};
 pub use list::{asked, given};
 pub use message::generation;
 pub use restore::{list_to_restore, set_id};
@@ -111,14 +111,15 @@ pub fn next(random: &mut Random, card: Option<&Card>, favoured: Favoured) -> Cal
 pub fn on_card(random: &mut Random, card: &Card, favoured: Favoured) -> Call {
     // Without list use nothing but a reset changes the list again.
     let locked = card.in_use & Opcode::ListUse.bit() == 0;
-    match random.weighted(&[80, 12, 30, 16, 5, if locked { 20 } else { 1 }]) {
+    match random.weighted(&[80, 12, 30, 16, 3, 7, if locked { 20 } else { 1 }]) {
         0 => command::command(random, card, favoured),
         1 => store(random, card, favoured),
         2 => restore::restore(random, card, favoured),
         3 => message::message(random, card, favoured),
-        4 => {
-            let member = any_member(random, card, favoured);
-            Call::ResetMember { member, generation: generation(random) }
+        4 => Call::HandBack(any_member(random, card, favoured)),
+        5 => {
+            let member = member_to_wipe(random, card, favoured);
+            Call::Wipe { member, generation: generation(random) }
         }
         _ => Call::ResetCard(generation(random)),
     }
@@ -194,6 +195,16 @@ fn member(random: &mut Random, card: &Card, favoured: Favoured) -> u64 {
         return favoured.pick(random, card);
     }
     1 + random.below(usize::from(card.setup.members).max(1)) as u64
+}
+
+/// A member to wipe: mostly one that is handed back, if there is one.
+fn member_to_wipe(random: &mut Random, card: &Card, favoured: Favoured) -> u64 {
+    let marked = |member: &u64| card.members[*member as usize - 1].marked;
+    let marked: Vec<u64> = (1..).take(card.members.len()).filter(marked).collect();
+    match marked.is_empty() || random.chance(20) {
+        true => any_member(random, card, favoured),
+        false => random.pick(&marked),
+    }
 }
 
 /// A member field: of the card, beside its ends, or with higher bits set.

@@ -1,4 +1,4 @@
-//! Faults of setup, resets and card store.
+//! Faults of setup, wipe, reset of the card and card store.
 
 use plain_card::bytes::{HEADER, RECORD};
 use plain_card::card::Card;
@@ -14,33 +14,24 @@ use crate::memory::pattern;
 pub const FAULTS: &[Fault] = &[
     breaking(
         &[Property::Isolation],
-        "trade: member reset keeps queue addresses",
-        Plant::Leave(reset_keeps_queues),
+        "trade: a wipe keeps queue addresses",
+        Plant::Leave(wipe_keeps_queues),
     ),
-    fault("trade: member reset clears the list in use", Plant::Leave(reset_clears_list)),
+    fault("trade: a wipe clears the list in use", Plant::Leave(wipe_clears_list)),
+    fault("wipe: the member stays stopped", Plant::Leave(wipe_keeps_mode)),
     breaking(
         &[Property::Isolation],
-        "reset: member keeps its mode",
-        Plant::Leave(reset_keeps_mode),
-    ),
-    breaking(
-        &[Property::Isolation],
-        "reset: member keeps its objects",
-        Plant::Leave(reset_keeps_objects),
+        "wipe: members past the 8th keep their status",
+        Plant::Leave(wipe_past_8),
     ),
     breaking(
         &[Property::Isolation],
-        "reset: members past the 8th keep objects",
-        Plant::Leave(reset_past_8),
+        "wipe: member 16 keeps its notify values",
+        Plant::Leave(wipe_16),
     ),
-    breaking(
-        &[Property::Isolation],
-        "reset: member 16 keeps its notify values",
-        Plant::Leave(reset_16),
-    ),
-    fault("reset: the next member too", Plant::Leave(reset_next)),
+    fault("wipe: the next member too", Plant::Leave(wipe_next)),
     fault("reset: whole card keeps the list in use", Plant::Leave(card_keeps_list)),
-    fault("reset: queues beyond Q kept", Plant::Leave(reset_keeps_beyond)),
+    fault("wipe: queues beyond Q kept", Plant::Leave(wipe_keeps_beyond)),
     fault("store: refused while running", Plant::Leave(store_running)),
     fault("store: device features set", Plant::Leave(store_features)),
     fault("store: whole selector read", Plant::Leave(store_selector)),
@@ -51,44 +42,38 @@ pub const FAULTS: &[Fault] = &[
     fault("card bytes: a length for 17 members", Plant::Leave(length_of_17)),
 ];
 
-fn reset_keeps_queues(outcome: &mut Outcome) {
-    if let Some((before, after, member)) = outcome.reset() {
+fn wipe_keeps_queues(outcome: &mut Outcome) {
+    if let Some((before, after, member)) = outcome.wiped() {
         after.member_mut(member).values.queues = before.member(member).values.queues;
     }
 }
 
-fn reset_clears_list(outcome: &mut Outcome) {
-    if let Some((_, after, _)) = outcome.reset() {
+fn wipe_clears_list(outcome: &mut Outcome) {
+    if let Some((_, after, _)) = outcome.wiped() {
         after.in_use = FRESH;
     }
 }
 
-fn reset_keeps_mode(outcome: &mut Outcome) {
-    if let Some((before, after, member)) = outcome.reset() {
+fn wipe_keeps_mode(outcome: &mut Outcome) {
+    if let Some((before, after, member)) = outcome.wiped() {
         after.member_mut(member).mode = before.member(member).mode;
     }
 }
 
-fn reset_keeps_objects(outcome: &mut Outcome) {
-    if let Some((before, after, member)) = outcome.reset() {
-        after.member_mut(member).objects = before.member(member).objects.clone();
+fn wipe_past_8(outcome: &mut Outcome) {
+    if let Some((before, after, member @ 9..)) = outcome.wiped() {
+        after.member_mut(member).values.device_status = before.member(member).values.device_status;
     }
 }
 
-fn reset_past_8(outcome: &mut Outcome) {
-    if let Some((before, after, member @ 9..)) = outcome.reset() {
-        after.member_mut(member).objects = before.member(member).objects.clone();
-    }
-}
-
-fn reset_16(outcome: &mut Outcome) {
-    if let Some((before, after, 16)) = outcome.reset() {
+fn wipe_16(outcome: &mut Outcome) {
+    if let Some((before, after, 16)) = outcome.wiped() {
         after.member_mut(16).values.notifies = before.member(16).values.notifies;
     }
 }
 
-fn reset_next(outcome: &mut Outcome) {
-    if let Some((_, after, member)) = outcome.reset() {
+fn wipe_next(outcome: &mut Outcome) {
+    if let Some((_, after, member)) = outcome.wiped() {
         if after.setup.has_member(member + 1) {
             *after.member_mut(member + 1) = after.member(member).clone();
         }
@@ -101,8 +86,8 @@ fn card_keeps_list(outcome: &mut Outcome) {
     }
 }
 
-fn reset_keeps_beyond(outcome: &mut Outcome) {
-    if let Some((before, after, member)) = outcome.reset() {
+fn wipe_keeps_beyond(outcome: &mut Outcome) {
+    if let Some((before, after, member)) = outcome.wiped() {
         let queues = usize::from(after.setup.queues);
         let old = &before.member(member).values;
         let new = &mut after.member_mut(member).values;

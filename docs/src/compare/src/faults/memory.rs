@@ -43,7 +43,8 @@ fn input<'a>(name: &str, call: &Call, lending: &'a mut Lending) -> Option<&'a mu
 
 /// Whether the call is one that is lent the card.
 fn on_card(call: &Call) -> bool {
-    let event = matches!(call, Call::ResetMember { .. } | Call::ResetCard(_) | Call::Store { .. });
+    let half = matches!(call, Call::HandBack(_) | Call::Wipe { .. });
+    let event = half || matches!(call, Call::ResetCard(_) | Call::Store { .. });
     event || matches!(call, Call::Setup { .. } | Call::Command { .. } | Call::Message { .. })
 }
 

@@ -27,9 +27,9 @@ pub const FAULTS: &[Fault] = &[
     fault("message: refused by a stopped member", Plant::Leave(stopped_refused)),
     fault("message: applied without room to answer", Plant::Leave(applied_unanswered)),
     fault("message: a store moves the generation", Plant::Leave(store_moves)),
-    breaking(ISOLATION, "message: member reset keeps generation", Plant::Leave(reset_keeps)),
-    breaking(ISOLATION, "message: member reset keeps the bytes", Plant::Leave(reset_keeps_bytes)),
-    breaking(ISOLATION, "message: member reset adds to generation", Plant::Leave(reset_adds)),
+    breaking(ISOLATION, "message: a wipe keeps the generation", Plant::Leave(wipe_keeps)),
+    breaking(ISOLATION, "message: a wipe keeps the bytes", Plant::Leave(wipe_keeps_bytes)),
+    breaking(ISOLATION, "message: a wipe adds to the generation", Plant::Leave(wipe_adds)),
     breaking(ISOLATION, "message: card reset keeps the bytes", Plant::Leave(card_keeps)),
     fault("message: card reset, member 1 alone", Plant::Leave(card_first)),
     breaking(EXCHANGE, "message: one generation for the card", Plant::Leave(one_generation)),
@@ -205,26 +205,26 @@ fn store_moves(outcome: &mut Outcome) {
     }
 }
 
-/// The configuration of a member before and after its reset.
-fn reset<'a>(outcome: &'a mut Outcome) -> Option<(&'a Configuration, &'a mut Configuration)> {
-    let (before, after, member) = outcome.reset()?;
+/// The configuration of a member before and after its wipe.
+fn wiped<'a>(outcome: &'a mut Outcome) -> Option<(&'a Configuration, &'a mut Configuration)> {
+    let (before, after, member) = outcome.wiped()?;
     Some((&before.member(member).configuration, &mut after.member_mut(member).configuration))
 }
 
-fn reset_keeps(outcome: &mut Outcome) {
-    if let Some((before, after)) = reset(outcome) {
+fn wipe_keeps(outcome: &mut Outcome) {
+    if let Some((before, after)) = wiped(outcome) {
         after.generation = before.generation;
     }
 }
 
-fn reset_keeps_bytes(outcome: &mut Outcome) {
-    if let Some((before, after)) = reset(outcome) {
+fn wipe_keeps_bytes(outcome: &mut Outcome) {
+    if let Some((before, after)) = wiped(outcome) {
         after.bytes = before.bytes;
     }
 }
 
-fn reset_adds(outcome: &mut Outcome) {
-    if let Some((before, after)) = reset(outcome) {
+fn wipe_adds(outcome: &mut Outcome) {
+    if let Some((before, after)) = wiped(outcome) {
         after.generation = after.generation.wrapping_add(before.generation);
     }
 }

@@ -13,6 +13,7 @@ mod data;
 mod events;
 mod exchange;
 mod frame;
+mod halves_of_reset;
 mod host;
 mod length;
 mod memory;
@@ -236,6 +237,7 @@ pub fn all() -> Vec<&'static Fault> {
         parts::FAULTS,
         queue::FAULTS,
         events::FAULTS,
+        halves_of_reset::FAULTS,
         restore::FAULTS,
         message::FAULTS,
         message_frame::FAULTS,

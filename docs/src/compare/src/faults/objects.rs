@@ -32,8 +32,8 @@ pub const FAULTS: &[Fault] = &[
 /// Create is refused once as many objects as may live have ever been made.
 fn every_id_counts(outcome: &mut Outcome) {
     match outcome.call {
-        Call::ResetMember { member, .. } => outcome.memory.made.retain(|(m, _), _| m != member),
-        Call::Command { .. } | Call::Store { .. } => {}
+        Call::Wipe { member, .. } => outcome.memory.made.retain(|(m, _), _| m != member),
+        Call::Command { .. } | Call::Store { .. } | Call::HandBack(_) => {}
         _ => outcome.memory.made.clear(),
     }
     let Some((member, Operation::Create(_, kind))) = outcome.operation() else { return };

@@ -37,8 +37,9 @@ pub const FAULTS: &[Fault] = &[
     breaking(FRAGMENTS, "restore: parts ahead of a bad one set", Plant::Leave(part_way)),
     fault("restore: parts set drops the place", Plant::Leave(set_drops)),
     fault("restore: destroy drops the place", Plant::Leave(destroy_drops)),
-    breaking(ISOLATION, "restore: member reset keeps the place", Plant::Leave(reset_keeps)),
-    breaking(ISOLATION, "restore: member reset keeps the bytes", Plant::Leave(reset_keeps_bytes)),
+    fault("restore: hand back keeps the place", Plant::Leave(hand_back_keeps)),
+    fault("restore: hand back keeps the bytes", Plant::Leave(hand_back_keeps_bytes)),
+    breaking(ISOLATION, "restore: a wipe keeps the bytes", Plant::Leave(wipe_keeps_bytes)),
     breaking(ISOLATION, "restore: card reset keeps the place", Plant::Leave(card_keeps)),
     breaking(EXCHANGE, "restore: one place for the whole card", Plant::Leave(one_place)),
     breaking(EXCHANGE, "restore: begin drops those of others", Plant::Leave(begin_drops_others)),
@@ -50,18 +51,13 @@ fn refused(error: RestoreError) -> usize {
 }
 
 /// The cards before and after a call of a restore on a sound card, and its
-/// member, which the card has.
+/// member, which the card has and which is not handed back.
 fn restored<'a>(outcome: &'a mut Outcome) -> Option<(&'a Card, &'a mut Card, u64)> {
-    let (Call::Begin(member)
-    | Call::Feed { member, .. }
-    | Call::Finish { member, .. }
-    | Call::Drop(member)) = outcome.call
-    else {
-        return None;
-    };
+    let member = outcome.call.restored()?;
     let (before, after) = outcome.cards()?;
-    let reached = before.is_sound() && before.setup.has_member(*member);
-    reached.then_some((before, after, *member))
+    let has = before.is_sound() && before.setup.has_member(member);
+    let reached = has && !before.member(member).marked;
+    reached.then_some((before, after, member))
 }
 
 /// The same with the place before and after, which was open.
@@ -280,21 +276,21 @@ fn destroy_drops(outcome: &mut Outcome) {
     }
 }
 
-/// The place of a member before and after its reset.
-fn reset<'a>(outcome: &'a mut Outcome) -> Option<(&'a Holding, &'a mut Holding)> {
-    let (before, after, member) = outcome.reset()?;
-    Some((&before.member(member).holding, &mut after.member_mut(member).holding))
-}
-
-fn reset_keeps(outcome: &mut Outcome) {
-    if let Some((before, after)) = reset(outcome) {
-        *after = before.clone();
+fn hand_back_keeps(outcome: &mut Outcome) {
+    if let Some((before, after)) = outcome.handed_back() {
+        after.holding = before.holding.clone();
     }
 }
 
-fn reset_keeps_bytes(outcome: &mut Outcome) {
-    if let Some((before, after)) = reset(outcome) {
-        after.room = before.room;
+fn hand_back_keeps_bytes(outcome: &mut Outcome) {
+    if let Some((before, after)) = outcome.handed_back() {
+        after.holding.room = before.holding.room;
+    }
+}
+
+fn wipe_keeps_bytes(outcome: &mut Outcome) {
+    if let Some((before, after, member)) = outcome.wiped() {
+        after.member_mut(member).holding.room = before.member(member).holding.room;
     }
 }
 

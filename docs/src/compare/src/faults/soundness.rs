@@ -47,7 +47,8 @@ fn list_bits(card: &mut Vec<u8>) {
     }
 }
 
-fn records(card: &mut [u8]) -> impl Iterator<Item = &mut [u8]> {
+/// The records of a card.
+pub fn records(card: &mut [u8]) -> impl Iterator<Item = &mut [u8]> {
     card.get_mut(HEADER..).unwrap_or_default().chunks_exact_mut(RECORD)
 }
 

@@ -2,9 +2,10 @@
 
 use std::ops::Range;
 
-use plain_card::command;
+use plain_card::command::{check_mark, command};
 use plain_card::frame::{u32_at, Frame, DATA};
 use plain_card::list::Header;
+use plain_card::member::Member;
 use plain_card::opcode::Opcode;
 use plain_card::operation::{Command, Operation};
 use plain_card::part::{Part, HEADER};
@@ -22,10 +23,12 @@ pub fn opcode<'a>(card: &Card, request: &'a [u8]) -> Option<(Frame<'a>, Opcode)>
     Some((frame, opcode))
 }
 
-/// Frame and opcode of a request that steps 2 to 5 let pass.
+/// Frame and opcode of a request that steps 2 to 5 let pass, for a member that
+/// is not handed back.
 pub fn framed<'a>(card: &Card, request: &'a [u8]) -> Option<(Frame<'a>, Opcode)> {
     let (frame, opcode) = opcode(card, request)?;
     frame.check_member(opcode, &card.setup).ok()?;
+    check_mark(card, &frame, opcode).ok()?;
     Some((frame, opcode))
 }
 
@@ -99,10 +102,17 @@ impl Outcome<'_> {
         }
     }
 
-    /// The cards before and after a reset of one member that was done, and the
-    /// member.
-    pub fn reset(&mut self) -> Option<(&Card, &mut Card, u64)> {
-        let Call::ResetMember { member, .. } = *self.call else { return None };
+    /// The records of a member before and after its hand back, if that was done.
+    pub fn handed_back(&mut self) -> Option<(&Member, &mut Member)> {
+        let Call::HandBack(member) = *self.call else { return None };
+        let done = self.done();
+        let (before, after) = self.cards().filter(|_| done)?;
+        Some((before.member(member), after.member_mut(member)))
+    }
+
+    /// The cards before and after a wipe that was done, and the member.
+    pub fn wiped(&mut self) -> Option<(&Card, &mut Card, u64)> {
+        let Call::Wipe { member, .. } = *self.call else { return None };
         let done = self.done();
         self.cards().filter(|_| done).map(|(before, after)| (before, after, member))
     }
@@ -138,8 +148,8 @@ impl Outcome<'_> {
 
     /// Whether the call is an event that was done.
     pub fn done(&self) -> bool {
-        let reset = matches!(self.call, Call::ResetMember { .. } | Call::ResetCard(_));
-        let event = reset || matches!(self.call, Call::Store { .. });
+        let half = matches!(self.call, Call::HandBack(_) | Call::Wipe { .. });
+        let event = half || matches!(self.call, Call::ResetCard(_) | Call::Store { .. });
         event && *self.answer == 0
     }
 }
