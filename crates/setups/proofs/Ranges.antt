@@ -1,0 +1,35 @@
+-- A test of every number of a list, and the loop that makes it. Assumes nothing.
+use mathlib.Core.Path.{_≡_, sym, _∙_}
+use mathlib.Core.Bool.{Bool, true, false}
+use mathlib.Core.List.{List, [], _∷_}
+use Prim.Native.Nat.{ℕ, zero, suc, _+_, _≤_, _<_}
+use native.Mathlib.Numerals.{add-one}
+use native.Mathlib.Omega.{arith}
+use lib.ListN.{length, getD, drop, drop-of-length-le}
+use lib.Seq.{drop-cons}
+use Rattle.theory.specs.Logic.{_and_}
+use Rattle.theory.proofs.Tests.{true-and, false-and, both}
+use Rattle.setups.specs.Setup.{all}
+
+-- the numbers before i passed, and the rest decides
+module _ (f : ℕ → Bool) (l : List ℕ) (i : ℕ) (w : all f l ≡ all f (drop i l)) where
+  all-step : i < length l → all f l ≡ f (getD l i 0) and all f (drop (i + 1) l)
+  unfolding all
+  all-step h = w ∙ rw (drop-cons l i 0 h, add-one)
+
+  pub all-stop : i < length l → f (getD l i 0) ≡ false → false ≡ all f l
+  all-stop h e = sym (all-step h ∙ rw e (false-and _))
+
+  pub all-on : i < length l → f (getD l i 0) ≡ true → all f l ≡ all f (drop (i + 1) l)
+  all-on h e = all-step h ∙ rw e (true-and _)
+
+  pub all-end : length l ≤ i → true ≡ all f l
+  unfolding all
+  all-end h = sym (w ∙ rw (drop-of-length-le l h))
+
+-- each of them passes
+pub all-at : (f : ℕ → Bool) (l : List ℕ) (i : ℕ) → all f l ≡ true → i < length l → f (getD l i 0) ≡ true
+unfolding all
+all-at f [] i e h = absurd (omega arith)
+all-at f (x ∷ l) zero e h = both _ _ e .0
+all-at f (x ∷ l) (suc i) e h = all-at f l i (both _ _ e .1) (omega arith)

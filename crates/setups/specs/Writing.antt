@@ -1,0 +1,51 @@
+-- A setup packed and written: 02, request 9. Assumes nothing.
+use mathlib.Core.Bool.{Bool}
+use mathlib.Core.List.{List, [], _∷_, _++_, map}
+use Prim.Native.Nat.{ℕ, _-_}
+use lib.Dec.{leb, eqb}
+use lib.ListN.{length, getD}
+use Rattle.theory.specs.Logic.{if_then_else_, unless_answer_then_}
+use Rattle.theory.specs.Bytes.{put}
+use Rattle.setups.specs.Bits.{Field, field, packed}
+use Rattle.setups.specs.Setup.{featuresSize, all, inNumbers}
+use Rattle.setups.specs.Reading.{padding}
+
+-- version 4 bits, N-1 in 4, the Q field in 2, G in 4, S in 4, six zero bits
+abbrev pub headFields : ℕ → ℕ → ℕ → ℕ → ℕ → List Field
+headFields version members q gets sets =
+    field 4 version ∷ field 4 (members - 1) ∷ field 2 q ∷ field 4 gets ∷ field 4 sets ∷ field 6 0 ∷ []
+
+-- a queue count less one in 2 bits
+abbrev pub countField : ℕ → Field
+countField q = field 2 (q - 1)
+
+-- from member 1, and zero bits to a whole byte
+unfoldable pub countFields : List ℕ → List Field
+countFields queues = map countField queues ++ (field (padding (length queues)) 0 ∷ [])
+
+abbrev pub firstOf : List ℕ → ℕ
+firstOf queues = getD queues 0 0
+
+unfoldable pub areEqual : List ℕ → Bool
+areEqual queues = all (eqb (firstOf queues)) queues
+
+-- equal counts are always written as version 1, others as version 2, of which the Q field is zero
+unfoldable pub fieldsOf : ℕ → List ℕ → ℕ → ℕ → List Field
+fieldsOf members queues gets sets =
+    if areEqual queues then headFields 1 members (firstOf queues - 1) gets sets
+    else headFields 2 members 0 gets sets ++ countFields queues
+
+-- then the features
+unfoldable pub packedSetup : ℕ → List ℕ → ℕ → ℕ → List ℕ → List ℕ
+packedSetup members queues gets sets features = packed (fieldsOf members queues gets sets) ++ features
+
+-- a packed setup x at the front of a buffer, and its length; where the buffer is too short 0, and nothing is written
+unfoldable pub placed : List ℕ → List ℕ → ℕ × List ℕ
+placed x buffer = unless leb (length x) (length buffer) answer (0, buffer) then (length x, put 0 x buffer)
+
+-- a bad setup is refused alike
+unfoldable pub written : List ℕ → ℕ → List ℕ → ℕ → ℕ → List ℕ → ℕ × List ℕ
+written buffer members queues gets sets features =
+    unless inNumbers members queues gets sets answer (0, buffer) then
+    unless eqb (length features) featuresSize answer (0, buffer) then
+    placed (packedSetup members queues gets sets features) buffer

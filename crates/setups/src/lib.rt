@@ -1,0 +1,260 @@
+// Setups packed in bytes, most significant bit first: 02, request 9.
+ghost use mathlib.Core.Path.{_≡_};
+ghost use mathlib.Core.Bool.{true};
+ghost use mathlib.Core.List.{map};
+ghost use Prim.Native.Nat.{_+_, _*_, _-_, _/_, _^_, _≤_, _<_};
+ghost use lib.ListN.{length};
+ghost use Rattle.theory.specs.Logic.{within};
+ghost use Rattle.theory.specs.Bytes.{put};
+ghost use Rattle.setups.specs.Bits.{bit, bitsAt};
+ghost use Rattle.setups.specs.Setup.{featuresSize, inRanges, all, isCount, inNumbers, sixteen};
+ghost use Rattle.setups.specs.Reading.{countsFrom, padding, setupAt, headRight, isFirst, isSecond, refusedAs, readFirst, readSecond, readVersion1, readSetup};
+
+pub const MOST_MEMBERS: usize = 16;
+
+pub const FEATURES_SIZE: usize = 16;
+
+// A head of 24 bits, in version 2 the queue counts in 2 bits each, then the features.
+const HEAD_SIZE: usize = 3;
+
+const COUNTS_AT: usize = 24;
+
+// A setup, with a queue count for each member; those of members past N are 0.
+pub struct Setup {
+    pub members: u8,
+    pub queues: [u8; MOST_MEMBERS],
+    pub gets: u8,
+    pub sets: u8,
+    pub features: [u8; FEATURES_SIZE],
+}
+
+pub enum ReadAnswer {
+    Done,
+    Version2,
+    Refused,
+}
+
+// Refused, the setup is all zero.
+pub struct ReadOutcome {
+    pub answer: ReadAnswer,
+    pub setup: Setup,
+}
+
+// The bits before the features: how many bytes they fill, and the number that they are.
+struct Front {
+    size: usize,
+    number: u64,
+}
+
+// ---- the ranges ----
+
+// N 1 to 16, G and S at most 8.
+pub fn in_ranges(members: u64, gets: u64, sets: u64) -> bool
+    ensures { λ r. ⌜ r ≡ inRanges members gets sets ⌝ }
+{
+    if members < 1 {
+        return false;
+    }
+    if 16 < members {
+        return false;
+    }
+    if 8 < gets {
+        return false;
+    }
+    sets <= 8
+}
+
+// Each number is one from low to high.
+fn are_within(low: u8, high: u8, numbers: &[u8]) -> bool
+    ensures { λ r. ⌜ r ≡ all (within low high) (now (numbers .entry)) ⌝ }
+{
+    let mut i = 0;
+    while i < numbers.len() {
+        if numbers[i] < low {
+            return false;
+        }
+        if high < numbers[i] {
+            return false;
+        }
+        i += 1;
+    }
+    true
+}
+
+// These ranges, and one queue count of 1 to 4 for each member.
+pub fn in_numbers(members: u64, queues: &[u8], gets: u64, sets: u64) -> bool
+    ensures { λ r. ⌜ r ≡ inNumbers members (now (queues .entry)) gets sets ⌝ }
+{
+    if !in_ranges(members, gets, sets) {
+        return false;
+    }
+    if queues.len() != members as usize {
+        return false;
+    }
+    are_within(1, 4, queues)
+}
+
+// ---- reading ----
+
+// A bit past the end is 0.
+fn bit(s: &[u8], k: usize) -> u8
+    ensures { λ r. ⌜ (r ≡ bit k (now (s .entry))) × (r < 2) ⌝ }
+{
+    if s.len() <= k / 8 {
+        return 0;
+    }
+    (s[k / 8] >> (7 - k % 8)) % 2
+}
+
+// The number in n bits.
+fn bits(s: &[u8], at: usize, n: usize) -> u8
+    requires { ⌜ (n ≤ 8) × (at < 256) ⌝ }
+    ensures { λ r. ⌜ (r ≡ bitsAt at n (now (s .entry))) × (r < 2 ^ n) ⌝ }
+{
+    let mut r: u8 = 0;
+    let mut i = 0;
+    while i < n {
+        r = 2 * r + bit(s, at + i);
+        i += 1;
+    }
+    r
+}
+
+// n queue counts from a position on, so many bits apart.
+fn counts(s: &[u8], from: usize, step: usize, n: usize) -> [u8; MOST_MEMBERS]
+    requires { ⌜ (n ≤ 16) × (from ≤ 24) × (step ≤ 2) ⌝ }
+    ensures { λ r. ⌜ r ≡ sixteen (countsFrom (now (s .entry)) from step n) ⌝ }
+{
+    let mut counts = [0u8; MOST_MEMBERS];
+    let mut at = from;
+    let mut i = 0;
+    while i < n {
+        counts[i] = bits(s, at, 2) + 1;
+        at += step;
+        i += 1;
+    }
+    counts
+}
+
+// The setup whose queue counts stand from a position on.
+fn setup_at(s: &[u8], from: usize, step: usize) -> Setup
+    requires { ⌜ (featuresSize ≤ length (now s)) × (from ≤ 24) × (step ≤ 2) ⌝ }
+    ensures { λ r. ⌜ r ≡ setupAt (now (s .entry)) from step ⌝ }
+{
+    let members = bits(s, 4, 4) + 1;
+    let queues = counts(s, from, step, members as usize);
+    let at = s.len() - FEATURES_SIZE;
+    let mut features = [0u8; FEATURES_SIZE];
+    wire::copy(&mut features, 0, &s[at..]);
+    Setup {
+        members,
+        queues,
+        gets: bits(s, 10, 4),
+        sets: bits(s, 14, 4),
+        features,
+    }
+}
+
+// The six zero bits, and the numbers that can be out of range.
+fn is_head_right(s: &[u8]) -> bool
+    ensures { λ r. ⌜ r ≡ headRight (now (s .entry)) ⌝ }
+{
+    if bits(s, 18, 6) != 0 {
+        return false;
+    }
+    if 8 < bits(s, 10, 4) {
+        return false;
+    }
+    bits(s, 14, 4) <= 8
+}
+
+// Whether these bytes are a setup of version 1.
+fn is_first(s: &[u8]) -> bool
+    ensures { λ r. ⌜ r ≡ isFirst (now (s .entry)) ⌝ }
+{
+    if bits(s, 0, 4) != 1 {
+        return false;
+    }
+    if s.len() != HEAD_SIZE + FEATURES_SIZE {
+        return false;
+    }
+    is_head_right(s)
+}
+
+// Whether they are one of version 2 with n members, if that is their version.
+fn is_second(s: &[u8], n: usize) -> bool
+    requires { ⌜ (1 ≤ n) × (n ≤ 16) ⌝ }
+    ensures { λ r. ⌜ r ≡ isSecond n (now (s .entry)) ⌝ }
+{
+    let count_bytes = (n + 3) / 4;
+    if s.len() != HEAD_SIZE + count_bytes + FEATURES_SIZE {
+        return false;
+    }
+    if !is_head_right(s) {
+        return false;
+    }
+    if bits(s, 8, 2) != 0 {
+        return false;
+    }
+    bits(s, COUNTS_AT + 2 * n, 8 * count_bytes - 2 * n) == 0
+}
+
+fn refused(answer: ReadAnswer) -> ReadOutcome
+    ensures { λ r. ⌜ r ≡ refusedAs answer ⌝ }
+{
+    ReadOutcome {
+        answer,
+        setup: Setup {
+            members: 0,
+            queues: [0u8; MOST_MEMBERS],
+            gets: 0,
+            sets: 0,
+            features: [0u8; FEATURES_SIZE],
+        },
+    }
+}
+
+fn read_first(s: &[u8]) -> ReadOutcome
+    ensures { λ r. ⌜ r ≡ readFirst (now (s .entry)) ⌝ }
+{
+    if !is_first(s) {
+        return refused(ReadAnswer::Refused);
+    }
+    ReadOutcome {
+        answer: ReadAnswer::Done,
+        setup: setup_at(s, 8, 0),
+    }
+}
+
+fn read_second(s: &[u8]) -> ReadOutcome
+    ensures { λ r. ⌜ r ≡ readSecond (now (s .entry)) ⌝ }
+{
+    let n = bits(s, 4, 4) as usize + 1;
+    if !is_second(s, n) {
+        return refused(ReadAnswer::Refused);
+    }
+    ReadOutcome {
+        answer: ReadAnswer::Done,
+        setup: setup_at(s, COUNTS_AT, 2),
+    }
+}
+
+// The reader of version 1, which refuses version 2 by name.
+pub fn read_version_1(s: &[u8]) -> ReadOutcome
+    ensures { λ r. ⌜ r ≡ readVersion1 (now (s .entry)) ⌝ }
+{
+    if bits(s, 0, 4) == 2 {
+        return refused(ReadAnswer::Version2);
+    }
+    read_first(s)
+}
+
+// The reader of both versions.
+pub fn read(s: &[u8]) -> ReadOutcome
+    ensures { λ r. ⌜ r ≡ readSetup (now (s .entry)) ⌝ }
+{
+    if bits(s, 0, 4) == 2 {
+        return read_second(s);
+    }
+    read_first(s)
+}
