@@ -1,15 +1,15 @@
 -- Fields of bits: one law gives the number at any position, of any width. Assumes nothing.
-use mathlib.Core.Path.{_≡_, sym, ap, _∙_}
-use mathlib.Core.List.{List}
+use mathlib.Core.Path.{_≡_, refl, sym, ap, _∙_}
+use mathlib.Core.List.{List, [], _∷_, _++_}
 use Prim.Native.Nat.{ℕ, zero, suc, _+_, _-_, _*_, _/_, _%_, _^_, _≤_, _<_}
 use native.Mathlib.Numerals.{add-one}
-use native.Mathlib.Nat.{zero-div, pow-suc}
+use native.Mathlib.Nat.{zero-add, zero-div, pow-suc}
 use native.Mathlib.Omega.{arith}
 use mir.Syntax.{w8}
 use mir.Val.{Fits}
 use lib.ListN.{length, getD, List·getD-eq-default}
 use lib.Pow.{pow-mono}
-use Rattle.setups.specs.Bits.{bit, bitsAt}
+use Rattle.setups.specs.Bits.{bit, bitsAt, Field, widths, joined}
 
 -- ---- reading ----
 
@@ -54,3 +54,15 @@ module _ (at : ℕ) (l : List ℕ) where
 
     pub bits-small : (n : ℕ) → i ≤ n → n ≤ i → r < 2 ^ n
     bits-small n h k = rw (bits-end n h k) (bits-below at n l)
+
+-- ---- fields one after the other ----
+
+pub widths-append : (f g : List Field) → widths (f ++ g) ≡ widths f + widths g
+unfolding widths
+widths-append [] g = sym (zero-add (widths g))
+widths-append (x ∷ f) g = omega (arith, widths-append f g)
+
+pub joined-append : (x : ℕ) (f g : List Field) → joined x (f ++ g) ≡ joined (joined x f) g
+unfolding joined
+joined-append x [] g = refl
+joined-append x (y ∷ f) g = joined-append (x * 2 ^ y .width + y .value) f g

@@ -1,3 +1,4 @@
 pub mod Ranges
 pub mod Fields
 pub mod Reading
+pub mod Writing

@@ -1,12 +1,13 @@
 -- A setup packed and written: 02, request 9. Assumes nothing.
 use mathlib.Core.Bool.{Bool}
 use mathlib.Core.List.{List, [], _∷_, _++_, map}
-use Prim.Native.Nat.{ℕ, _-_}
+use Prim.Native.Nat.{ℕ, _-_, _/_, _≤_}
 use lib.Dec.{leb, eqb}
 use lib.ListN.{length, getD}
 use Rattle.theory.specs.Logic.{if_then_else_, unless_answer_then_}
 use Rattle.theory.specs.Bytes.{put}
-use Rattle.setups.specs.Bits.{Field, field, packed}
+use Rattle.setups.specs.declared.Front.{Front}
+use Rattle.setups.specs.Bits.{Field, field, widths, joined, packed}
 use Rattle.setups.specs.Setup.{featuresSize, all, inNumbers}
 use Rattle.setups.specs.Reading.{padding}
 
@@ -34,6 +35,19 @@ unfoldable pub fieldsOf : ℕ → List ℕ → ℕ → ℕ → List Field
 fieldsOf members queues gets sets =
     if areEqual queues then headFields 1 members (firstOf queues - 1) gets sets
     else headFields 2 members 0 gets sets ++ countFields queues
+
+-- the code's form of them: how many bytes they fill, and the number that they are
+abbrev pub frontOf : List Field → Front
+frontOf fs = record { size = widths fs / 8; number = joined 0 fs }
+
+-- numbers that fit the head's fields
+pub record HeadFits (version members q gets sets : ℕ) : Type 0 where
+  pub known : version ≤ 2
+  pub some : 1 ≤ members
+  pub few : members ≤ 16
+  pub count : q ≤ 3
+  pub getsFit : gets ≤ 8
+  pub setsFit : sets ≤ 8
 
 -- then the features
 unfoldable pub packedSetup : ℕ → List ℕ → ℕ → ℕ → List ℕ → List ℕ

@@ -6,9 +6,10 @@ ghost use Prim.Native.Nat.{_+_, _*_, _-_, _/_, _^_, _≤_, _<_};
 ghost use lib.ListN.{length};
 ghost use Rattle.theory.specs.Logic.{within};
 ghost use Rattle.theory.specs.Bytes.{put};
-ghost use Rattle.setups.specs.Bits.{bit, bitsAt};
-ghost use Rattle.setups.specs.Setup.{featuresSize, inRanges, all, isCount, inNumbers, sixteen};
+ghost use Rattle.setups.specs.Bits.{bit, bitsAt, joined, bigEndian};
+ghost use Rattle.setups.specs.Setup.{featuresSize, inRanges, all, isCount, inNumbers, InNumbers, sixteen};
 ghost use Rattle.setups.specs.Reading.{countsFrom, padding, setupAt, headRight, isFirst, isSecond, refusedAs, readFirst, readSecond, readVersion1, readSetup};
+ghost use Rattle.setups.specs.Writing.{headFields, countField, fieldsOf, HeadFits, frontOf, written};
 
 pub const MOST_MEMBERS: usize = 16;
 
@@ -257,4 +258,106 @@ pub fn read(s: &[u8]) -> ReadOutcome
         return read_second(s);
     }
     read_first(s)
+}
+
+// ---- writing ----
+
+// The head's fields, each behind the one before it.
+fn head(version: u64, members: u64, q: u64, gets: u64, sets: u64) -> u64
+    requires { ⌜ HeadFits version members q gets sets ⌝ }
+    ensures { λ r. ⌜ (r ≡ joined 0 (headFields version members q gets sets)) × (r < 2 ^ 24) ⌝ }
+{
+    ((((version * 16 + (members - 1)) * 4 + q) * 16 + gets) * 16 + sets) * 64
+}
+
+// A queue count as its field has it.
+fn less_one(q: u8) -> u64
+    requires { ⌜ isCount q ≡ true ⌝ }
+    ensures { λ r. ⌜ (r ≡ q - 1) × (r ≤ 3) ⌝ }
+{
+    q as u64 - 1
+}
+
+// A field of two bits for each queue count, behind x.
+fn with_counts(x: u64, queues: &[u8]) -> u64
+    requires { ⌜ (x < 2 ^ 24) × (length (now queues) ≤ 16) × (all isCount (now queues) ≡ true) ⌝ }
+    ensures { λ r. ⌜ (r ≡ joined x (map countField (now (queues .entry)))) × (r < 2 ^ 56) ⌝ }
+{
+    let mut r = x;
+    let mut i = 0;
+    while i < queues.len() {
+        r = r * 4 + less_one(queues[i]);
+        i += 1;
+    }
+    r
+}
+
+// Zero bits behind the counts of n members, to a whole byte.
+fn padded(x: u64, n: usize) -> u64
+    requires { ⌜ (x < 2 ^ 56) × (n ≤ 16) ⌝ }
+    ensures { λ r. ⌜ r ≡ x * 2 ^ padding n ⌝ }
+{
+    x << (8 * ((n + 3) / 4) - 2 * n)
+}
+
+// Equal counts as version 1, others as version 2.
+fn front_of(members: u64, queues: &[u8], gets: u64, sets: u64) -> Front
+    requires { ⌜ InNumbers members (now queues) gets sets ⌝ }
+    ensures { λ r. ⌜ (r ≡ frontOf (fieldsOf members (now (queues .entry)) gets sets)) × (r .size ≤ 7) ⌝ }
+{
+    let q = queues[0];
+    if are_within(q, q, queues) {
+        return Front {
+            size: HEAD_SIZE,
+            number: head(1, members, less_one(q), gets, sets),
+        };
+    }
+    let n = queues.len();
+    let x = with_counts(head(2, members, 0, gets, sets), queues);
+    Front {
+        size: HEAD_SIZE + (n + 3) / 4,
+        number: padded(x, n),
+    }
+}
+
+// The n low bytes of x, the highest first.
+fn write_number(out: &mut [u8], n: usize, x: u64)
+    requires { ⌜ n ≤ length (now out) ⌝ }
+    ensures { λ _. ⌜ now (out .exit) ≡ put 0 (bigEndian n x) (now (out .entry)) ⌝ }
+{
+    let mut v = x;
+    let mut i = n;
+    while 0 < i {
+        i -= 1;
+        out[i] = (v % 256) as u8;
+        v /= 256;
+    }
+}
+
+// A setup packed at the front of `out`, and how many bytes that is; 0, with nothing written, where the setup is bad or
+// `out` too short. There is one queue count for each member.
+pub fn write(
+    out: &mut [u8],
+    members: u64,
+    queues: &[u8],
+    gets: u64,
+    sets: u64,
+    features: &[u8],
+) -> usize
+    ensures { λ r. ⌜ (r, now (out .exit)) ≡ written (now (out .entry)) members (now (queues .entry)) gets sets (now (features .entry)) ⌝ }
+{
+    if !in_numbers(members, queues, gets, sets) {
+        return 0;
+    }
+    if features.len() != FEATURES_SIZE {
+        return 0;
+    }
+    let f = front_of(members, queues, gets, sets);
+    let n = f.size;
+    if out.len() < n + FEATURES_SIZE {
+        return 0;
+    }
+    write_number(out, n, f.number);
+    wire::copy(out, n, features);
+    n + FEATURES_SIZE
 }
