@@ -1,11 +1,10 @@
 -- Laws of the readers: queue counts, and the returns. Assumes nothing.
 use mathlib.Core.Path.{_≡_, ap, sym, _∙_}
-use mathlib.Core.Bool.{Bool, false, not}
+use mathlib.Core.Bool.{Bool, true}
 use mathlib.Core.List.{List}
 use Prim.Native.Nat.{ℕ, suc, _+_, _-_, _≤_, _<_}
 use native.Mathlib.Nat.{sub-zero}
 use native.Mathlib.Omega.{arith}
-use borrow.Author.Tests.{not-false}
 use lib.ListN.{length, set, drop, replicate, length-drop}
 use lib.Seq.{take-all}
 use Rattle.theory.specs.Bytes.{bytesAt, put}
@@ -14,7 +13,7 @@ use Rattle.theory.proofs.Tests.{both, tests}
 use Rattle.setups.specs.declared.Setup.{Setup}
 use Rattle.setups.specs.Bits.{bitsAt}
 use Rattle.setups.specs.Setup.{featuresSize, noCounts, sixteen}
-use Rattle.setups.specs.Reading.{countsFrom, setupAt, isFirst, isSecond, readAs}
+use Rattle.setups.specs.Reading.{membersIn, countsFrom, setupAt, isFirst, isSecond, readAs}
 
 -- ---- the queue counts ----
 
@@ -60,15 +59,15 @@ setup-read l z q f from step n g s h k e₁ e₂ e₃ e₄ e₅ =
 pub read-is : (s x : Setup) → s ≡ x → readAs s ≡ readAs x
 read-is s x e = ap readAs e
 
--- what was tested is long enough to hold the features
-pub first-long : (l : List ℕ) (t : Bool) → t ≡ isFirst l → not t ≡ false → featuresSize ≤ length l
+-- what is taken is long enough to hold the features
+pub first-long : (l : List ℕ) → isFirst l ≡ true → featuresSize ≤ length l
 unfolding isFirst
-first-long l t e n = let h = both _ _ (both _ _ (sym e ∙ not-false t n) .0) .1 in omega tests
+first-long l e = let h = both _ _ (both _ _ e .0) .1 in omega tests
 
-pub second-long : (l : List ℕ) (t : Bool) (n : ℕ) → t ≡ isSecond n l → not t ≡ false → featuresSize ≤ length l
+pub second-long : (l : List ℕ) → isSecond (membersIn l) l ≡ true → featuresSize ≤ length l
 unfolding isSecond
-second-long l t n e f = let h = both _ _ (both _ _ (both _ _ (sym e ∙ not-false t f) .0) .0) .0 in omega tests
+second-long l e = let h = both _ _ (both _ _ (both _ _ e .0) .0) .0 in omega tests
 
 -- tested with the members that were read
-pub second-is : (l : List ℕ) (t : Bool) (n : ℕ) → t ≡ isSecond (n + 1) l → n ≡ bitsAt 4 4 l → t ≡ isSecond (bitsAt 4 4 l + 1) l
+pub second-is : (l : List ℕ) (t : Bool) (n : ℕ) → t ≡ isSecond (n + 1) l → n ≡ bitsAt 4 4 l → t ≡ isSecond (membersIn l) l
 second-is l t n e f = rw f at e

@@ -2,7 +2,7 @@
 use mathlib.Core.Path.{_≡_, refl, ap, sym, _∙_}
 use mathlib.Core.Bool.{Bool, true, false, not}
 use mathlib.Core.List.{List, [], _∷_, _++_, map}
-use Prim.Native.Nat.{ℕ, zero, suc, _+_, _-_, _*_, _/_, _%_, _^_, _≤_, _<_}
+use Prim.Native.Nat.{ℕ, suc, _+_, _-_, _*_, _/_, _%_, _^_, _≤_, _<_}
 use native.Mathlib.Nat.{zero-add}
 use native.Mathlib.Numerals.{add-one}
 use native.Mathlib.Omega.{arith}
@@ -24,7 +24,7 @@ use Rattle.setups.specs.Setup.{featuresSize, all, isCount, inNumbers, In
 use Rattle.setups.specs.Reading.{countBytes, padding}
 use Rattle.setups.specs.Writing.{headFields, countField, countFields, firstOf, areEqual, fieldsOf, frontOf, packedSetup, placed, written}
 use Rattle.setups.proofs.Ranges.{all-at, numbers-in}
-use Rattle.setups.proofs.Fields.{widths-append, joined-append}
+use Rattle.setups.proofs.Fields.{widths-append, joined-append, length-big}
 
 -- ---- the queue counts behind x ----
 
@@ -126,11 +126,6 @@ module _ (members : ℕ) (q : List ℕ) (gets sets : ℕ) (b : Bool) (e : b ≡ 
       rw (equal-is, t, w, joined-second k q, g, f, d)
 
 -- ---- the bytes of a number ----
-
-pub length-big : (n x : ℕ) → length (bigEndian n x) ≡ n
-unfolding bigEndian
-length-big zero x = refl
-length-big (suc n) x = rw (length-append, length-big n (x / 256)) (omega arith)
 
 -- the bytes from i on are written
 module _ (w o : List ℕ) (v i : ℕ) (e : w ≡ put 0 (bigEndian i v) o) where

@@ -2,3 +2,5 @@ pub mod Bits
 pub mod Setup
 pub mod Reading
 pub mod Writing
+pub mod Claims
+pub mod Examples

@@ -10,7 +10,7 @@ use Rattle.setups.specs.declared.ReadAnswer.{ReadAnswer}
 use Rattle.setups.specs.declared.ReadAnswer.the-variants.{Done, Version2, Refused}
 use Rattle.setups.specs.declared.ReadOutcome.{ReadOutcome}
 use Rattle.setups.specs.Bits.{bitsAt}
-use Rattle.setups.specs.Setup.{featuresSize, noCounts, sixteen, setupWith}
+use Rattle.setups.specs.Setup.{featuresSize, noCounts, setupWith}
 
 -- ---- the fields ----
 
