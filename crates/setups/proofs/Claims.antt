@@ -4,7 +4,7 @@ use mathlib.Core.Bool.{Bool, true, false}
 use mathlib.Core.List.{List}
 use Prim.Native.Nat.{ℕ, zero, suc, _+_, _≤_}
 use native.Mathlib.Omega.{arith}
-use borrow.Author.Tests.{eqb-true, leb-true}
+use borrow.Author.Tests.{eqb-true, leb-true, eq-eqb}
 use lib.Dec.{leb, eqb}
 use lib.ListN.{length, replicate, take, length-append, length-drop}
 use lib.Seq.{take-at}
@@ -15,13 +15,13 @@ use Rattle.theory.proofs.Bytes.{put-front, drop-after}
 use Rattle.setups.specs.declared.Setup.{Setup}
 use Rattle.setups.specs.declared.ReadAnswer.the-variants.{Done, Version2, Refused}
 use Rattle.setups.specs.Bits.{bitsAt}
-use Rattle.setups.specs.Setup.{mostMembers, featuresSize, all, isCount, inNumbers, InNumbers, noCounts, sixteen}
-use Rattle.setups.specs.Reading.{versionIn, membersIn, countsFrom, setupAt, headRight, isFirst, isSecond, readAs, refusedAs, readFirst, readSecond, readVersion1, readSetup}
+use Rattle.setups.specs.Setup.{mostMembers, featuresSize, inRanges, all, isCount, inNumbers, InNumbers, noCounts, sixteen}
+use Rattle.setups.specs.Reading.{versionIn, membersIn, countsFrom, setupAt, headRight, isVersion1, isVersion2, readAs, refusedAs, takeVersion1, takeVersion2, readVersion1, readSetup}
 use Rattle.setups.specs.Writing.{packedSetup, placed, written}
 use Rattle.setups.specs.Claims.{ReadsBack, InRange, Claims}
 use Rattle.setups.proofs.Ranges.{numbers-in}
 use Rattle.setups.proofs.Fields.{bits-below}
-use Rattle.setups.proofs.Reading.{first-long, second-long}
+use Rattle.setups.proofs.Reading.{version-1-long, version-2-long}
 use Rattle.setups.proofs.ReadBack.{reads-back, reads-version-1}
 
 -- ---- the writer ----
@@ -93,7 +93,7 @@ chosen-done true s f e = f refl
 chosen-done false s f e = let z : _≡_ {A = ℕ} 0 1 = cc in absurd (omega arith)
 
 never-named : (l : List ℕ) → readSetup l .answer ≡ Version2 → ⊥
-unfolding readSetup readFirst readSecond if_then_else_
+unfolding readSetup takeVersion1 takeVersion2 if_then_else_
 never-named l e = by-cases (eqb (versionIn l) 2) (λ t. chosen-named _ _ (rw t at e)) (λ t. chosen-named _ _ (rw t at e))
 
 -- ---- what is read is in range ----
@@ -114,7 +114,7 @@ unfolding sixteen noCounts
 take-sixteen x n e h = rw (put-front x (replicate 16 0) (omega arith)) (take-at x _ n e)
 
 setup-in-range : (l : List ℕ) (at step : ℕ) → headRight l ≡ true → featuresSize ≤ length l → InRange (setupAt l at step)
-unfolding setupAt headRight
+unfolding setupAt headRight inNumbers inRanges
 setup-in-range l at step e h =
     let p = both _ _ e in
     let q = both _ _ (p .0) in
@@ -122,31 +122,25 @@ setup-in-range l at step e h =
     let m : n ≤ mostMembers = omega (arith, bits-below 4 4 l) in
     let c = countsFrom l at step n in
     let t = take-sixteen c n (counts-long l at step n) m in
+    let r = and-i _ _ (and-i _ _ (inside 1 mostMembers n (omega arith) m) (q .1)) (p .1) in
     record {
-      numbers = record {
-        some = omega arith;
-        few = m;
-        each = rw t (counts-long l at step n);
-        counts = rw t (counts-are l at step n);
-        fewGets = leb-true _ _ (q .1);
-        fewSets = leb-true _ _ (p .1);
-      };
+      numbers = rw t (and-i _ _ (and-i _ _ r (eq-eqb _ _ (counts-long l at step n))) (counts-are l at step n));
       features = rw length-drop (omega arith);
     }
 
-first-in-range : (l : List ℕ) → isFirst l ≡ true → InRange (setupAt l 8 0)
-unfolding isFirst
-first-in-range l t = setup-in-range l 8 0 (both _ _ t .1) (first-long l t)
+version-1-in-range : (l : List ℕ) → isVersion1 l ≡ true → InRange (setupAt l 8 0)
+unfolding isVersion1
+version-1-in-range l t = setup-in-range l 8 0 (both _ _ t .1) (version-1-long l t)
 
-second-in-range : (l : List ℕ) → isSecond (membersIn l) l ≡ true → InRange (setupAt l 24 2)
-unfolding isSecond
-second-in-range l t = setup-in-range l 24 2 (both _ _ (both _ _ (both _ _ t .0) .0) .1) (second-long l t)
+version-2-in-range : (l : List ℕ) → isVersion2 (membersIn l) l ≡ true → InRange (setupAt l 24 2)
+unfolding isVersion2
+version-2-in-range l t = setup-in-range l 24 2 (both _ _ (both _ _ (both _ _ t .0) .0) .1) (version-2-long l t)
 
 in-range : (l : List ℕ) → readSetup l .answer ≡ Done → InRange (readSetup l .setup)
-unfolding readSetup readFirst readSecond if_then_else_
+unfolding readSetup takeVersion1 takeVersion2 if_then_else_
 in-range l e =
-    by-cases (eqb (versionIn l) 2) (λ t. rw t (chosen-done _ _ (second-in-range l) (rw t at e)))
-    (λ t. rw t (chosen-done _ _ (first-in-range l) (rw t at e)))
+    by-cases (eqb (versionIn l) 2) (λ t. rw t (chosen-done _ _ (version-2-in-range l) (rw t at e)))
+    (λ t. rw t (chosen-done _ _ (version-1-in-range l) (rw t at e)))
 
 pub claims : Claims
 claims = record {

@@ -4,7 +4,7 @@ use Rattle.theory.specs.Logic.{if_then_else_, unless_answer_then_, _and_, withi
 use Rattle.theory.specs.Bytes.{put}
 use Rattle.setups.specs.Bits.{bit, bitsAt, widths, joined, bigEndian, packed}
 use Rattle.setups.specs.Setup.{inRanges, all, inNumbers, noCounts, sixteen}
-use Rattle.setups.specs.Reading.{countsFrom, setupAt, headRight, isFirst, isSecond, noSetup, readFirst, readSecond, readVersion1, readSetup}
+use Rattle.setups.specs.Reading.{countsFrom, setupAt, headRight, isVersion1, isVersion2, noSetup, takeVersion1, takeVersion2, readVersion1, readSetup}
 use Rattle.setups.specs.Writing.{countFields, areEqual, fieldsOf, packedSetup, placed, written}
 use Rattle.setups.specs.Examples.{setupsWritten, SetupsWritten, setupsRead, SetupsRead}
 
@@ -14,6 +14,6 @@ unfolding if_then_else_ unless_answer_then_ _and_ within put widths joined bigEn
 setups-written = refl
 
 setups-read : SetupsRead
-unfolding if_then_else_ unless_answer_then_ _and_ put bit bitsAt noCounts sixteen countsFrom setupAt headRight isFirst isSecond
-    noSetup readFirst readSecond readVersion1 readSetup setupsRead
+unfolding if_then_else_ unless_answer_then_ _and_ put bit bitsAt noCounts sixteen countsFrom setupAt headRight isVersion1 isVersion2
+    noSetup takeVersion1 takeVersion2 readVersion1 readSetup setupsRead
 setups-read = refl

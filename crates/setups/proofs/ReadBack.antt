@@ -16,11 +16,11 @@ use Rattle.theory.proofs.Ladder.{is-le, pass}
 use Rattle.setups.specs.declared.ReadAnswer.the-variants.{Version2}
 use Rattle.setups.specs.Bits.{bitsAt, Field, field, widths, packed}
 use Rattle.setups.specs.Setup.{featuresSize, all, isCount, InNumbers, setupWith}
-use Rattle.setups.specs.Reading.{countBytes, padding, countsFrom, setupAt, headRight, isFirst, isSecond, readAs, refusedAs, readFirst, readSecond, readVersion1, readSetup}
-use Rattle.setups.specs.Writing.{headFields, countField, countFields, firstOf, areEqual, fieldsOf, packedSetup}
+use Rattle.setups.specs.Reading.{countBytes, padding, countsFrom, setupAt, headRight, isVersion1, isVersion2, readAs, refusedAs, takeVersion1, takeVersion2, readVersion1, readSetup}
+use Rattle.setups.specs.Writing.{headFields, countField, countFields, firstCount, areEqual, fieldsOf, packedSetup}
 use Rattle.setups.proofs.Ranges.{count-less}
 use Rattle.setups.proofs.Fields.{length-big, Fit, Reads, packed-reads}
-use Rattle.setups.proofs.Writing.{widths-head, widths-second, first-count}
+use Rattle.setups.proofs.Writing.{widths-head, widths-version-2, first-count}
 
 -- ---- the fields fit ----
 
@@ -118,53 +118,53 @@ module _ (members : ℕ) (q : List ℕ) (gets sets : ℕ) (h : InNumbers members
           rw (members-read, m, a .gets-is, a .sets-is, last-features)
 
   -- equal counts, as version 1
-  abbrev first : List Field
-  first = headFields 1 members (firstOf q - 1) gets sets
+  abbrev fields1 : List Field
+  fields1 = headFields 1 members (firstCount q - 1) gets sets
 
-  first-head : Head (packed first ++ features) 1 members (firstOf q - 1) gets sets []
-  first-head = head-is 1 (firstOf q - 1) (omega arith) (count-less (firstOf q) (first-count members q gets sets h)) Fit.none (rw widths-head)
+  version-1-head : Head (packed fields1 ++ features) 1 members (firstCount q - 1) gets sets []
+  version-1-head = head-is 1 (firstCount q - 1) (omega arith) (count-less (firstCount q) (first-count members q gets sets h)) Fit.none (rw widths-head)
 
-  first-read : all (eqb (firstOf q)) q ≡ true → readFirst (packed first ++ features) ≡ readAs (setupWith members q gets sets features)
-  unfolding readFirst isFirst
-  first-read e =
-      let a = first-head in
-      let m : 1 ≤ firstOf q = within-low 1 4 (firstOf q) (first-count members q gets sets h) in
-      let c = count-read (packed first ++ features) 8 (firstOf q) q e (omega (arith, a .count-is)) in
-      let t : isFirst (packed first ++ features) ≡ true =
-      and-i _ _ (and-i _ _ (eq-eqb _ _ (a .version-is)) (eq-eqb _ _ (whole-long first ∙ rw widths-head))) (head-right first a) in
-      sym (pass _ _ _ _ t (ap readAs (sym (setup-is first a 8 0 c))))
+  version-1-read : all (eqb (firstCount q)) q ≡ true → takeVersion1 (packed fields1 ++ features) ≡ readAs (setupWith members q gets sets features)
+  unfolding takeVersion1 isVersion1
+  version-1-read e =
+      let a = version-1-head in
+      let m : 1 ≤ firstCount q = within-low 1 4 (firstCount q) (first-count members q gets sets h) in
+      let c = count-read (packed fields1 ++ features) 8 (firstCount q) q e (omega (arith, a .count-is)) in
+      let t : isVersion1 (packed fields1 ++ features) ≡ true =
+      and-i _ _ (and-i _ _ (eq-eqb _ _ (a .version-is)) (eq-eqb _ _ (whole-long fields1 ∙ rw widths-head))) (head-right fields1 a) in
+      sym (pass _ _ _ _ t (ap readAs (sym (setup-is fields1 a 8 0 c))))
 
   -- others, as version 2
-  abbrev second : List Field
-  second = headFields 2 members 0 gets sets ++ countFields q
+  abbrev fields2 : List Field
+  fields2 = headFields 2 members 0 gets sets ++ countFields q
 
-  second-wide : widths second ≡ 24 + 8 * countBytes members
-  second-wide = widths-second (headFields 2 members 0 gets sets) q ∙ rw (widths-head, h .each)
+  version-2-wide : widths fields2 ≡ 24 + 8 * countBytes members
+  version-2-wide = widths-version-2 (headFields 2 members 0 gets sets) q ∙ rw (widths-head, h .each)
 
-  second-head : Head (packed second ++ features) 2 members 0 gets sets (countFields q)
-  second-head = head-is 2 0 (omega arith) (omega arith) (padded-fit q (h .counts)) (rw second-wide (omega arith))
+  version-2-head : Head (packed fields2 ++ features) 2 members 0 gets sets (countFields q)
+  version-2-head = head-is 2 0 (omega arith) (omega arith) (padded-fit q (h .counts)) (rw version-2-wide (omega arith))
 
-  second-read : readSecond (packed second ++ features) ≡ readAs (setupWith members q gets sets features)
-  unfolding readSecond isSecond countFields
-  second-read =
-      let l = packed second ++ features in
-      let a = second-head in
+  version-2-read : takeVersion2 (packed fields2 ++ features) ≡ readAs (setupWith members q gets sets features)
+  unfolding takeVersion2 isVersion2 countFields
+  version-2-read =
+      let l = packed fields2 ++ features in
+      let a = version-2-head in
       let c = counts-read l 24 q (h .counts) (a .behind) in
-      let m = members-read second a in
+      let m = members-read fields2 a in
       let p = padding-read l (length q) members (h .each) (c .1) in
-      let t : isSecond (bitsAt 4 4 l + 1) l ≡ true =
-      rw m (and-i _ _ (and-i _ _ (and-i _ _ (eq-eqb _ _ (whole-long second ∙ rw second-wide (omega arith))) (head-right second a))
+      let t : isVersion2 (bitsAt 4 4 l + 1) l ≡ true =
+      rw m (and-i _ _ (and-i _ _ (and-i _ _ (eq-eqb _ _ (whole-long fields2 ∙ rw version-2-wide (omega arith))) (head-right fields2 a))
       (eq-eqb _ _ (a .count-is))) (eq-eqb _ _ p)) in
-      sym (pass _ _ _ _ t (ap readAs (sym (setup-is second a 24 2 (c .0)))))
+      sym (pass _ _ _ _ t (ap readAs (sym (setup-is fields2 a 24 2 (c .0)))))
 
   -- both readers of either
   pub reads-back : readSetup (packedSetup members q gets sets features) ≡ readAs (setupWith members q gets sets features)
   unfolding readSetup packedSetup fieldsOf areEqual if_then_else_
   reads-back =
-      by-cases (all (eqb (firstOf q)) q) (λ e. rw (e, first-head .version-is) (first-read e)) (λ e. rw (e, second-head .version-is) second-read)
+      by-cases (all (eqb (firstCount q)) q) (λ e. rw (e, version-1-head .version-is) (version-1-read e)) (λ e. rw (e, version-2-head .version-is) version-2-read)
 
   pub reads-version-1 : readVersion1 (packedSetup members q gets sets features)
       ≡ (if areEqual q then readAs (setupWith members q gets sets features) else refusedAs Version2)
   unfolding readVersion1 packedSetup fieldsOf areEqual if_then_else_
   reads-version-1 =
-      by-cases (all (eqb (firstOf q)) q) (λ e. rw (e, first-head .version-is) (first-read e)) (λ e. rw (e, second-head .version-is))
+      by-cases (all (eqb (firstCount q)) q) (λ e. rw (e, version-1-head .version-is) (version-1-read e)) (λ e. rw (e, version-2-head .version-is))

@@ -13,7 +13,7 @@ use Rattle.theory.proofs.Tests.{both, tests}
 use Rattle.setups.specs.declared.Setup.{Setup}
 use Rattle.setups.specs.Bits.{bitsAt}
 use Rattle.setups.specs.Setup.{featuresSize, noCounts, sixteen}
-use Rattle.setups.specs.Reading.{membersIn, countsFrom, setupAt, isFirst, isSecond, readAs}
+use Rattle.setups.specs.Reading.{membersIn, countsFrom, setupAt, isVersion1, isVersion2, readAs}
 
 -- ---- the queue counts ----
 
@@ -60,14 +60,14 @@ pub read-is : (s x : Setup) → s ≡ x → readAs s ≡ readAs x
 read-is s x e = ap readAs e
 
 -- what is taken is long enough to hold the features
-pub first-long : (l : List ℕ) → isFirst l ≡ true → featuresSize ≤ length l
-unfolding isFirst
-first-long l e = let h = both _ _ (both _ _ e .0) .1 in omega tests
+pub version-1-long : (l : List ℕ) → isVersion1 l ≡ true → featuresSize ≤ length l
+unfolding isVersion1
+version-1-long l e = let h = both _ _ (both _ _ e .0) .1 in omega tests
 
-pub second-long : (l : List ℕ) → isSecond (membersIn l) l ≡ true → featuresSize ≤ length l
-unfolding isSecond
-second-long l e = let h = both _ _ (both _ _ (both _ _ e .0) .0) .0 in omega tests
+pub version-2-long : (l : List ℕ) → isVersion2 (membersIn l) l ≡ true → featuresSize ≤ length l
+unfolding isVersion2
+version-2-long l e = let h = both _ _ (both _ _ (both _ _ e .0) .0) .0 in omega tests
 
 -- tested with the members that were read
-pub second-is : (l : List ℕ) (t : Bool) (n : ℕ) → t ≡ isSecond (n + 1) l → n ≡ bitsAt 4 4 l → t ≡ isSecond (membersIn l) l
-second-is l t n e f = rw f at e
+pub version-2-is : (l : List ℕ) (t : Bool) (n : ℕ) → t ≡ isVersion2 (n + 1) l → n ≡ bitsAt 4 4 l → t ≡ isVersion2 (membersIn l) l
+version-2-is l t n e f = rw f at e

@@ -22,7 +22,7 @@ use Rattle.setups.specs.declared.Front.{Front}
 use Rattle.setups.specs.Bits.{Field, field, widths, joined, bigEndian, packed}
 use Rattle.setups.specs.Setup.{featuresSize, all, isCount, inNumbers, InNumbers}
 use Rattle.setups.specs.Reading.{countBytes, padding}
-use Rattle.setups.specs.Writing.{headFields, countField, countFields, firstOf, areEqual, fieldsOf, frontOf, packedSetup, placed, written}
+use Rattle.setups.specs.Writing.{headFields, countField, countFields, firstCount, areEqual, fieldsOf, frontOf, packedSetup, placed, written}
 use Rattle.setups.proofs.Ranges.{all-at, numbers-in}
 use Rattle.setups.proofs.Fields.{widths-append, joined-append, length-big}
 
@@ -95,35 +95,35 @@ pub widths-head : (version members q gets sets : ℕ) → widths (headFields ver
 unfolding widths
 widths-head version members q gets sets = refl
 
-pub widths-second : (h : List Field) (q : List ℕ) → widths (h ++ countFields q) ≡ widths h + 8 * countBytes (length q)
+pub widths-version-2 : (h : List Field) (q : List ℕ) → widths (h ++ countFields q) ≡ widths h + 8 * countBytes (length q)
 unfolding countFields widths
-widths-second h q = rw (widths-append h (countFields q), widths-append (map countField q) (field (padding (length q)) 0 ∷ []), widths-counts q) (omega arith)
+widths-version-2 h q = rw (widths-append h (countFields q), widths-append (map countField q) (field (padding (length q)) 0 ∷ []), widths-counts q) (omega arith)
 
-joined-second : (h : List Field) (q : List ℕ) → joined 0 (h ++ countFields q) ≡ joined (joined 0 h) (map countField q) * 2 ^ padding (length q)
+joined-version-2 : (h : List Field) (q : List ℕ) → joined 0 (h ++ countFields q) ≡ joined (joined 0 h) (map countField q) * 2 ^ padding (length q)
 unfolding countFields joined
-joined-second h q = rw (joined-append 0 h (countFields q), joined-append) (omega arith)
+joined-version-2 h q = rw (joined-append 0 h (countFields q), joined-append) (omega arith)
 
 pub first-count : (members : ℕ) (q : List ℕ) (gets sets : ℕ) → InNumbers members q gets sets → isCount (getD q 0 0) ≡ true
 first-count members q gets sets h = all-at isCount q 0 (h .counts) (let s = h .some in let e = h .each in omega arith)
 
 -- b says whether the counts are equal
-module _ (members : ℕ) (q : List ℕ) (gets sets : ℕ) (b : Bool) (e : b ≡ all (within (firstOf q) (firstOf q)) q) where
+module _ (members : ℕ) (q : List ℕ) (gets sets : ℕ) (b : Bool) (e : b ≡ all (within (firstCount q) (firstCount q)) q) where
   equal-is : areEqual q ≡ b
   unfolding areEqual
-  equal-is = sym (e ∙ all-eqb (firstOf q) q)
+  equal-is = sym (e ∙ all-eqb (firstCount q) q)
 
-  pub front-first : (x n : ℕ) → b ≡ true → x ≡ firstOf q - 1 → n ≡ joined 0 (headFields 1 members x gets sets)
+  pub front-version-1 : (x n : ℕ) → b ≡ true → x ≡ firstCount q - 1 → n ≡ joined 0 (headFields 1 members x gets sets)
       → record { size = 3; number = n } ≡ frontOf (fieldsOf members q gets sets)
   unfolding fieldsOf if_then_else_ widths
-  front-first x n t d f = rw (equal-is, t, f, d)
+  front-version-1 x n t d f = rw (equal-is, t, f, d)
 
-  pub front-second : (h x y : ℕ) → b ≡ false → h ≡ joined 0 (headFields 2 members 0 gets sets) → x ≡ joined h (map countField q)
+  pub front-version-2 : (h x y : ℕ) → b ≡ false → h ≡ joined 0 (headFields 2 members 0 gets sets) → x ≡ joined h (map countField q)
       → y ≡ x * 2 ^ padding (length q) → record { size = 3 + (length q + 3) / 4; number = y } ≡ frontOf (fieldsOf members q gets sets)
   unfolding fieldsOf if_then_else_
-  front-second h x y t d f g =
+  front-version-2 h x y t d f g =
       let k = headFields 2 members 0 gets sets in
-      let w : widths (k ++ countFields q) / 8 ≡ 3 + (length q + 3) / 4 = rw widths-second (omega (arith, widths-head 2 members 0 gets sets)) in
-      rw (equal-is, t, w, joined-second k q, g, f, d)
+      let w : widths (k ++ countFields q) / 8 ≡ 3 + (length q + 3) / 4 = rw widths-version-2 (omega (arith, widths-head 2 members 0 gets sets)) in
+      rw (equal-is, t, w, joined-version-2 k q, g, f, d)
 
 -- ---- the bytes of a number ----
 

@@ -1,12 +1,13 @@
 -- WHAT IS CLAIMED of packed setups: 02, request 9. Assumes nothing.
 use mathlib.Core.Path.{_≡_}
+use mathlib.Core.Bool.{true}
 use mathlib.Core.List.{List}
 use Prim.Native.Nat.{ℕ}
 use lib.ListN.{length, take, drop}
 use Rattle.theory.specs.Logic.{if_then_else_}
 use Rattle.setups.specs.declared.Setup.{Setup}
 use Rattle.setups.specs.declared.ReadAnswer.the-variants.{Done, Version2}
-use Rattle.setups.specs.Setup.{featuresSize, InNumbers, setupWith}
+use Rattle.setups.specs.Setup.{featuresSize, inNumbers, setupWith}
 use Rattle.setups.specs.Reading.{readAs, refusedAs, readVersion1, readSetup}
 use Rattle.setups.specs.Writing.{areEqual, written}
 
@@ -20,7 +21,7 @@ pub record ReadsBack (buffer : List ℕ) (members : ℕ) (queues : List ℕ) (ge
 
 -- a setup that was read: its numbers are in range, and there are 16 bytes of features
 pub record InRange (s : Setup) : Type 0 where
-  pub numbers : InNumbers (s .members) (take (s .members) (s .queues)) (s .gets) (s .sets)
+  pub numbers : inNumbers (s .members) (take (s .members) (s .queues)) (s .gets) (s .sets) ≡ true
   pub features : length (s .features) ≡ featuresSize
 
 pub record Claims : Type 0 where

@@ -60,18 +60,24 @@ unfoldable pub headRight : List ℕ → Bool
 headRight l = eqb (zerosIn l) 0 and leb (getsIn l) 8 and leb (setsIn l) 8
 
 -- version 1: 19 bytes
-unfoldable pub isFirst : List ℕ → Bool
-isFirst l = eqb (versionIn l) 1 and eqb (length l) (headSize + featuresSize) and headRight l
+unfoldable pub isVersion1 : List ℕ → Bool
+isVersion1 l = eqb (versionIn l) 1 and eqb (length l) (headSize + featuresSize) and headRight l
 
 -- version 2 with n members: the Q field is zero, and so are the bits after the n fields
-unfoldable pub isSecond : ℕ → List ℕ → Bool
-isSecond n l =
+unfoldable pub isVersion2 : ℕ → List ℕ → Bool
+isVersion2 n l =
     eqb (length l) (headSize + countBytes n + featuresSize)
     and headRight l
     and eqb (queuesIn l) 0
     and eqb (bitsAt (24 + 2 * n) (padding n) l) 0
 
 -- ---- the readers ----
+
+-- the answer as its number
+abbrev pub readNumber : ReadAnswer → ℕ
+readNumber Done = 0
+readNumber Version2 = 1
+readNumber Refused = 2
 
 abbrev pub readAs : Setup → ReadOutcome
 readAs s = record { answer = Done; setup = s }
@@ -84,16 +90,16 @@ abbrev pub refusedAs : ReadAnswer → ReadOutcome
 refusedAs a = record { answer = a; setup = noSetup }
 
 -- in version 1 the one count of position 8 is every member's
-unfoldable pub readFirst : List ℕ → ReadOutcome
-readFirst l = unless isFirst l answer refusedAs Refused then readAs (setupAt l 8 0)
+unfoldable pub takeVersion1 : List ℕ → ReadOutcome
+takeVersion1 l = unless isVersion1 l answer refusedAs Refused then readAs (setupAt l 8 0)
 
-unfoldable pub readSecond : List ℕ → ReadOutcome
-readSecond l = unless isSecond (membersIn l) l answer refusedAs Refused then readAs (setupAt l 24 2)
+unfoldable pub takeVersion2 : List ℕ → ReadOutcome
+takeVersion2 l = unless isVersion2 (membersIn l) l answer refusedAs Refused then readAs (setupAt l 24 2)
 
 -- the reader of version 1 refuses version 2 by name, before all else; no bytes have no version
 unfoldable pub readVersion1 : List ℕ → ReadOutcome
-readVersion1 l = if eqb (versionIn l) 2 then refusedAs Version2 else readFirst l
+readVersion1 l = if eqb (versionIn l) 2 then refusedAs Version2 else takeVersion1 l
 
 -- the new reader reads both
 unfoldable pub readSetup : List ℕ → ReadOutcome
-readSetup l = if eqb (versionIn l) 2 then readSecond l else readFirst l
+readSetup l = if eqb (versionIn l) 2 then takeVersion2 l else takeVersion1 l

@@ -33,7 +33,7 @@ isCount q = within 1 4 q
 unfoldable pub inNumbers : ℕ → List ℕ → ℕ → ℕ → Bool
 inNumbers members queues gets sets = inRanges members gets sets and eqb (length queues) members and all isCount queues
 
--- the same as facts
+-- the same as facts, which the code that packs them asks
 pub record InNumbers (members : ℕ) (queues : List ℕ) (gets sets : ℕ) : Type 0 where
   pub some : 1 ≤ members
   pub few : members ≤ mostMembers

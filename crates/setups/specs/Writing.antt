@@ -24,16 +24,16 @@ countField q = field 2 (q - 1)
 unfoldable pub countFields : List ℕ → List Field
 countFields queues = map countField queues ++ (field (padding (length queues)) 0 ∷ [])
 
-abbrev pub firstOf : List ℕ → ℕ
-firstOf queues = getD queues 0 0
+abbrev pub firstCount : List ℕ → ℕ
+firstCount queues = getD queues 0 0
 
 unfoldable pub areEqual : List ℕ → Bool
-areEqual queues = all (eqb (firstOf queues)) queues
+areEqual queues = all (eqb (firstCount queues)) queues
 
 -- equal counts are always written as version 1, others as version 2, of which the Q field is zero
 unfoldable pub fieldsOf : ℕ → List ℕ → ℕ → ℕ → List Field
 fieldsOf members queues gets sets =
-    if areEqual queues then headFields 1 members (firstOf queues - 1) gets sets
+    if areEqual queues then headFields 1 members (firstCount queues - 1) gets sets
     else headFields 2 members 0 gets sets ++ countFields queues
 
 -- the code's form of them: how many bytes they fill, and the number that they are

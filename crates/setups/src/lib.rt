@@ -8,7 +8,7 @@ ghost use Rattle.theory.specs.Logic.{within};
 ghost use Rattle.theory.specs.Bytes.{put};
 ghost use Rattle.setups.specs.Bits.{bit, bitsAt, joined, bigEndian};
 ghost use Rattle.setups.specs.Setup.{featuresSize, inRanges, all, isCount, inNumbers, InNumbers, sixteen};
-ghost use Rattle.setups.specs.Reading.{countsFrom, padding, setupAt, headRight, isFirst, isSecond, refusedAs, readFirst, readSecond, readVersion1, readSetup};
+ghost use Rattle.setups.specs.Reading.{countsFrom, padding, setupAt, headRight, isVersion1, isVersion2, readNumber, refusedAs, takeVersion1, takeVersion2, readVersion1, readSetup};
 ghost use Rattle.setups.specs.Writing.{headFields, countField, fieldsOf, HeadFits, frontOf, written};
 
 pub const MOST_MEMBERS: usize = 16;
@@ -170,8 +170,8 @@ fn is_head_right(s: &[u8]) -> bool
 }
 
 // Whether these bytes are a setup of version 1.
-fn is_first(s: &[u8]) -> bool
-    ensures { λ r. ⌜ r ≡ isFirst (now (s .entry)) ⌝ }
+fn is_version_1(s: &[u8]) -> bool
+    ensures { λ r. ⌜ r ≡ isVersion1 (now (s .entry)) ⌝ }
 {
     if bits(s, 0, 4) != 1 {
         return false;
@@ -183,9 +183,9 @@ fn is_first(s: &[u8]) -> bool
 }
 
 // Whether they are one of version 2 with n members, if that is their version.
-fn is_second(s: &[u8], n: usize) -> bool
+fn is_version_2(s: &[u8], n: usize) -> bool
     requires { ⌜ (1 ≤ n) × (n ≤ 16) ⌝ }
-    ensures { λ r. ⌜ r ≡ isSecond n (now (s .entry)) ⌝ }
+    ensures { λ r. ⌜ r ≡ isVersion2 n (now (s .entry)) ⌝ }
 {
     let count_bytes = (n + 3) / 4;
     if s.len() != HEAD_SIZE + count_bytes + FEATURES_SIZE {
@@ -198,6 +198,16 @@ fn is_second(s: &[u8], n: usize) -> bool
         return false;
     }
     bits(s, COUNTS_AT + 2 * n, 8 * count_bytes - 2 * n) == 0
+}
+
+pub fn read_number(answer: ReadAnswer) -> u8
+    ensures { λ r. ⌜ r ≡ readNumber answer ⌝ }
+{
+    match answer {
+        ReadAnswer::Done => 0,
+        ReadAnswer::Version2 => 1,
+        ReadAnswer::Refused => 2,
+    }
 }
 
 fn refused(answer: ReadAnswer) -> ReadOutcome
@@ -215,10 +225,10 @@ fn refused(answer: ReadAnswer) -> ReadOutcome
     }
 }
 
-fn read_first(s: &[u8]) -> ReadOutcome
-    ensures { λ r. ⌜ r ≡ readFirst (now (s .entry)) ⌝ }
+fn take_version_1(s: &[u8]) -> ReadOutcome
+    ensures { λ r. ⌜ r ≡ takeVersion1 (now (s .entry)) ⌝ }
 {
-    if !is_first(s) {
+    if !is_version_1(s) {
         return refused(ReadAnswer::Refused);
     }
     ReadOutcome {
@@ -227,11 +237,11 @@ fn read_first(s: &[u8]) -> ReadOutcome
     }
 }
 
-fn read_second(s: &[u8]) -> ReadOutcome
-    ensures { λ r. ⌜ r ≡ readSecond (now (s .entry)) ⌝ }
+fn take_version_2(s: &[u8]) -> ReadOutcome
+    ensures { λ r. ⌜ r ≡ takeVersion2 (now (s .entry)) ⌝ }
 {
     let n = bits(s, 4, 4) as usize + 1;
-    if !is_second(s, n) {
+    if !is_version_2(s, n) {
         return refused(ReadAnswer::Refused);
     }
     ReadOutcome {
@@ -247,7 +257,7 @@ pub fn read_version_1(s: &[u8]) -> ReadOutcome
     if bits(s, 0, 4) == 2 {
         return refused(ReadAnswer::Version2);
     }
-    read_first(s)
+    take_version_1(s)
 }
 
 // The reader of both versions.
@@ -255,9 +265,9 @@ pub fn read(s: &[u8]) -> ReadOutcome
     ensures { λ r. ⌜ r ≡ readSetup (now (s .entry)) ⌝ }
 {
     if bits(s, 0, 4) == 2 {
-        return read_second(s);
+        return take_version_2(s);
     }
-    read_first(s)
+    take_version_1(s)
 }
 
 // ---- writing ----
