@@ -35,7 +35,7 @@ byte-live : (m : Member) (id : ℕ) (k : ObjectKind) → lookupOf m id ≡ Live 
 unfolding lookupOf
 byte-live m id k e z = live-not-free (getD (m .objects) id free .slot) k e (sym (List·getD-map objectByte (m .objects) id free) ∙ z)
 
-module _ (queues gets sets : ℕ) (features : List ℕ) (m : Member) (id : ℕ) (k : ObjectKind) (s : SoundMember queues gets sets features m) (e : lookupOf m id ≡ Live k) where
+module _ (gets sets : ℕ) (features : List ℕ) (m : Member) (id : ℕ) (k : ObjectKind) (s : SoundMember gets sets features m) (e : lookupOf m id ≡ Live k) where
   pub live-below : id < gets + sets
   live-below =
       let n = gets + sets in

@@ -25,7 +25,7 @@ module _ (m : Member) (id : ℕ) where
   lookup-in f e = e
 
   pub object-in : (s : Slot) (l : List ObjectRecord) → l ≡ set (m .objects) id (record { slot = s })
-      → record { mode = m .mode; marked = m .marked; objects = l; held = m .held; values = m .values } ≡ withObject m id s
+      → record { mode = m .mode; marked = m .marked; queues = m .queues; objects = l; held = m .held; values = m .values } ≡ withObject m id s
   unfolding withObject
   object-in s l e = rw e
 

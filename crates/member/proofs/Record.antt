@@ -7,12 +7,12 @@ use native.Mathlib.Nat.{add-zero}
 use native.Mathlib.Omega.{arith}
 use mir.Val.{boolByte}
 use lib.Dec.{leb, eqb}
-use lib.ListN.{length, getD, take, drop, set, replicate, length-append, length-map, length-set, List·getD-map}
+use lib.ListN.{length, getD, take, drop, replicate, length-append, length-map, length-set, List·getD-map}
 use lib.Seq.{take-at, drop-at, drop-append-add, take-all}
 use Rattle.theory.specs.Logic.{indicator}
 use Rattle.theory.specs.Bytes.{bytesAt, put}
 use Rattle.theory.proofs.Tests.{bool-byte}
-use Rattle.theory.proofs.Bytes.{length-put, length-bytesAt, put-all, put-cons, put-nil, put-append, put-front, getD-bytesAt}
+use Rattle.theory.proofs.Bytes.{length-put, length-bytesAt, put-all, put-append, put-front, getD-bytesAt}
 use Rattle.wire.specs.Le.{le, bytes, number}
 use Rattle.wire.proofs.Le.{length-bytes, le-bytes}
 use Rattle.inventory.specs.Inventory.{valuesSize}
@@ -26,7 +26,7 @@ use Rattle.objects.specs.declared.Found.the-variants.{Nothing}
 use Rattle.objects.specs.Objects.{objectsSize, objectOf, objectByte, foundIn}
 use Rattle.objects.proofs.Objects.{objects-back}
 use Rattle.member.specs.declared.Member.{Member}
-use Rattle.member.specs.Record.{modeAt, markAt, objectsAt, heldAt, valuesAt, memberSize, modeByte, objectBytes, memberOf, memberBytes}
+use Rattle.member.specs.Record.{modeAt, markAt, queuesAt, objectsAt, heldAt, valuesAt, memberSize, modeByte, objectBytes, memberOf, memberBytes}
 use Rattle.member.specs.Objects.{lookupOf, withObject}
 use Rattle.member.specs.Member.{featuresSize, withMode, withValues, withHeld}
 use Rattle.member.proofs.Objects.{lookup-out}
@@ -86,6 +86,10 @@ module _ (m : Member) (s : Shaped m) where
   unfolding memberBytes
   record-mark = refl
 
+  pub record-queues : getD (memberBytes m) queuesAt 0 ≡ m .queues
+  unfolding memberBytes
+  record-queues = refl
+
   pub record-objects : objectBytes (memberBytes m) ≡ os
   unfolding memberBytes
   record-objects = take-at os (bytes 2 (m .held) ++ m .values) objectsSize objects-long
@@ -94,7 +98,7 @@ module _ (m : Member) (s : Shaped m) where
   behind : (n : ℕ) → drop (heldAt + n) (memberBytes m) ≡ drop n (bytes 2 (m .held) ++ m .values)
   unfolding memberBytes
   behind n =
-      let k : heldAt + n ≡ suc (suc (length os + n)) = omega (arith, objects-long) in
+      let k : heldAt + n ≡ suc (suc (suc (length os + n))) = omega (arith, objects-long) in
       rw k (drop-append-add os (bytes 2 (m .held) ++ m .values) n)
 
   pub record-held : number heldAt 2 (memberBytes m) ≡ m .held
@@ -114,7 +118,7 @@ module _ (m : Member) (s : Shaped m) where
   pub member-back : memberOf (memberBytes m) ≡ m
   unfolding memberOf
   member-back =
-      rw (record-mode, mode-back (m .mode), record-mark, mark-back (m .marked), record-objects, objects-back (m .objects), record-held, values-last)
+      rw (record-mode, mode-back (m .mode), record-mark, mark-back (m .marked), record-queues, record-objects, objects-back (m .objects), record-held, values-last)
 
 -- ---- the member of a record ----
 
@@ -133,11 +137,12 @@ module _ (r : List ℕ) (e : length r ≡ memberSize) where
 pub part-loaded : (at n : ℕ) (s l : List ℕ) → at + n ≤ length s → length l ≡ n → put 0 (bytesAt at n s) l ≡ bytesAt at n s
 part-loaded at n s l h e = put-all (bytesAt at n s) l (length-bytesAt at n s h ∙ sym e)
 
-pub mode-saved : (r : List ℕ) (b n : ℕ) (k : Bool) → b ≡ n → set (set r modeAt b) markAt (boolByte k) ≡ put modeAt (n ∷ indicator k ∷ []) r
-mode-saved r b n k e = rw (e, bool-byte k) (sym (put-cons modeAt n (indicator k ∷ []) r ∙ put-cons markAt (indicator k) [] (set r modeAt n) ∙ put-nil _ _))
+pub front-saved : (r s : List ℕ) (b n : ℕ) (k : Bool) (q : ℕ) → b ≡ n → s ≡ put modeAt (b ∷ boolByte k ∷ q ∷ []) r
+    → s ≡ put modeAt (n ∷ indicator k ∷ q ∷ []) r
+front-saved r s b n k q e f = f ∙ rw (e, bool-byte k)
 
--- mode and mark, objects, what is held and values, stored one after the other
-module _ (m : Member) (s : Shaped m) (r r₁ r₂ r₃ : List ℕ) (e : length r ≡ memberSize) (p : r₁ ≡ put modeAt (modeByte (m .mode) ∷ indicator (m .marked) ∷ []) r)
+-- mode, mark and queue count, objects, what is held and values, stored one after the other
+module _ (m : Member) (s : Shaped m) (r r₁ r₂ r₃ : List ℕ) (e : length r ≡ memberSize) (p : r₁ ≡ put modeAt (modeByte (m .mode) ∷ indicator (m .marked) ∷ m .queues ∷ []) r)
     (q : r₂ ≡ put objectsAt (map objectByte (m .objects)) r₁) (h : r₃ ≡ put heldAt (bytes 2 (m .held)) r₂) where
   pub values-fit : valuesAt + length (m .values) ≤ length r₃
   values-fit = rw (h, q, p, length-put, length-put, length-put) (omega (arith, s .long))
@@ -146,7 +151,7 @@ module _ (m : Member) (s : Shaped m) (r r₁ r₂ r₃ : List ℕ) (e : length r
   unfolding memberBytes
   member-saved r₄ v =
       let rest = bytes 2 (m .held) ++ m .values in
-      let front = modeByte (m .mode) ∷ indicator (m .marked) ∷ [] in
+      let front = modeByte (m .mode) ∷ indicator (m .marked) ∷ m .queues ∷ [] in
       let y = put modeAt front r in
       let z = put objectsAt (os m s) y in
       let k : objectsAt + length (os m s) ≡ heldAt = omega (arith, objects-long m s) in

@@ -9,7 +9,7 @@ use lib.Dec.{leb, eqb}
 use lib.ListN.{length, getD, drop, replicate, length-append}
 use lib.Seq.{take-at, drop-set-lt, drop-append-add}
 use borrow.Author.Tests.{not-true, not-false, leb-true, le-leb, eqb-true}
-use Rattle.theory.specs.Logic.{_and_, _or_, indicator}
+use Rattle.theory.specs.Logic.{_and_, _or_, indicator, within}
 use Rattle.theory.specs.Bytes.{bytesAt, same}
 use Rattle.theory.proofs.Tests.{by-cases, both, either, and-i, and-assoc, and-false, false-and, same-true, eq-same}
 use Rattle.theory.proofs.Bytes.{bytesAt-bytesAt}
@@ -30,11 +30,11 @@ use Rattle.objects.specs.Objects.{objectsSize, objectOf, objectByte, allUpTo, w
 use Rattle.objects.proofs.Objects.{objects-low, bytes-of-objects}
 use Rattle.objects.proofs.Counts.{map-set, all-drop-set, all-drop, limits-set, none-live, none-counted}
 use Rattle.member.specs.declared.Member.{Member}
-use Rattle.member.specs.Record.{modeAt, markAt, heldAt, valuesAt, memberSize, holdingSize, objectBytes, memberOf, memberBytes}
+use Rattle.member.specs.Record.{modeAt, markAt, queuesAt, heldAt, valuesAt, memberSize, holdingSize, objectBytes, memberOf, memberBytes}
 use Rattle.member.specs.Objects.{roomIn, withObject}
 use Rattle.member.specs.Member.{featuresSize, freshOf, featuresIn, withMode, withValues, withHeld, handedBack, withPart}
-use Rattle.member.specs.Sound.{soundMark, soundRecord}
-use Rattle.member.proofs.Record.{Shaped, mode-low, record-mode, record-mark, record-held, record-objects, record-values, values-last, member-shaped, shaped-mode, shaped-values, shaped-held, shaped-object}
+use Rattle.member.specs.Sound.{soundMark, soundFront, soundRecord}
+use Rattle.member.proofs.Record.{Shaped, mode-low, record-mode, record-mark, record-queues, record-held, record-objects, record-values, values-last, member-shaped, shaped-mode, shaped-values, shaped-held, shaped-object}
 
 -- what a marked member is: stopped, with no holding place and no live object
 pub record Ended (m : Member) : Type 0 where
@@ -77,29 +77,30 @@ module _ (features : List ℕ) (n : length features ≡ featuresSize) where
   fresh-queue (suc (suc (suc zero))) l = behind 125 refl
   fresh-queue (suc (suc (suc (suc k)))) l = absurd (omega arith)
 
-module _ (queues gets sets : ℕ) (features : List ℕ) where
+module _ (gets sets : ℕ) (features : List ℕ) where
   pub record SoundMember (m : Member) : Type 0 where
     pub shaped : Shaped m
+    pub count : within 1 4 (m .queues) ≡ true
     pub mark : m .marked ≡ true → Ended m
     pub few : m .held ≤ 1 + holdingSize
     pub below : allUpTo 0 (drop (gets + sets) (map objectByte (m .objects))) ≡ true
     pub room : roomIn gets sets m ≡ true
     pub kept : featuresIn m ≡ features
-    pub allowed : queuesAllowed queues (m .values) ≡ true
+    pub allowed : queuesAllowed (m .queues) (m .values) ≡ true
 
   -- ---- the bytes of a sound member are sound, and back ----
 
-  pub sound-record : (m : Member) → SoundMember m → soundRecord queues gets sets features (memberBytes m) ≡ true
-  unfolding soundRecord
+  pub sound-record : (m : Member) → SoundMember m → soundRecord gets sets features (memberBytes m) ≡ true
+  unfolding soundRecord soundFront
   sound-record m s =
       let h = s .shaped in
-      rw (record-mode m h, record-held m h, record-objects m h, record-values m h featuresSize, values-last m h)
-      (and-i _ _ (and-i _ _ (and-i _ _ (and-i _ _ (and-i _ _ (and-i _ _ (and-i _ _ (mode-low (m .mode)) (mark-sound m h (s .mark))) (le-leb _ _ (s .few))) (objects-low (m .objects))) (s .below)) (s .room))
+      rw (record-mode m h, record-queues m h, record-held m h, record-objects m h, record-values m h featuresSize, values-last m h)
+      (and-i _ _ (and-i _ _ (and-i _ _ (and-i _ _ (and-i _ _ (and-i _ _ (and-i _ _ (and-i _ _ (mode-low (m .mode)) (s .count)) (mark-sound m h (s .mark))) (le-leb _ _ (s .few))) (objects-low (m .objects))) (s .below)) (s .room))
       (eq-same _ _ (s .kept))) (s .allowed))
 
   -- of bytes that are sound
-  pub sound-member : (r : List ℕ) → length r ≡ memberSize → soundRecord queues gets sets features r ≡ true → SoundMember (memberOf r)
-  unfolding soundRecord memberOf
+  pub sound-member : (r : List ℕ) → length r ≡ memberSize → soundRecord gets sets features r ≡ true → SoundMember (memberOf r)
+  unfolding soundRecord soundFront memberOf
   sound-member r n e =
       let z = both _ _ e in
       let p = both _ _ (z .0) in
@@ -111,6 +112,7 @@ module _ (queues gets sets : ℕ) (features : List ℕ) where
       let os : map objectByte (map objectOf (objectBytes r)) ≡ objectBytes r = bytes-of-objects (objectBytes r) (v .1) in
       record {
         shaped = member-shaped r n (omega arith);
+        count = both _ _ (both _ _ (u .0) .0) .1;
         mark = sound-mark r (both _ _ (u .0) .1) os;
         few = few;
         below = rw os (w .1);
@@ -121,10 +123,11 @@ module _ (queues gets sets : ℕ) (features : List ℕ) where
 
   -- ---- what leaves a member sound ----
 
-  pub sound-fresh : length features ≡ featuresSize → SoundMember (freshOf features)
+  pub sound-fresh : (queues : ℕ) → within 1 4 queues ≡ true → length features ≡ featuresSize → SoundMember (freshOf queues features)
   unfolding freshOf
-  sound-fresh n = record {
+  sound-fresh queues k n = record {
     shaped = record { ids = refl; low = omega arith; long = rw length-append (omega arith) };
+    count = k;
     mark = impossible _;
     few = omega arith;
     below = all-drop 0 (gets + sets) (replicate objectsSize 0) none-live;
@@ -136,9 +139,10 @@ module _ (queues gets sets : ℕ) (features : List ℕ) where
   module _ (m : Member) (s : SoundMember m) where
     -- other values, with the same device features
     sound-values : (values : List ℕ) → length values ≡ valuesSize → bytesAt 0 featuresSize values ≡ featuresIn m
-        → queuesAllowed queues values ≡ true → SoundMember (withValues m values)
+        → queuesAllowed (m .queues) values ≡ true → SoundMember (withValues m values)
     sound-values values n e a = record {
       shaped = shaped-values m (s .shaped) values n;
+      count = s .count;
       mark = λ t. let z = s .mark t in record { stopped = z .stopped; noPlace = z .noPlace; noObjects = z .noObjects };
       few = s .few;
       below = s .below;
@@ -148,19 +152,20 @@ module _ (queues gets sets : ℕ) (features : List ℕ) where
     }
 
     -- one part stored, and the parts of a list: the device features are never set, and what is set is allowed
-    pub sound-part : (t selector : ℕ) (value : List ℕ) → valueAllowed t value ≡ true → SoundMember (withPart queues m t selector value)
+    pub sound-part : (t selector : ℕ) (value : List ℕ) → valueAllowed t value ≡ true → SoundMember (withPart m t selector value)
     sound-part t selector value a =
-        sound-values _ (stored-length queues t selector value (m .values) ∙ s .shaped .long) (stored-features queues t selector value (m .values))
-        (stored-allowed queues t selector value (m .values) (s .shaped .long) (s .allowed) (λ i p. a))
+        sound-values _ (stored-length (m .queues) t selector value (m .values) ∙ s .shaped .long) (stored-features (m .queues) t selector value (m .values))
+        (stored-allowed (m .queues) t selector value (m .values) (s .shaped .long) (s .allowed) (λ i p. a))
 
-    pub sound-applied : (ps : PartList) → queuesAllowed queues (applied queues ps (m .values)) ≡ true
-        → SoundMember (withValues m (applied queues ps (m .values)))
-    sound-applied ps = sound-values _ (applied-length queues ps (m .values) ∙ s .shaped .long) (applied-features queues ps (m .values))
+    pub sound-applied : (ps : PartList) → queuesAllowed (m .queues) (applied (m .queues) ps (m .values)) ≡ true
+        → SoundMember (withValues m (applied (m .queues) ps (m .values)))
+    sound-applied ps = sound-values _ (applied-length (m .queues) ps (m .values) ∙ s .shaped .long) (applied-features (m .queues) ps (m .values))
 
     -- handed back
     pub sound-handed-back : SoundMember (handedBack m)
     sound-handed-back = record {
       shaped = record { ids = refl; low = omega arith; long = s .shaped .long };
+      count = s .count;
       mark = λ t. record { stopped = refl; noPlace = refl; noObjects = none-live };
       few = omega arith;
       below = all-drop 0 (gets + sets) (replicate objectsSize 0) none-live;
@@ -175,18 +180,19 @@ module _ (queues gets sets : ℕ) (features : List ℕ) where
       unmarked x t = impossible x (sym u ∙ t)
 
       pub sound-mode : (mode : Mode) → SoundMember (withMode m mode)
-      sound-mode mode = record { shaped = shaped-mode m (s .shaped) mode; mark = unmarked _; few = s .few; below = s .below; room = s .room; kept = s .kept; allowed = s .allowed }
+      sound-mode mode = record { shaped = shaped-mode m (s .shaped) mode; count = s .count; mark = unmarked _; few = s .few; below = s .below; room = s .room; kept = s .kept; allowed = s .allowed }
 
       -- another number of bytes held
       pub sound-held : (held : ℕ) → held ≤ 1 + holdingSize → SoundMember (withHeld m held)
       sound-held held h =
-          record { shaped = shaped-held m (s .shaped) held (omega arith); mark = unmarked _; few = h; below = s .below; room = s .room; kept = s .kept; allowed = s .allowed }
+          record { shaped = shaped-held m (s .shaped) held (omega arith); count = s .count; mark = unmarked _; few = h; below = s .below; room = s .room; kept = s .kept; allowed = s .allowed }
 
       -- an object that the limits allow, at an id that is valid
       pub sound-object : (id : ℕ) (slot : Slot) → id < gets + sets → roomIn gets sets (withObject m id slot) ≡ true → SoundMember (withObject m id slot)
       unfolding withObject
       sound-object id slot h e = record {
         shaped = shaped-object m (s .shaped) id slot;
+        count = s .count;
         mark = unmarked _;
         few = s .few;
         below = rw (map-set, drop-set-lt) (s .below);
@@ -201,6 +207,7 @@ module _ (queues gets sets : ℕ) (features : List ℕ) where
       sound-free id =
           record {
             shaped = shaped-object m (s .shaped) id Free;
+            count = s .count;
             mark = unmarked _;
             few = s .few;
             below = rw map-set (all-drop-set (gets + sets) _ id (s .below));
@@ -211,36 +218,30 @@ module _ (queues gets sets : ℕ) (features : List ℕ) where
 
 -- ---- the test, one step after the other ----
 
-module _ (queues gets sets : ℕ) (features r : List ℕ) where
-  pub bad-mode : 1 < getD r modeAt 0 → false ≡ soundRecord queues gets sets features r
+module _ (gets sets : ℕ) (features r : List ℕ) (t : Bool) (d : t ≡ soundFront r) where
+  pub bad-front : not t ≡ true → false ≡ soundRecord gets sets features r
   unfolding soundRecord
-  bad-mode h = search ladder
+  bad-front h = rw (← d) (search ladder)
 
-  module _ (t : Bool) (d : t ≡ soundMark r) where
-    pub bad-mark : getD r modeAt 0 ≤ 1 → not t ≡ true → false ≡ soundRecord queues gets sets features r
+  module _ (held : ℕ) (g : held ≡ number heldAt 2 r) where
+    pub bad-held : not t ≡ false → 1 + holdingSize < held → false ≡ soundRecord gets sets features r
     unfolding soundRecord
-    bad-mark l h = rw (← d) (search ladder)
+    bad-held n h = rw (← d, ← g) (search ladder)
 
-    module _ (held : ℕ) (g : held ≡ number heldAt 2 r) where
-      pub bad-held : getD r modeAt 0 ≤ 1 → not t ≡ false → 1 + holdingSize < held → false ≡ soundRecord queues gets sets features r
+    module _ (bs : List ℕ) (b : Bool) (p : bs ≡ objectBytes r) (q : b ≡ allUpTo 2 bs and allUpTo 0 (drop (gets + sets) bs) and withinLimits gets sets bs) where
+      steps : t and (leb held (1 + holdingSize)
+          and (b and (same (bytesAt valuesAt featuresSize r) features and queuesAllowed (getD r queuesAt 0) (bytesAt valuesAt valuesSize r))))
+          ≡ soundRecord gets sets features r
       unfolding soundRecord
-      bad-held l n h = rw (← d, ← g) (search ladder)
+      steps = rw (q, p, g, d) (simp and-assoc)
 
-      module _ (bs : List ℕ) (b : Bool) (p : bs ≡ objectBytes r) (q : b ≡ allUpTo 2 bs and allUpTo 0 (drop (gets + sets) bs) and withinLimits gets sets bs) where
-        steps : leb (getD r modeAt 0) 1
-            and (t and (leb held (1 + holdingSize)
-            and (b and (same (bytesAt valuesAt featuresSize r) features and queuesAllowed queues (bytesAt valuesAt valuesSize r)))))
-            ≡ soundRecord queues gets sets features r
-        unfolding soundRecord
-        steps = rw (q, p, g, d) (simp and-assoc)
+      pub bad-objects : not b ≡ true → false ≡ soundRecord gets sets features r
+      bad-objects h = rw (← steps, not-true b h) (simp (false-and, and-false))
 
-        pub bad-objects : not b ≡ true → false ≡ soundRecord queues gets sets features r
-        bad-objects h = rw (← steps, not-true b h) (simp (false-and, and-false))
+      module _ (n : not t ≡ false) (k : held ≤ 1 + holdingSize) (h : not b ≡ false) (f : Bool) (ef : f ≡ same (bytesAt valuesAt featuresSize r) features) where
+        pub bad-features : not f ≡ true → false ≡ soundRecord gets sets features r
+        bad-features z = rw (← steps, not-false b h, not-false t n) (search ladder)
 
-        module _ (l : getD r modeAt 0 ≤ 1) (n : not t ≡ false) (k : held ≤ 1 + holdingSize) (h : not b ≡ false) (f : Bool) (ef : f ≡ same (bytesAt valuesAt featuresSize r) features) where
-          pub bad-features : not f ≡ true → false ≡ soundRecord queues gets sets features r
-          bad-features z = rw (← steps, not-false b h, not-false t n) (search ladder)
-
-          pub sound-rest : not f ≡ false → (x : Bool) → x ≡ queuesAllowed queues (bytesAt valuesAt valuesSize r) → x ≡ soundRecord queues gets sets features r
-          unfolding _and_
-          sound-rest z x e = rw (← steps, not-false b h, not-false t n, le-leb _ _ l, le-leb _ _ k, ← ef, not-false f z) e
+        pub sound-rest : not f ≡ false → (x : Bool) → x ≡ queuesAllowed (getD r queuesAt 0) (bytesAt valuesAt valuesSize r) → x ≡ soundRecord gets sets features r
+        unfolding _and_
+        sound-rest z x e = rw (← steps, not-false b h, not-false t n, le-leb _ _ k, ← ef, not-false f z) e

@@ -15,7 +15,7 @@ lookupOf m id = foundIn (getD (m .objects) id free .slot)
 -- the member with this at the id, and all else kept
 unfoldable pub withObject : Member → ℕ → Slot → Member
 withObject m id s =
-    record { mode = m .mode; marked = m .marked; objects = set (m .objects) id (record { slot = s }); held = m .held; values = m .values }
+    record { mode = m .mode; marked = m .marked; queues = m .queues; objects = set (m .objects) id (record { slot = s }); held = m .held; values = m .values }
 
 -- at most G get and S set objects
 abbrev pub roomIn : ℕ → ℕ → Member → Bool

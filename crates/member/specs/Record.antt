@@ -1,5 +1,5 @@
--- A member's bytes, which stand at the front of its record, SPEC 2.7: mode 1, mark 1, object records 16, what its holding
--- place holds 2, values 205. Assumes nothing.
+-- A member's bytes, which stand at the front of its record, SPEC 2.7: mode 1, mark 1, queue count 1, object records 16, what
+-- its holding place holds 2, values 205. Assumes nothing.
 use mathlib.Core.List.{List, [], _∷_, _++_, map}
 use Prim.Native.Nat.{ℕ, _+_}
 use lib.Dec.{eqb}
@@ -21,8 +21,12 @@ modeAt = 0
 abbrev pub markAt : ℕ
 markAt = modeAt + 1
 
+-- Q of this member (02, request 9)
+abbrev pub queuesAt : ℕ
+queuesAt = markAt + 1
+
 abbrev pub objectsAt : ℕ
-objectsAt = markAt + 1
+objectsAt = queuesAt + 1
 
 abbrev pub heldAt : ℕ
 heldAt = objectsAt + objectsSize
@@ -52,6 +56,7 @@ memberOf r =
     record {
       mode = modeOf (getD r modeAt 0);
       marked = eqb (getD r markAt 0) 1;
+      queues = getD r queuesAt 0;
       objects = map objectOf (objectBytes r);
       held = number heldAt 2 r;
       values = bytesAt valuesAt valuesSize r;
@@ -59,4 +64,4 @@ memberOf r =
 
 unfoldable pub memberBytes : Member → List ℕ
 memberBytes m =
-    (modeByte (m .mode) ∷ indicator (m .marked) ∷ []) ++ (map objectByte (m .objects) ++ (bytes 2 (m .held) ++ m .values))
+    (modeByte (m .mode) ∷ indicator (m .marked) ∷ m .queues ∷ []) ++ (map objectByte (m .objects) ++ (bytes 2 (m .held) ++ m .values))

@@ -10,10 +10,10 @@ ghost use Rattle.parts.specs.declared.ListForm.the-variants.{Parts};
 ghost use Rattle.parts.specs.List.{partsOf};
 ghost use Rattle.values.specs.Apply.{applied};
 ghost use Rattle.objects.specs.Objects.{objectByte, objectsSize};
-ghost use Rattle.member.specs.Record.{modeAt, markAt, objectsAt, valuesAt, memberSize, modeByte, objectBytes, memberOf, memberBytes};
+ghost use Rattle.member.specs.Record.{modeAt, markAt, queuesAt, objectsAt, valuesAt, memberSize, modeByte, objectBytes, memberOf, memberBytes};
 ghost use Rattle.member.specs.Objects.{lookupOf, withObject, roomIn};
 ghost use Rattle.member.specs.Member.{freshOf, withMode, withValues, withHeld, handedBack, withPart};
-ghost use Rattle.member.specs.Sound.{soundMark, soundRecord};
+ghost use Rattle.member.specs.Sound.{soundMark, soundFront, soundRecord};
 use objects::Found;
 use objects::IDS;
 use objects::ObjectRecord;
@@ -25,12 +25,15 @@ pub const FEATURES_SIZE: usize = 16;
 
 const VALUES_SIZE: usize = 205;
 
-// The bytes of a member: its mode, its mark, an object record for each id, what its holding place holds, its values.
+// The bytes of a member: its mode, its mark, its queue count, an object record for each id, what its holding place holds, its
+// values.
 const MODE_AT: usize = 0;
 
 const MARK_AT: usize = MODE_AT + 1;
 
-const OBJECTS_AT: usize = MARK_AT + 1;
+const QUEUES_AT: usize = MARK_AT + 1;
+
+const OBJECTS_AT: usize = QUEUES_AT + 1;
 
 const HELD_AT: usize = OBJECTS_AT + IDS;
 
@@ -46,10 +49,12 @@ pub const HOLDING_SIZE: usize = 1024;
 // What an open holding place holds at most: 0 stands for none, k + 1 for one of k bytes.
 const HELD_MOST: u16 = 1025;
 
-// A member's mode, whether it is handed back and not yet wiped, its resource objects by id, what its holding place holds, and the values of its parts.
+// A member's mode, whether it is handed back and not yet wiped, how many queues it has, its resource objects by id, what its
+// holding place holds, and the values of its parts.
 pub struct Member {
     pub mode: Mode,
     pub marked: bool,
+    pub queues: u8,
     pub objects: [ObjectRecord; IDS],
     pub held: u16,
     pub values: [u8; VALUES_SIZE],
@@ -58,8 +63,8 @@ pub struct Member {
 // ---- a member, made anew and changed ----
 
 impl Member {
-    pub fn fresh(features: [u8; FEATURES_SIZE]) -> Member
-        ensures { λ r. ⌜ r ≡ freshOf features ⌝ }
+    pub fn fresh(queues: u8, features: [u8; FEATURES_SIZE]) -> Member
+        ensures { λ r. ⌜ r ≡ freshOf queues features ⌝ }
     {
         let objects = [ObjectRecord { slot: Slot::Free }; IDS];
         let mut values = [0u8; VALUES_SIZE];
@@ -67,13 +72,14 @@ impl Member {
         Member {
             mode: Mode::Running,
             marked: false,
+            queues,
             objects,
             held: 0,
             values,
         }
     }
 
-    // Hand back and wipe, SPEC 7.3: the two halves of a reset.
+    // Hand back and wipe, SPEC 7.3: the two halves of a reset, of which none changes the queue count.
     pub fn hand_back(self) -> Member
         ensures { λ r. ⌜ r ≡ handedBack self ⌝ }
     {
@@ -82,6 +88,7 @@ impl Member {
         Member {
             mode: Mode::Stopped,
             marked: true,
+            queues: self.queues,
             objects,
             held: 0,
             values,
@@ -89,9 +96,9 @@ impl Member {
     }
 
     pub fn wiped(self, features: [u8; FEATURES_SIZE]) -> Member
-        ensures { λ r. ⌜ r ≡ freshOf features ⌝ }
+        ensures { λ r. ⌜ r ≡ freshOf (self .queues) features ⌝ }
     {
-        Member::fresh(features)
+        Member::fresh(self.queues, features)
     }
 
     // A field that is an enum cannot be stored to, so the struct is made anew.
@@ -103,6 +110,7 @@ impl Member {
         Member {
             mode,
             marked: self.marked,
+            queues: self.queues,
             objects,
             held: self.held,
             values,
@@ -130,21 +138,21 @@ impl Member {
     }
 
     // A card store, SPEC 7.5: one part of the member, where it can be stored.
-    pub fn store(mut self, queues: u8, t: u16, selector: u64, value: &[u8]) -> Member
-        ensures { λ r. ⌜ r ≡ withPart queues self t selector (now (value .entry)) ⌝ }
+    pub fn store(mut self, t: u16, selector: u64, value: &[u8]) -> Member
+        ensures { λ r. ⌜ r ≡ withPart self t selector (now (value .entry)) ⌝ }
     {
         let mut values = self.values;
-        values::store_part(&mut values, queues, t, selector, value);
+        values::store_part(&mut values, self.queues, t, selector, value);
         self.values = values;
         self
     }
 
     // The parts of an accepted list.
-    pub fn set_parts(mut self, queues: u8, list: &[u8]) -> Member
-        ensures { λ r. ⌜ r ≡ withValues self (applied queues (partsOf Parts (now (list .entry))) (self .values)) ⌝ }
+    pub fn set_parts(mut self, list: &[u8]) -> Member
+        ensures { λ r. ⌜ r ≡ withValues self (applied (self .queues) (partsOf Parts (now (list .entry))) (self .values)) ⌝ }
     {
         let mut values = self.values;
-        values::apply(&mut values, queues, list);
+        values::apply(&mut values, self.queues, list);
         self.values = values;
         self
     }
@@ -226,6 +234,13 @@ pub fn is_marked(bytes: &[u8]) -> bool
     bytes[MARK_AT] == 1
 }
 
+pub fn queues_of(bytes: &[u8]) -> u8
+    requires { ⌜ length (now bytes) ≡ memberSize ⌝ }
+    ensures { λ r. ⌜ r ≡ memberOf (now (bytes .entry)) .queues ⌝ }
+{
+    bytes[QUEUES_AT]
+}
+
 // No mark, or that of a member which is stopped with no holding place and no live object.
 fn is_mark_sound(bytes: &[u8]) -> bool
     requires { ⌜ length (now bytes) ≡ memberSize ⌝ }
@@ -246,14 +261,28 @@ fn is_mark_sound(bytes: &[u8]) -> bool
     objects::are_up_to(0, 0, &bytes[OBJECTS_AT..HELD_AT])
 }
 
-pub fn is_sound_record(bytes: &[u8], queues: u8, gets: u8, sets: u8, features: &[u8]) -> bool
+// The mode, the queue count and the mark.
+fn is_front_sound(bytes: &[u8]) -> bool
     requires { ⌜ length (now bytes) ≡ memberSize ⌝ }
-    ensures { λ r. ⌜ r ≡ soundRecord queues gets sets (now (features .entry)) (now (bytes .entry)) ⌝ }
+    ensures { λ r. ⌜ r ≡ soundFront (now (bytes .entry)) ⌝ }
 {
     if 1 < bytes[MODE_AT] {
         return false;
     }
-    if !is_mark_sound(bytes) {
+    if bytes[QUEUES_AT] < 1 {
+        return false;
+    }
+    if 4 < bytes[QUEUES_AT] {
+        return false;
+    }
+    is_mark_sound(bytes)
+}
+
+pub fn is_sound_record(bytes: &[u8], gets: u8, sets: u8, features: &[u8]) -> bool
+    requires { ⌜ length (now bytes) ≡ memberSize ⌝ }
+    ensures { λ r. ⌜ r ≡ soundRecord gets sets (now (features .entry)) (now (bytes .entry)) ⌝ }
+{
+    if !is_front_sound(bytes) {
         return false;
     }
     if HELD_MOST < wire::read_u16(bytes, HELD_AT) {
@@ -265,7 +294,7 @@ pub fn is_sound_record(bytes: &[u8], queues: u8, gets: u8, sets: u8, features: &
     if !wire::equal(&bytes[VALUES_AT..FEATURES_END], features) {
         return false;
     }
-    inventory::are_queues_allowed(queues, &bytes[VALUES_AT..MEMBER_SIZE])
+    inventory::are_queues_allowed(bytes[QUEUES_AT], &bytes[VALUES_AT..MEMBER_SIZE])
 }
 
 // ---- from a member's bytes to the member ----
@@ -294,12 +323,14 @@ pub fn load(bytes: &[u8]) -> Member
 {
     let mode = protocol::mode_of(bytes[MODE_AT]);
     let marked = is_marked(bytes);
+    let queues = queues_of(bytes);
     let objects = objects::objects_in(object_bytes_in(bytes));
     let held = wire::read_u16(bytes, HELD_AT);
     let values = values_in(bytes);
     Member {
         mode,
         marked,
+        queues,
         objects,
         held,
         values,
@@ -317,12 +348,12 @@ fn mode_byte(mode: Mode) -> u8
     }
 }
 
-fn save_mode(mode: Mode, marked: bool, bytes: &mut [u8])
-    requires { ⌜ markAt + 1 ≤ length (now bytes) ⌝ }
-    ensures { λ _. ⌜ now (bytes .exit) ≡ put modeAt (modeByte mode ∷ indicator marked ∷ []) (now (bytes .entry)) ⌝ }
+fn save_front(mode: Mode, marked: bool, queues: u8, bytes: &mut [u8])
+    requires { ⌜ queuesAt + 1 ≤ length (now bytes) ⌝ }
+    ensures { λ _. ⌜ now (bytes .exit) ≡ put modeAt (modeByte mode ∷ indicator marked ∷ queues ∷ []) (now (bytes .entry)) ⌝ }
 {
-    bytes[MODE_AT] = mode_byte(mode);
-    bytes[MARK_AT] = marked as u8;
+    let front = [mode_byte(mode), marked as u8, queues];
+    wire::copy(bytes, MODE_AT, &front);
 }
 
 fn save_objects(objects: [ObjectRecord; IDS], bytes: &mut [u8])
@@ -338,7 +369,7 @@ pub fn save(m: Member, bytes: &mut [u8])
     ensures { λ _. ⌜ now (bytes .exit) ≡ memberBytes m ⌝ }
 {
     let mode = m.mode;
-    save_mode(mode, m.marked, bytes);
+    save_front(mode, m.marked, m.queues, bytes);
     let objects = m.objects;
     save_objects(objects, bytes);
     wire::write(bytes, HELD_AT, 2, m.held as u64);

@@ -7,7 +7,7 @@ use Rattle.member.proofs.object_bytes_in.Statement.{statement}
 use Rattle.member.proofs.object_bytes_in.Tie as tie
 
 returns : tie.Need-returns
-returns c = let s = c .before .before .before .before .before in c .before .copy .ensures ∙ part-loaded 2 16 (s .args .bytes .now) _ (omega arith) refl
+returns c = let s = c .before .before .before .before .before in c .before .copy .ensures ∙ part-loaded 3 16 (s .args .bytes .now) _ (omega arith) refl
 
 pub object-bytes-in-spec : {M : Type 1} → statement M
 object-bytes-in-spec =

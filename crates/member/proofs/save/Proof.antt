@@ -8,7 +8,7 @@ use Rattle.member.proofs.save.Tie as tie
 
 shaped : (s : tie.Start) → Shaped (s .args .m)
 shaped s = record {
-  ids = sym (length-map (s .args .m .objects) _) ∙ s .good .0 .1 .1 .1 .1 .0 .1 .0 .1;
+  ids = sym (length-map (s .args .m .objects) _) ∙ s .good .0 .1 .1 .1 .1 .1 .0 .1 .0 .1;
   low = search needs;
   long = search needs;
 }

@@ -7,7 +7,7 @@ use Rattle.member.proofs.values_in.Statement.{statement}
 use Rattle.member.proofs.values_in.Tie as tie
 
 returns : tie.Need-returns
-returns c = let s = c .before .before .before .before .before in c .before .copy .ensures ∙ part-loaded 20 205 (s .args .bytes .now) _ (omega arith) refl
+returns c = let s = c .before .before .before .before .before in c .before .copy .ensures ∙ part-loaded 21 205 (s .args .bytes .now) _ (omega arith) refl
 
 pub values-in-spec : {M : Type 1} → statement M
 values-in-spec =

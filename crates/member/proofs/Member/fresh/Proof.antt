@@ -11,8 +11,8 @@ returns : tie.Need-returns
 unfolding freshOf
 returns c =
     let s = c .before .before .before .before in
-    let n : length (s .args .t1) ≡ 16 = search needs in
-    rw (c .before .copy .ensures, fresh-values (s .args .t1) n)
+    let n : length (s .args .t2) ≡ 16 = search needs in
+    rw (c .before .copy .ensures, fresh-values (s .args .t2) n)
 
 pub fresh-spec : {M : Type 1} → statement M
 fresh-spec = tie.close (tie.spec (λ c. search needs) (λ c. search needs) (λ c κs. search needs) returns)

@@ -1,0 +1,13 @@
+-- `member::is_front_sound` meets its contract: each return is a step of the test. Assumes nothing.
+use borrow.Author.Needs.{needs}
+use Rattle.theory.proofs.Ladder.{ladder}
+use Rattle.member.specs.Sound.{soundFront}
+use Rattle.member.proofs.is_front_sound.Statement.{statement}
+use Rattle.member.proofs.is_front_sound.Tie as tie
+
+pub is-front-sound-spec : {M : Type 1} → statement M
+unfolding soundFront
+is-front-sound-spec =
+    tie.close
+    (tie.spec (λ c. search needs) (λ c. search ladder) (λ c. search needs) (λ c. search ladder) (λ c. search needs)
+    (λ c. search ladder) (λ c κs. search needs) (λ c. search ladder))
