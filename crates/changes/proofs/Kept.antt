@@ -43,7 +43,7 @@ found-cases P (Live k) f a h n = h k
 found-cases P Nothing f a h n = n
 
 -- what holds of a refusal and of each thing that can be done holds of every change
-module _ (queues gets sets : ℕ) (m : Member) (P : Changed → Type 0) (refused : (a : Answer) → isDone a ≡ false → P (refuse m a)) where
+module _ (gets sets : ℕ) (m : Member) (P : Changed → Type 0) (refused : (a : Answer) → isDone a ≡ false → P (refuse m a)) where
   if-room : (n : Member) → (roomIn gets sets n ≡ true → P (done n)) → P (limited gets sets m n)
   unfolding limited
   if-room n f = unless-cases P _ _ _ (λ t. refused _ refl) f
@@ -52,8 +52,8 @@ module _ (queues gets sets : ℕ) (m : Member) (P : Changed → Type 0) (refused
       → ((id : ℕ) (slot : Slot) → Puts op id → roomIn gets sets (withObject m id slot) ≡ true → P (done (withObject m id slot)))
       → ((id : ℕ) → P (done (withObject m id Free)))
       → ((mode : Mode) → P (done (withMode m mode)))
-      → (isAccepted (causeOf queues (featuresIn m) list) ≡ true → P (done (withValues m (applied queues (partsOf Parts list) (m .values)))))
-      → P (changeOf queues gets sets list op m)
+      → (isAccepted (causeOf (m .queues) (featuresIn m) list) ≡ true → P (done (withValues m (applied (m .queues) (partsOf Parts list) (m .values)))))
+      → P (changeOf gets sets list op m)
   unfolding createOf modifyOf destroyOf setPartsOf
   change-cases list (Create id kind) put free mode set =
       found-cases P (lookupOf m id) _ _ (λ k. refused _ refl) (if-room _ (put id (slotFor kind) creates))
@@ -69,25 +69,32 @@ module _ (queues gets sets : ℕ) (m : Member) (P : Changed → Type 0) (refused
       (refused _ refl)
   change-cases list (SetMode x) put free mode set = mode x
 
-module _ (queues gets sets : ℕ) (list : List ℕ) (op : ChangeOp) (m : Member) where
+module _ (gets sets : ℕ) (list : List ℕ) (op : ChangeOp) (m : Member) where
   -- a refusal leaves the member as it was
-  pub change-refused : isDone (changeOf queues gets sets list op m .answer) ≡ false → changeOf queues gets sets list op m .member ≡ m
+  pub change-refused : isDone (changeOf gets sets list op m .answer) ≡ false → changeOf gets sets list op m .member ≡ m
   change-refused =
-      change-cases queues gets sets m (λ x. isDone (x .answer) ≡ false → x .member ≡ m) (λ a e f. refl) list op
+      change-cases gets sets m (λ x. isDone (x .answer) ≡ false → x .member ≡ m) (λ a e f. refl) list op
       (λ id slot p e f. cc) (λ id f. cc) (λ mode f. cc) (λ e f. cc)
 
   -- no change marks a member
-  pub change-marked : changeOf queues gets sets list op m .member .marked ≡ m .marked
+  pub change-marked : changeOf gets sets list op m .member .marked ≡ m .marked
   unfolding withObject
   change-marked =
-      change-cases queues gets sets m (λ x. x .member .marked ≡ m .marked) (λ a e. refl) list op
+      change-cases gets sets m (λ x. x .member .marked ≡ m .marked) (λ a e. refl) list op
+      (λ id slot p e. refl) (λ id. refl) (λ mode. refl) (λ e. refl)
+
+  -- nor changes its queue count
+  pub change-queues : changeOf gets sets list op m .member .queues ≡ m .queues
+  unfolding withObject
+  change-queues =
+      change-cases gets sets m (λ x. x .member .queues ≡ m .queues) (λ a e. refl) list op
       (λ id slot p e. refl) (λ id. refl) (λ mode. refl) (λ e. refl)
 
   -- a member that is not marked
-  pub change-sound : (features : List ℕ) → IdBelow (gets + sets) op → m .marked ≡ false → SoundMember queues gets sets features m
-      → SoundMember queues gets sets features (changeOf queues gets sets list op m .member)
+  pub change-sound : (features : List ℕ) → IdBelow (gets + sets) op → m .marked ≡ false → SoundMember gets sets features m
+      → SoundMember gets sets features (changeOf gets sets list op m .member)
   change-sound f h u s =
-      change-cases queues gets sets m (λ x. SoundMember queues gets sets f (x .member)) (λ a e. s) list op
-      (λ id slot p e. sound-object queues gets sets f m s u id slot (put-below (gets + sets) h p) e) (λ id. sound-free queues gets sets f m s u id)
-      (λ mode. sound-mode queues gets sets f m s u mode)
-      (λ e. sound-applied queues gets sets f m s (partsOf Parts list) (accepted-allowed queues (featuresIn m) _ (m .values) e (s .shaped .long) (s .allowed)))
+      change-cases gets sets m (λ x. SoundMember gets sets f (x .member)) (λ a e. s) list op
+      (λ id slot p e. sound-object gets sets f m s u id slot (put-below (gets + sets) h p) e) (λ id. sound-free gets sets f m s u id)
+      (λ mode. sound-mode gets sets f m s u mode)
+      (λ e. sound-applied gets sets f m s (partsOf Parts list) (accepted-allowed (m .queues) (featuresIn m) _ (m .values) e (s .shaped .long) (s .allowed)))

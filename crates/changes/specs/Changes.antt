@@ -47,21 +47,22 @@ modifyOf gets sets id kind m =
 unfoldable pub destroyOf : ℕ → Member → Changed
 destroyOf id m = onFound (lookupOf m id) (λ k. done (withObject m id Free)) (refuse m NotLive)
 
--- parts set needs a live set object, a stopped member and a good list, and sets all parts of the list or none
-unfoldable pub setPartsOf : ℕ → ℕ → List ℕ → Member → Changed
-setPartsOf queues id list m =
+-- parts set needs a live set object, a stopped member and a list that is good for its queue count (02, request 9), and sets all
+-- parts of the list or none
+unfoldable pub setPartsOf : ℕ → List ℕ → Member → Changed
+setPartsOf id list m =
     onFound (lookupOf m id)
     (λ k.
     unless isSet k answer refuse m WrongKind then  -- 8
     unless isStopped (m .mode) answer refuse m Running then  -- 9
-    unless isAccepted (causeOf queues (featuresIn m) list) answer refuse m BadList then  -- 10
-    done (withValues m (applied queues (partsOf Parts list) (m .values))))
+    unless isAccepted (causeOf (m .queues) (featuresIn m) list) answer refuse m BadList then  -- 10
+    done (withValues m (applied (m .queues) (partsOf Parts list) (m .values))))
     (refuse m NotLive)
 
 -- by command; a mode set to the mode that the member has succeeds too
-abbrev pub changeOf : ℕ → ℕ → ℕ → List ℕ → ChangeOp → Member → Changed
-changeOf queues gets sets list (Create id kind) m = createOf gets sets id kind m
-changeOf queues gets sets list (Modify id kind) m = modifyOf gets sets id kind m
-changeOf queues gets sets list (Destroy id) m = destroyOf id m
-changeOf queues gets sets list (SetParts id) m = setPartsOf queues id list m
-changeOf queues gets sets list (SetMode mode) m = done (withMode m mode)
+abbrev pub changeOf : ℕ → ℕ → List ℕ → ChangeOp → Member → Changed
+changeOf gets sets list (Create id kind) m = createOf gets sets id kind m
+changeOf gets sets list (Modify id kind) m = modifyOf gets sets id kind m
+changeOf gets sets list (Destroy id) m = destroyOf id m
+changeOf gets sets list (SetParts id) m = setPartsOf id list m
+changeOf gets sets list (SetMode mode) m = done (withMode m mode)

@@ -82,17 +82,17 @@ fn set_mode(m: Member, mode: Mode) -> Changed
 }
 
 // Whether the member accepts this list.
-fn accepts(m: Member, queues: u8, list: &[u8]) -> bool
-    ensures { λ r. ⌜ r ≡ isAccepted (causeOf queues (featuresIn m) (now (list .entry))) ⌝ }
+fn accepts(m: Member, list: &[u8]) -> bool
+    ensures { λ r. ⌜ r ≡ isAccepted (causeOf (m .queues) (featuresIn m) (now (list .entry))) ⌝ }
 {
     let values = m.values;
-    let cause = rules::check_list(queues, &values[0..FEATURES_SIZE], list);
+    let cause = rules::check_list(m.queues, &values[0..FEATURES_SIZE], list);
     rules::is_accepted(cause)
 }
 
 // Steps 8, 9 and 10 of parts set; all or nothing.
-fn set_parts(m: Member, id: usize, queues: u8, list: &[u8]) -> Changed
-    ensures { λ r. ⌜ r ≡ setPartsOf queues id (now (list .entry)) m ⌝ }
+fn set_parts(m: Member, id: usize, list: &[u8]) -> Changed
+    ensures { λ r. ⌜ r ≡ setPartsOf id (now (list .entry)) m ⌝ }
 {
     let Found::Live(kind) = m.lookup(id) else {
         return refuse(m, Answer::NotLive);
@@ -104,21 +104,21 @@ fn set_parts(m: Member, id: usize, queues: u8, list: &[u8]) -> Changed
     let Mode::Stopped = mode else {
         return refuse(m, Answer::Running);
     };
-    if !accepts(m, queues, list) {
+    if !accepts(m, list) {
         return refuse(m, Answer::BadList);
     }
-    done(m.set_parts(queues, list))
+    done(m.set_parts(list))
 }
 
 // A command that changes the member; list holds the parts given.
-pub fn change(m: Member, op: ChangeOp, queues: u8, gets: u8, sets: u8, list: &[u8]) -> Changed
-    ensures { λ r. ⌜ r ≡ changeOf queues gets sets (now (list .entry)) op m ⌝ }
+pub fn change(m: Member, op: ChangeOp, gets: u8, sets: u8, list: &[u8]) -> Changed
+    ensures { λ r. ⌜ r ≡ changeOf gets sets (now (list .entry)) op m ⌝ }
 {
     match op {
         ChangeOp::Create(id, kind) => create(m, id, kind, gets, sets),
         ChangeOp::Modify(id, kind) => modify(m, id, kind, gets, sets),
         ChangeOp::Destroy(id) => destroy(m, id),
-        ChangeOp::SetParts(id) => set_parts(m, id, queues, list),
+        ChangeOp::SetParts(id) => set_parts(m, id, list),
         ChangeOp::SetMode(mode) => set_mode(m, mode),
     }
 }

@@ -43,8 +43,9 @@ throughGet id m rest =
 unfoldable pub selectedOf : ℕ → List ℕ → Reading
 selectedOf queues list = unless askedOf queues list answer refuseRead BadList then succeedRead Selected
 
-abbrev pub readOf : ℕ → List ℕ → ReadOp → Member → Reading
-readOf queues list (QueryObject id) m = queryOf id m
-readOf queues list (GetMetadata id what) m = throughGet id m (succeedRead (metadataOf queues what))
-readOf queues list (GetSelected id) m = throughGet id m (selectedOf queues list)
-readOf queues list (GetAll id) m = throughGet id m (succeedRead All)
+-- by the member's own queue count (02, request 9)
+abbrev pub readOf : List ℕ → ReadOp → Member → Reading
+readOf list (QueryObject id) m = queryOf id m
+readOf list (GetMetadata id what) m = throughGet id m (succeedRead (metadataOf (m .queues) what))
+readOf list (GetSelected id) m = throughGet id m (selectedOf (m .queues) list)
+readOf list (GetAll id) m = throughGet id m (succeedRead All)

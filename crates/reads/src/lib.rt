@@ -98,11 +98,12 @@ fn get_all(bytes: &[u8], id: usize) -> Reading
     succeed_read(Body::All)
 }
 
-// A command that reads; list holds the headers asked for.
-pub fn read(bytes: &[u8], op: ReadOp, queues: u8, list: &[u8]) -> Reading
+// A command that reads; list holds the headers asked for. The parts are those of the member's own queue count.
+pub fn read(bytes: &[u8], op: ReadOp, list: &[u8]) -> Reading
     requires { ⌜ length (now bytes) ≡ memberSize ⌝ }
-    ensures { λ r. ⌜ r ≡ readOf queues (now (list .entry)) op (memberOf (now (bytes .entry))) ⌝ }
+    ensures { λ r. ⌜ r ≡ readOf (now (list .entry)) op (memberOf (now (bytes .entry))) ⌝ }
 {
+    let queues = member::queues_of(bytes);
     match op {
         ReadOp::QueryObject(id) => query(bytes, id),
         ReadOp::GetMetadata(id, what) => get_metadata(bytes, id, what, queues),

@@ -6,9 +6,9 @@ use Rattle.reads.proofs.read.Tie as tie
 pub read-spec : {M : Type 1} → statement M
 read-spec =
     tie.close
-    (tie.spec (λ c. search needs) (λ c κs. search needs) (λ c. search needs) (λ c κs. search needs)
+    (tie.spec (λ c κs. search needs) (λ c. search needs) (λ c κs. search needs) (λ c. search needs) (λ c κs. search needs)
     (λ c. search needs) (λ c κs. search needs) (λ c. search needs) (λ c κs. search needs)
     (λ c. rw (c .before .before .op .given .1) (c .query .ensures))
-    (λ c. rw (c .before .before .op2 .given .1) (c .get-metadata .ensures))
-    (λ c. rw (c .before .before .op3 .given .1) (c .get-selected .ensures))
+    (λ c. rw (c .before .before .op2 .given .1, ← c .before .before .before .queues-of .ensures) (c .get-metadata .ensures))
+    (λ c. rw (c .before .before .op3 .given .1, ← c .before .before .before .queues-of .ensures) (c .get-selected .ensures))
     (λ c. rw (c .before .before .op4 .given .1) (c .get-all .ensures)))
