@@ -2,8 +2,8 @@
 -- never the layout. Assumes nothing.
 use mathlib.Core.Path.{_≡_, refl, ap, sym, _∙_}
 use mathlib.Core.Logic.{_≢_}
-use mathlib.Core.List.{List, _∷_, _++_, append-assoc}
-use Prim.Native.Nat.{ℕ, _+_, _*_, _-_, _^_, _≤_, _<_}
+use mathlib.Core.List.{List, [], _∷_, _++_, append-assoc}
+use Prim.Native.Nat.{ℕ, zero, suc, _+_, _*_, _-_, _^_, _≤_, _<_}
 use native.Mathlib.Nat.{add-zero}
 use native.Mathlib.Omega.{arith}
 use lib.Dec.{leb, eqb}
@@ -11,19 +11,18 @@ use borrow.Author.Tests.{eqb-true, eqb-false}
 use lib.ListN.{length, getD, take, drop, length-append, length-replicate}
 use lib.Seq.{take-take, take-all, take-at, take-add, drop-at, drop-append-add, drop-drop, length-take-le, getD-take}
 use borrow.Rule.Slice.PartMut.{putMid}
-use Rattle.theory.specs.Bytes.{bytesAt, put, repeat}
+use Rattle.theory.specs.Bytes.{bytesAt, put}
 use Rattle.theory.proofs.Tests.{by-cases, tests}
-use Rattle.theory.proofs.Bytes.{length-put, put-bytesAt, put-over, put-comm, put-out, put-eq, put-append, bytesAt-before, bytesAt-after, bytesAt-put-as, length-bytesAt, length-bytesAt-le, bytesAt-bytesAt, length-repeat, bytesAt-repeat}
+use Rattle.theory.proofs.Bytes.{length-put, put-bytesAt, put-over, put-comm, put-out, put-eq, put-append, bytesAt-before, bytesAt-after, bytesAt-put-as, length-bytesAt, length-bytesAt-le, bytesAt-bytesAt}
 use Rattle.wire.specs.Le.{le, bytes, number}
 use Rattle.wire.proofs.Le.{length-bytes, le-bytes, number-before, number-put}
 use Rattle.protocol.specs.Opcodes.{freshMask}
 use Rattle.member.specs.declared.Member.{Member}
 use Rattle.member.specs.Record.{memberSize, holdingSize, memberOf, memberBytes}
 use Rattle.member.specs.Member.{featuresSize, freshOf}
-use Rattle.member.proofs.Record.{Shaped, length-member, member-back}
-use Rattle.member.proofs.Sound.{sound-fresh}
+use Rattle.member.proofs.Record.{Shaped, fresh-shaped, length-member, member-back}
 use Rattle.card.specs.declared.Setup.{Setup}
-use Rattle.card.specs.Layout.{featuresAt, inUseAt, cardHeaderSize, memberBytesAt, configurationAt, configurationSize, generationAt, generationSize, holdingAt, recordSize, cardSize, setupIn, setupOf, inUseOf, withInUse, recordAt, HasRecord, recordBytes, withRecordBytes, memberBytesIn, memberIn, withMember, configurationIn, generationIn, withConfiguration, noConfiguration, holdingIn, withHolding, noBytes, recordOf, withRecord, freshRecord, freshHeader, freshCard}
+use Rattle.card.specs.Layout.{featuresAt, inUseAt, cardHeaderSize, memberBytesAt, configurationAt, configurationSize, generationAt, generationSize, holdingAt, recordSize, cardSize, setupIn, setupOf, inUseOf, withInUse, recordAt, HasRecord, recordBytes, withRecordBytes, memberBytesIn, memberIn, withMember, configurationIn, generationIn, withConfiguration, noConfiguration, holdingIn, withHolding, noBytes, recordOf, withRecord, freshRecord, freshHeader, freshRecords, freshCard}
 
 -- ---- bytes of a record ----
 
@@ -177,17 +176,13 @@ module _ (c : List ℕ) where
   unfolding setupOf setupIn
   members-read = number-read 0 (omega arith)
 
-  pub queues-read : getD c 1 0 ≡ setupOf c .queues
+  pub gets-read : getD c 1 0 ≡ setupOf c .gets
   unfolding setupOf setupIn
-  queues-read = number-read 1 (omega arith)
+  gets-read = number-read 1 (omega arith)
 
-  pub gets-read : getD c 2 0 ≡ setupOf c .gets
+  pub sets-read : getD c 2 0 ≡ setupOf c .sets
   unfolding setupOf setupIn
-  gets-read = number-read 2 (omega arith)
-
-  pub sets-read : getD c 3 0 ≡ setupOf c .sets
-  unfolding setupOf setupIn
-  sets-read = number-read 3 (omega arith)
+  sets-read = number-read 2 (omega arith)
 
   pub features-read : inUseAt ≤ length c → bytesAt featuresAt featuresSize c ≡ setupOf c .features
   unfolding setupOf setupIn
@@ -196,8 +191,8 @@ module _ (c : List ℕ) where
       ∙ drop-at (take featuresAt c) (bytesAt featuresAt featuresSize c) featuresAt (length-take-le featuresAt c (omega arith)))
 
   pub setup-read : inUseAt ≤ length c
-      → record { members = getD c 0 0; queues = getD c 1 0; gets = getD c 2 0; sets = getD c 3 0; features = bytesAt featuresAt featuresSize c } ≡ setupOf c
-  setup-read h = rw (members-read, queues-read, gets-read, sets-read, features-read h)
+      → record { members = getD c 0 0; gets = getD c 1 0; sets = getD c 2 0; features = bytesAt featuresAt featuresSize c } ≡ setupOf c
+  setup-read h = rw (members-read, gets-read, sets-read, features-read h)
 
 pub features-long : (c : List ℕ) → inUseAt ≤ length c → length (setupOf c .features) ≡ featuresSize
 features-long c h = rw (← features-read c h) (length-bytesAt featuresAt featuresSize c h)
@@ -226,14 +221,11 @@ module _ (h : List ℕ) (mask : ℕ) (q : List ℕ) (e : length h ≡ inUseAt) w
       rw (k, drop-append-add h (bytes 8 mask ++ q) (length (bytes 8 mask) + j), drop-append-add (bytes 8 mask) q j)
 
 unfoldable numbersOf : Setup → List ℕ
-numbersOf s = s .members ∷ s .queues ∷ s .gets ∷ s .sets ∷ s .features
+numbersOf s = s .members ∷ s .gets ∷ s .sets ∷ s .features
 
-unfoldable recordsOf : Setup → ℕ → List ℕ
-recordsOf s g = repeat (s .members) (freshRecord (s .features) g)
-
-fresh-laid : (s : Setup) (g : ℕ) → freshCard s g ≡ numbersOf s ++ (bytes 8 freshMask ++ recordsOf s g)
-unfolding freshCard freshHeader numbersOf recordsOf
-fresh-laid s g = append-assoc (numbersOf s) (bytes 8 freshMask) (recordsOf s g)
+fresh-laid : (s : Setup) (qs : List ℕ) (g : ℕ) → freshCard s qs g ≡ numbersOf s ++ (bytes 8 freshMask ++ freshRecords (s .features) g qs)
+unfolding freshCard freshHeader numbersOf
+fresh-laid s qs g = append-assoc (numbersOf s) (bytes 8 freshMask) (freshRecords (s .features) g qs)
 
 pub no-bytes-long : length noBytes ≡ holdingSize
 unfolding noBytes
@@ -242,9 +234,6 @@ no-bytes-long = length-replicate {A = ℕ} holdingSize 0
 pub no-configuration-long : length noConfiguration ≡ configurationSize
 unfolding noConfiguration
 no-configuration-long = length-replicate {A = ℕ} configurationSize 0
-
-pub fresh-shaped : (f : List ℕ) → length f ≡ featuresSize → Shaped (freshOf f)
-fresh-shaped f e = sound-fresh 0 0 0 f e .shaped
 
 module _ (x : Member) (g : ℕ) (s : Shaped x) where
   pub record-long : length (recordOf x g) ≡ recordSize
@@ -263,31 +252,49 @@ numbers-long : (s : Setup) → length (s .features) ≡ featuresSize → length 
 unfolding numbersOf
 numbers-long s e = rw e
 
-module _ (s : Setup) (g : ℕ) (e : length (s .features) ≡ featuresSize) where
-  pub length-fresh : length (freshCard s g) ≡ cardSize (s .members)
-  unfolding recordsOf
+-- fresh records, one after the other
+module _ (f : List ℕ) (g : ℕ) (e : length f ≡ featuresSize) where
+  pub fresh-record-long : (q : ℕ) → length (freshRecord q f g) ≡ recordSize
+  fresh-record-long q = record-long _ g (fresh-shaped q f e)
+
+  pub records-long : (qs : List ℕ) → length (freshRecords f g qs) ≡ recordSize * length qs
+  unfolding freshRecords
+  records-long [] = refl
+  records-long (q ∷ qs) = rw (length-append, fresh-record-long q, records-long qs) (omega arith)
+
+  records-at : (qs : List ℕ) (i : ℕ) → i < length qs → bytesAt (recordSize * i) recordSize (freshRecords f g qs) ≡ freshRecord (getD qs i 0) f g
+  unfolding freshRecords
+  records-at [] i h = absurd (omega arith)
+  records-at (q ∷ qs) zero h = take-at (freshRecord q f g) (freshRecords f g qs) recordSize (fresh-record-long q)
+  records-at (q ∷ qs) (suc i) h =
+      let a : recordSize * suc i ≡ length (freshRecord q f g) + recordSize * i = omega (arith, fresh-record-long q) in
+      rw (a, drop-append-add) (records-at qs i (omega arith))
+
+module _ (s : Setup) (qs : List ℕ) (g : ℕ) (e : length (s .features) ≡ featuresSize) where
+  pub length-fresh : length (freshCard s qs g) ≡ cardSize (length qs)
   length-fresh =
       let n = length-bytes 8 freshMask in
-      let f = length-repeat (s .members) recordSize (freshRecord (s .features) g) (record-long _ g (fresh-shaped (s .features) e)) in
-      rw (fresh-laid s g, length-append, length-append) (omega (arith, numbers-long s e))
+      let f = records-long (s .features) g e qs in
+      rw (fresh-laid s qs g, length-append, length-append) (omega (arith, numbers-long s e))
 
-  pub setup-fresh : setupOf (freshCard s g) ≡ s
+  pub setup-fresh : setupOf (freshCard s qs g) ≡ s
   unfolding setupOf setupIn numbersOf
-  setup-fresh = rw (fresh-laid s g) (ap setupIn (setup-laid (numbersOf s) freshMask (recordsOf s g) (numbers-long s e)))
+  setup-fresh = rw (fresh-laid s qs g) (ap setupIn (setup-laid (numbersOf s) freshMask _ (numbers-long s e)))
 
-  pub use-fresh : inUseOf (freshCard s g) ≡ freshMask
+  pub use-fresh : inUseOf (freshCard s qs g) ≡ freshMask
   unfolding inUseOf number
-  use-fresh = rw (fresh-laid s g) (ap le (use-laid (numbersOf s) freshMask (recordsOf s g) (numbers-long s e)) ∙ le-bytes 8 freshMask (omega arith))
+  use-fresh = rw (fresh-laid s qs g) (ap le (use-laid (numbersOf s) freshMask _ (numbers-long s e)) ∙ le-bytes 8 freshMask (omega arith))
 
-  record-fresh : (m : ℕ) → 1 ≤ m → m ≤ s .members → recordBytes (freshCard s g) m 0 recordSize ≡ freshRecord (s .features) g
-  unfolding recordsOf recordBytes
+  -- the record of member m is with the m-th count
+  record-fresh : (m : ℕ) → 1 ≤ m → m ≤ length qs → recordBytes (freshCard s qs g) m 0 recordSize ≡ freshRecord (getD qs (m - 1) 0) (s .features) g
+  unfolding recordBytes
   record-fresh m l h =
-      rw (fresh-laid s g, add-zero)
-      (records-laid (numbersOf s) freshMask (recordsOf s g) (numbers-long s e) (recordSize * (m - 1)) recordSize
-      ∙ bytesAt-repeat (s .members) recordSize (m - 1) (freshRecord (s .features) g) (record-long _ g (fresh-shaped (s .features) e)) (omega arith))
+      rw (fresh-laid s qs g, add-zero)
+      (records-laid (numbersOf s) freshMask _ (numbers-long s e) (recordSize * (m - 1)) recordSize
+      ∙ records-at (s .features) g e qs (m - 1) (omega arith))
 
-  pub member-bytes-fresh : (m : ℕ) → 1 ≤ m → m ≤ s .members → memberBytesIn (freshCard s g) m ≡ memberBytes (freshOf (s .features))
-  member-bytes-fresh m l h = member-front (freshCard s g) m _ (record-fresh m l h) ∙ record-front _ g (fresh-shaped (s .features) e)
+  pub member-bytes-fresh : (m : ℕ) → 1 ≤ m → m ≤ length qs → memberBytesIn (freshCard s qs g) m ≡ memberBytes (freshOf (getD qs (m - 1) 0) (s .features))
+  member-bytes-fresh m l h = member-front (freshCard s qs g) m _ (record-fresh m l h) ∙ record-front _ g (fresh-shaped _ (s .features) e)
 
 -- ---- a member ----
 

@@ -2,5 +2,6 @@ pub mod LayoutLaws
 pub mod ConfigurationLaws
 pub mod MarkLaws
 pub mod SoundLaws
+pub mod CountLaws
 pub mod ReadLaws
 pub mod WriteLaws

@@ -31,7 +31,7 @@ unfolding isMarked _and_
 mark-alike c d m e f = rw e (by-cases (isMember c m) (λ t. rw (t, f t)) (λ t. rw t))
 
 -- a byte of what is put is there
-byte-put : (a n i : ℕ) (y c : List ℕ) → i < n → i < length y → a + length y ≤ length c → getD (bytesAt a n (put a y c)) i 0 ≡ getD y i 0
+pub byte-put : (a n i : ℕ) (y c : List ℕ) → i < n → i < length y → a + length y ≤ length c → getD (bytesAt a n (put a y c)) i 0 ≡ getD y i 0
 byte-put a n i y c h k l =
     getD-bytesAt a n i (put a y c) h ∙ sym (getD-bytesAt a (length y) i (put a y c) k) ∙ ap (λ z. getD z i 0) (bytesAt-put a y c l)
 

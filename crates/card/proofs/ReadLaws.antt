@@ -20,14 +20,15 @@ use Rattle.member.specs.Member.{featuresSize}
 use Rattle.member.specs.Sound.{soundRecord}
 use Rattle.card.specs.declared.Setup.{Setup}
 use Rattle.card.specs.Layout.{featuresAt, cardHeaderSize, memberBytesAt, recordSize, cardSize, setupOf, isMember, recordAt, HasRecord, recordBytes, memberBytesIn, memberIn}
-use Rattle.card.specs.Sound.{inNumbers, soundSetup, soundFor, soundUpTo}
-use Rattle.card.proofs.LayoutLaws.{bytes-long, setup-read, members-read, queues-read, gets-read, sets-read, features-read}
+use Rattle.setups.specs.Setup.{inRanges}
+use Rattle.card.specs.Sound.{soundSetup, soundFor, soundUpTo}
+use Rattle.card.proofs.LayoutLaws.{bytes-long, setup-read, members-read, gets-read, sets-read, features-read}
 
 -- ---- the header ----
 
 -- the features were copied into l
 pub setup-copied : (c f l : List ℕ) → cardHeaderSize ≤ length c → length l ≡ featuresSize → f ≡ put 0 (bytesAt featuresAt featuresSize c) l
-    → record { members = getD c 0 0; queues = getD c 1 0; gets = getD c 2 0; sets = getD c 3 0; features = f } ≡ setupOf c
+    → record { members = getD c 0 0; gets = getD c 1 0; sets = getD c 2 0; features = f } ≡ setupOf c
 setup-copied c f l h n e =
     rw (e, put-all (bytesAt featuresAt featuresSize c) l (length-bytesAt featuresAt featuresSize c (omega arith) ∙ sym n)) (setup-read c (omega arith))
 
@@ -47,10 +48,10 @@ module _ (c : List ℕ) (n : ℕ) (e : n ≡ getD c 0 0) where
 pub length-short : (c : List ℕ) → length c < cardHeaderSize → false ≡ eqb (length c) (cardSize (setupOf c .members))
 length-short c h = sym (ne-eqb (length c) (cardSize (setupOf c .members)) (λ e. omega arith))
 
-pub numbers-tested : (c : List ℕ) (n q g s : ℕ) (t : Bool) → n ≡ getD c 0 0 → q ≡ getD c 1 0 → g ≡ getD c 2 0 → s ≡ getD c 3 0
-    → t ≡ inNumbers n q g s → t ≡ soundSetup (setupOf c)
+pub numbers-tested : (c : List ℕ) (n g s : ℕ) (t : Bool) → n ≡ getD c 0 0 → g ≡ getD c 1 0 → s ≡ getD c 2 0
+    → t ≡ inRanges n g s → t ≡ soundSetup (setupOf c)
 unfolding soundSetup
-numbers-tested c n q g s t a b d e f = f ∙ rw (a, b, d, e, members-read c, queues-read c, gets-read c, sets-read c)
+numbers-tested c n g s t a b d f = f ∙ rw (a, b, d, members-read c, gets-read c, sets-read c)
 
 -- ---- a member's bytes, from the place of its record ----
 
@@ -73,8 +74,8 @@ module _ (c : List ℕ) (at : ℕ) where
   place-long h = rw add-sub-cancel-left (length-bytesAt at memberSize c h)
 
   pub place-tested : (t : Bool) → cardHeaderSize ≤ length c
-      → t ≡ soundRecord (getD c 1 0) (getD c 2 0) (getD c 3 0) (bytesAt featuresAt featuresSize c) (bytesAt at (at + memberSize - at) c) → t ≡ soundFor (setupOf c) (bytesAt at memberSize c)
-  place-tested t h q = q ∙ rw (add-sub-cancel-left at memberSize, queues-read c, gets-read c, sets-read c, features-read c (omega arith))
+      → t ≡ soundRecord (getD c 1 0) (getD c 2 0) (bytesAt featuresAt featuresSize c) (bytesAt at (at + memberSize - at) c) → t ≡ soundFor (setupOf c) (bytesAt at memberSize c)
+  place-tested t h q = q ∙ rw (add-sub-cancel-left at memberSize, gets-read c, sets-read c, features-read c (omega arith))
 
 -- ---- the pass over the members ----
 

@@ -1,8 +1,8 @@
 -- What the test of a card says, as plain facts, and what keeps a card sound. Assumes nothing.
-use mathlib.Core.Path.{_≡_, refl}
+use mathlib.Core.Path.{_≡_, refl, ap, _∙_}
 use mathlib.Core.Bool.{true}
 use mathlib.Core.List.{List}
-use Prim.Native.Nat.{ℕ, zero, suc, _+_, _^_, _≤_, _<_}
+use Prim.Native.Nat.{ℕ, zero, suc, _+_, _-_, _^_, _≤_, _<_}
 use native.Mathlib.Omega.{arith}
 use lib.Dec.{eqb}
 use lib.ListN.{length}
@@ -15,9 +15,11 @@ use Rattle.member.specs.Record.{memberSize, memberBytes}
 use Rattle.member.specs.Member.{featuresSize}
 use Rattle.member.proofs.Record.{length-member}
 use Rattle.member.proofs.Sound.{SoundMember, sound-record, sound-member, sound-fresh}
+use Rattle.setups.specs.Setup.{inRanges, isCount, inNumbers}
+use Rattle.setups.proofs.Ranges.{all-at}
 use Rattle.card.specs.declared.Setup.{Setup}
 use Rattle.card.specs.Layout.{cardHeaderSize, memberBytesAt, recordSize, cardSize, setupOf, inUseOf, isMember, HasRecord, withRecordBytes, memberBytesIn, withInUse, memberIn, withMember, withConfiguration, withHolding, recordOf, withRecord, withFresh, freshCard}
-use Rattle.card.specs.Sound.{inNumbers, soundSetup, soundFor, soundUpTo, isSound}
+use Rattle.card.specs.Sound.{soundSetup, soundFor, soundUpTo, isSound}
 use Rattle.card.proofs.LayoutLaws.{has-record, bytes-long, length-with-bytes, setup-with-bytes, use-with-bytes, bytes-same, bytes-other, length-with-use, setup-with-use, bytes-with-use, use-same, features-long, length-fresh, setup-fresh, use-fresh, member-bytes-fresh, record-bytes, member-bytes-with-record, length-with-holding, setup-with-holding, use-with-holding, bytes-with-holding}
 use Rattle.card.proofs.ConfigurationLaws.{length-with-configuration, setup-with-configuration, use-with-configuration, bytes-with-configuration}
 
@@ -27,31 +29,25 @@ use Rattle.card.proofs.ConfigurationLaws.{length-with-configuration, se
 pub record Numbers (s : Setup) : Type 0 where
   pub someMembers : 1 ≤ s .members
   pub fewMembers : s .members ≤ 16
-  pub someQueues : 1 ≤ s .queues
-  pub fewQueues : s .queues ≤ 4
   pub fewGets : s .gets ≤ 8
   pub fewSets : s .sets ≤ 8
 
 pub numbers-of : (s : Setup) → soundSetup s ≡ true → Numbers s
-unfolding soundSetup inNumbers
+unfolding soundSetup inRanges
 numbers-of s e =
     let p = both _ _ e in
     let q = both _ _ (p .0) in
-    let r = both _ _ (q .0) in
     record {
-      someMembers = within-low _ _ _ (r .0);
-      fewMembers = within-high _ _ _ (r .0);
-      someQueues = within-low _ _ _ (r .1);
-      fewQueues = within-high _ _ _ (r .1);
+      someMembers = within-low _ _ _ (q .0);
+      fewMembers = within-high _ _ _ (q .0);
       fewGets = leb-true _ _ (q .1);
       fewSets = leb-true _ _ (p .1);
     }
 
 pub numbers-sound : (s : Setup) → Numbers s → soundSetup s ≡ true
-unfolding soundSetup inNumbers
+unfolding soundSetup inRanges
 numbers-sound s n =
-    and-i _ _ (and-i _ _ (and-i _ _ (inside _ _ _ (n .someMembers) (n .fewMembers)) (inside _ _ _ (n .someQueues) (n .fewQueues)))
-    (le-leb _ _ (n .fewGets))) (le-leb _ _ (n .fewSets))
+    and-i _ _ (and-i _ _ (inside _ _ _ (n .someMembers) (n .fewMembers)) (le-leb _ _ (n .fewGets))) (le-leb _ _ (n .fewSets))
 
 pub record Sound (c : List ℕ) : Type 0 where
   pub long : length c ≡ cardSize (setupOf c .members)
@@ -88,7 +84,7 @@ is-sound c s =
 
 -- member x is sound in card c
 abbrev pub SoundIn : List ℕ → Member → Type 0
-SoundIn c x = SoundMember (setupOf c .queues) (setupOf c .gets) (setupOf c .sets) (setupOf c .features) x
+SoundIn c x = SoundMember (setupOf c .gets) (setupOf c .sets) (setupOf c .features) x
 
 module _ (c : List ℕ) (s : Sound c) where
   pub sound-long : cardHeaderSize ≤ length c
@@ -102,7 +98,7 @@ module _ (c : List ℕ) (s : Sound c) where
 
   pub sound-member-in : (m : ℕ) → isMember c m ≡ true → SoundIn c (memberIn c m)
   unfolding memberIn
-  sound-member-in m e = sound-member _ _ _ _ (memberBytesIn c m) (bytes-long c m memberBytesAt memberSize (sound-has m e) (omega arith)) (sound-at m e)
+  sound-member-in m e = sound-member _ _ _ (memberBytesIn c m) (bytes-long c m memberBytesAt memberSize (sound-has m e) (omega arith)) (sound-at m e)
 
 -- a member's number fits the field of a request
 pub member-small : (c : List ℕ) (m : ℕ) → isSound c ≡ true → isMember c m ≡ true → m < 256 ^ 8
@@ -127,19 +123,19 @@ with-bytes c m at n x s low i g =
 pub sound-with-member : (c : List ℕ) (m : ℕ) (x : Member) → Sound c → 1 ≤ m → SoundIn c x → Sound (withMember c m x)
 unfolding withMember
 sound-with-member c m x s low y = with-bytes c m memberBytesAt memberSize (memberBytes x) s low (omega arith) λ h.
-    rw (bytes-same c m memberBytesAt memberSize (memberBytes x) h (omega arith) (length-member x (y .shaped))) (sound-record _ _ _ _ x y)
+    rw (bytes-same c m memberBytesAt memberSize (memberBytes x) h (omega arith) (length-member x (y .shaped))) (sound-record _ _ _ x y)
 
 -- a whole record of a sound member, and that of a fresh one
 pub sound-with-record : (c : List ℕ) (m : ℕ) (x : Member) (g : ℕ) → Sound c → 1 ≤ m → SoundIn c x → Sound (withRecord c m x g)
 sound-with-record c m x g s low y =
     rw (record-bytes c m x g) (with-bytes c m 0 recordSize (recordOf x g) s low (omega arith) λ h.
-    rw (← record-bytes c m x g, member-bytes-with-record c m x g (y .shaped) h) (sound-record _ _ _ _ x y))
+    rw (← record-bytes c m x g, member-bytes-with-record c m x g (y .shaped) h) (sound-record _ _ _ x y))
 
-pub sound-with-fresh : (c : List ℕ) (m g : ℕ) → Sound c → 1 ≤ m → Sound (withFresh c m (setupOf c .features) g)
-sound-with-fresh c m g s low =
+pub sound-with-fresh : (c : List ℕ) (m g : ℕ) → Sound c → isMember c m ≡ true → Sound (withFresh c m (setupOf c .features) g)
+sound-with-fresh c m g s h =
     let f = setupOf c .features in
     let e = features-long c (omega (arith, sound-long c s)) in
-    sound-with-record c m _ g s low (sound-fresh _ _ _ f e)
+    sound-with-record c m _ g s (within-low _ _ m h) (sound-fresh _ _ f _ (sound-member-in c s m h .count) e)
 
 -- what stands behind a member's bytes, whatever it is: its configuration and generation, the bytes of its holding place
 pub sound-with-configuration : (c : List ℕ) (m : ℕ) (x : List ℕ) (g : ℕ) → Sound c → 1 ≤ m → Sound (withConfiguration c m x g)
@@ -158,14 +154,20 @@ sound-with-use c mask s u =
     kept c _ s (length-with-use c mask) (setup-with-use c mask) (rw (use-same c mask (sound-long c s) (mask-fits mask u)) u)
     (λ k l h. rw (bytes-with-use c mask k memberBytesAt memberSize) (s .each k l h))
 
--- a fresh card
-pub sound-fresh-card : (s : Setup) (g : ℕ) → soundSetup s ≡ true → length (s .features) ≡ featuresSize → Sound (freshCard s g)
-sound-fresh-card s g e n =
-    let f = setup-fresh s g n in
-    let r = sound-record (s .queues) (s .gets) (s .sets) (s .features) _ (sound-fresh (s .queues) (s .gets) (s .sets) (s .features) n) in
+-- a fresh card with a good count for each member
+pub sound-fresh-card : (s : Setup) (qs : List ℕ) (g : ℕ) → inNumbers (s .members) qs (s .gets) (s .sets) ≡ true → length (s .features) ≡ featuresSize
+    → Sound (freshCard s qs g)
+unfolding soundSetup inNumbers
+sound-fresh-card s qs g e n =
+    let f = setup-fresh s qs g n in
+    let p = both _ _ e in
+    let q = both _ _ (p .0) in
+    let l : length qs ≡ s .members = eqb-true _ _ (q .1) in
     record {
-      long = rw f (length-fresh s g n);
-      numbers = rw f (numbers-of s e);
-      supported = rw (use-fresh s g n) fresh-only;
-      each = rw f (λ m l h. rw (member-bytes-fresh s g n m l h) r);
+      long = rw f (length-fresh s qs g n ∙ ap cardSize l);
+      numbers = rw f (numbers-of s (q .0));
+      supported = rw (use-fresh s qs g n) fresh-only;
+      each =
+          rw f (λ m a h. rw (member-bytes-fresh s qs g n m a (omega arith))
+          (sound-record _ _ _ _ (sound-fresh (s .gets) (s .sets) (s .features) _ (all-at isCount qs (m - 1) (p .1) (omega arith)) n)));
     }

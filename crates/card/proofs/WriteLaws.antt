@@ -11,9 +11,10 @@ use Rattle.theory.proofs.Bytes.{length-put, length-bytesAt, put-within}
 use lib.Seq.{take-all}
 use Rattle.member.specs.declared.Member.{Member}
 use Rattle.member.specs.Record.{memberSize, holdingSize, memberBytes}
-use Rattle.member.specs.Member.{featuresSize, freshOf}
-use Rattle.card.specs.Layout.{memberBytesAt, holdingAt, recordAt, HasRecord, recordBytes, withRecordBytes, withMember, withConfiguration, noConfiguration, holdingIn, withHolding, noBytes, withFresh}
-use Rattle.card.proofs.LayoutLaws.{bytes-lent, fresh-shaped, record-in-three}
+use Rattle.member.specs.Member.{freshOf}
+use Rattle.member.proofs.Record.{Shaped}
+use Rattle.card.specs.Layout.{memberBytesAt, holdingAt, recordAt, HasRecord, recordBytes, withRecordBytes, memberIn, withMember, withConfiguration, noConfiguration, holdingIn, withHolding, noBytes, withRecord, withFresh}
+use Rattle.card.proofs.LayoutLaws.{bytes-lent, record-in-three}
 
 -- the place of a member's bytes was lent and came back as `last`, as long as it was
 pub member-saved : (c : List ℕ) (m at : ℕ) (x : Member) (last : List ℕ) → at ≡ recordAt m → HasRecord c m → last ≡ memberBytes x
@@ -25,10 +26,15 @@ member-saved c m at x last e h q n =
     let z : at ≡ recordAt m + memberBytesAt = e ∙ sym (add-zero (recordAt m)) in
     bytes-lent c m memberBytesAt memberSize (memberBytes x) at (at + memberSize - at) last z (add-sub-cancel-left at memberSize) q l (omega arith) h
 
--- a fresh member was saved, its configuration zeroed with a generation given, and its holding place zeroed
-pub member-reset : (c d e r : List ℕ) (m : ℕ) (x : Member) (f : List ℕ) (g : ℕ) → length f ≡ featuresSize → x ≡ freshOf f → d ≡ withMember c m x
-    → e ≡ withConfiguration d m noConfiguration g → r ≡ withHolding e m noBytes → r ≡ withFresh c m f g
-member-reset c d e r m x f g n p q o i = i ∙ rw (o, q, p) (sym (record-in-three c m (freshOf f) g (fresh-shaped f n)))
+-- x was saved, its configuration zeroed with a generation given, and its holding place zeroed
+pub record-written : (c d e r : List ℕ) (m : ℕ) (x : Member) (g : ℕ) → Shaped x → d ≡ withMember c m x
+    → e ≡ withConfiguration d m noConfiguration g → r ≡ withHolding e m noBytes → r ≡ withRecord c m x g
+record-written c d e r m x g s q o i = i ∙ rw (o, q) (sym (record-in-three c m x g s))
+
+-- member m was loaded, wiped and written
+pub member-reset : (c d : List ℕ) (m : ℕ) (x y : Member) (f : List ℕ) (g : ℕ) → x ≡ memberIn c m → y ≡ freshOf (x .queues) f
+    → d ≡ withRecord c m y g → d ≡ withFresh c m f g
+member-reset c d m x y f g p q o = o ∙ rw (q, p)
 
 -- ---- the bytes of a holding place, from the place of the record ----
 

@@ -1,11 +1,11 @@
 -- The card (01's term for the device that owns the group) is a list of bytes, SPEC 2.7: a header, then a record for each
 -- of its N members. What is in it, and the card with something else there. Assumes nothing.
 use mathlib.Core.Bool.{Bool}
-use mathlib.Core.List.{List, _∷_, _++_}
-use Prim.Native.Nat.{ℕ, _+_, _*_, _-_, _≤_}
+use mathlib.Core.List.{List, [], _∷_, _++_}
+use Prim.Native.Nat.{ℕ, zero, suc, _+_, _*_, _-_, _≤_}
 use lib.ListN.{length, getD, take, drop, replicate}
 use Rattle.theory.specs.Logic.{if_then_else_, _and_, within}
-use Rattle.theory.specs.Bytes.{bytesAt, put, repeat}
+use Rattle.theory.specs.Bytes.{bytesAt, put}
 use Rattle.wire.specs.Le.{le, bytes, number}
 use Rattle.protocol.specs.Opcodes.{freshMask}
 use Rattle.member.specs.declared.Member.{Member}
@@ -15,17 +15,17 @@ use Rattle.card.specs.declared.Setup.{Setup}
 
 -- raised whenever a card's bytes change their meaning
 abbrev pub version : ℕ
-version = 4
+version = 5
 
--- header: N, Q, G, S 1 byte each, device features 16, list in use 8
+-- header: N, G, S 1 byte each, device features 16, list in use 8
 abbrev pub featuresAt : ℕ
-featuresAt = 4
+featuresAt = 3
 
 abbrev pub inUseAt : ℕ
-inUseAt = 20
+inUseAt = 19
 
 abbrev pub cardHeaderSize : ℕ
-cardHeaderSize = 28
+cardHeaderSize = 27
 
 -- a record: the bytes of its member, its configuration and generation (02, request 3), the bytes of its holding place
 abbrev pub memberBytesAt : ℕ
@@ -58,7 +58,7 @@ cardBytes members = if within 1 16 members then cardSize members else 0
 
 unfoldable pub setupIn : List ℕ → Setup
 setupIn h =
-    record { members = getD h 0 0; queues = getD h 1 0; gets = getD h 2 0; sets = getD h 3 0; features = drop featuresAt h }
+    record { members = getD h 0 0; gets = getD h 1 0; sets = getD h 2 0; features = drop featuresAt h }
 
 unfoldable pub setupOf : List ℕ → Setup
 setupOf c = setupIn (bytesAt 0 inUseAt c)
@@ -99,6 +99,14 @@ memberIn c m = memberOf (memberBytesIn c m)
 unfoldable pub withMember : List ℕ → ℕ → Member → List ℕ
 withMember c m x = withRecordBytes c m memberBytesAt memberSize (memberBytes x)
 
+-- the queue counts of n members from m on, and of all members (02, request 9)
+unfoldable pub countsFrom : List ℕ → ℕ → ℕ → List ℕ
+countsFrom c m zero = []
+countsFrom c m (suc n) = memberIn c m .queues ∷ countsFrom c (suc m) n
+
+unfoldable pub countsOf : List ℕ → List ℕ
+countsOf c = countsFrom c 1 (setupOf c .members)
+
 -- member m is marked (02's term, request 10): it is handed back and not yet wiped
 unfoldable pub isMarked : List ℕ → ℕ → Bool
 isMarked c m = isMember c m and memberIn c m .marked
@@ -134,16 +142,20 @@ recordOf x generation = memberBytes x ++ (noConfiguration ++ (bytes generationSi
 unfoldable pub withRecord : List ℕ → ℕ → Member → ℕ → List ℕ
 withRecord c m x generation = withRecordBytes c m 0 recordSize (recordOf x generation)
 
--- that of a fresh member
-abbrev pub freshRecord : List ℕ → ℕ → List ℕ
-freshRecord features generation = recordOf (freshOf features) generation
+-- that of a fresh member; no reset changes a queue count (02, request 9)
+abbrev pub freshRecord : ℕ → List ℕ → ℕ → List ℕ
+freshRecord queues features generation = recordOf (freshOf queues features) generation
 
 abbrev pub withFresh : List ℕ → ℕ → List ℕ → ℕ → List ℕ
-withFresh c m features generation = withRecord c m (freshOf features) generation
+withFresh c m features generation = withRecord c m (freshOf (memberIn c m .queues) features) generation
 
--- fresh (01's term), SPEC 2.5: opcodes 0x00 and 0x01 are in use, and every member is fresh
+-- fresh (01's term), SPEC 2.5: opcodes 0x00 and 0x01 are in use, and every member is fresh, with its own queue count
 unfoldable pub freshHeader : Setup → List ℕ
-freshHeader s = (s .members ∷ s .queues ∷ s .gets ∷ s .sets ∷ s .features) ++ bytes 8 freshMask
+freshHeader s = (s .members ∷ s .gets ∷ s .sets ∷ s .features) ++ bytes 8 freshMask
 
-unfoldable pub freshCard : Setup → ℕ → List ℕ
-freshCard s generation = freshHeader s ++ repeat (s .members) (freshRecord (s .features) generation)
+unfoldable pub freshRecords : List ℕ → ℕ → List ℕ → List ℕ
+freshRecords features generation [] = []
+freshRecords features generation (q ∷ counts) = freshRecord q features generation ++ freshRecords features generation counts
+
+unfoldable pub freshCard : Setup → List ℕ → ℕ → List ℕ
+freshCard s counts generation = freshHeader s ++ freshRecords (s .features) generation counts

@@ -6,39 +6,36 @@ ghost use lib.ListN.{length};
 ghost use Rattle.theory.specs.Bytes.{bytesAt, put};
 ghost use Rattle.protocol.specs.Opcodes.{supportedOnly};
 ghost use Rattle.member.specs.Record.{memberSize, holdingSize};
-ghost use Rattle.card.specs.Layout.{cardHeaderSize, cardSize, cardBytes, setupOf, inUseOf, withInUse, isMember, recordAt, HasRecord, memberBytesIn, memberIn, withMember, isMarked, configurationSize, configurationIn, generationIn, withConfiguration, noConfiguration, holdingIn, withHolding, noBytes, withFresh};
-ghost use Rattle.card.specs.Sound.{inNumbers, soundSetup, soundFor, soundUpTo, isSound};
+ghost use Rattle.card.specs.Layout.{cardHeaderSize, cardSize, cardBytes, setupOf, inUseOf, withInUse, isMember, recordAt, HasRecord, memberBytesIn, memberIn, withMember, isMarked, configurationSize, configurationIn, generationIn, withConfiguration, noConfiguration, holdingIn, withHolding, noBytes, withRecord, withFresh};
+ghost use Rattle.card.specs.Sound.{soundSetup, soundFor, soundUpTo, isSound};
 use member::FEATURES_SIZE;
 use member::HOLDING_SIZE;
 use member::MEMBER_SIZE;
 use member::Member;
 
-// A card's setup, from its header.
+// A card's setup, from its header; the queue counts stand in the members' records.
 pub struct Setup {
     pub members: u8,
-    pub queues: u8,
     pub gets: u8,
     pub sets: u8,
     pub features: [u8; FEATURES_SIZE],
 }
 
 // Raised whenever a card's bytes change their meaning.
-pub const VERSION: u32 = 4;
+pub const VERSION: u32 = 5;
 
-// Header: N, Q, G, S 1 byte each, device features 16, list in use 8; then a record for each member.
+// Header: N, G, S 1 byte each, device features 16, list in use 8; then a record for each member.
 const MEMBERS_AT: usize = 0;
 
-const QUEUES_AT: usize = 1;
+const GETS_AT: usize = 1;
 
-const GETS_AT: usize = 2;
+const SETS_AT: usize = 2;
 
-const SETS_AT: usize = 3;
+pub const FEATURES_AT: usize = 3;
 
-pub const FEATURES_AT: usize = 4;
+pub const IN_USE_AT: usize = 19;
 
-pub const IN_USE_AT: usize = 20;
-
-const CARD_HEADER_SIZE: usize = 28;
+const CARD_HEADER_SIZE: usize = 27;
 
 // A record: the bytes of its member, its configuration and generation, the bytes of its holding place.
 const CONFIGURATION_AT: usize = MEMBER_SIZE;
@@ -86,7 +83,6 @@ pub fn setup_of(card: &[u8]) -> Setup
     wire::copy(&mut features, 0, &card[FEATURES_AT..IN_USE_AT]);
     Setup {
         members: card[MEMBERS_AT],
-        queues: card[QUEUES_AT],
         gets: card[GETS_AT],
         sets: card[SETS_AT],
         features,
@@ -163,15 +159,23 @@ pub fn is_marked(card: &[u8], m: u64) -> bool
     member::is_marked(member_bytes(card, m))
 }
 
-// The record of member m becomes a fresh member's, whatever it holds, and starts from this generation.
+// The record of member m becomes x's, with this generation and zeros in the rest.
+pub fn write_record(card: &mut [u8], m: u64, x: Member, generation: u32)
+    requires { ⌜ HasRecord (now card) m ⌝ }
+    ensures { λ _. ⌜ now (card .exit) ≡ withRecord (now (card .entry)) m x generation ⌝ }
+{
+    save_member(card, m, x);
+    reset_configuration(card, m, generation);
+    zero_holding(card, m);
+}
+
+// It becomes a fresh member's, with the queue count that it has, whatever else it holds.
 pub fn reset_record(card: &mut [u8], m: u64, features: [u8; FEATURES_SIZE], generation: u32)
     requires { ⌜ HasRecord (now card) m ⌝ }
     ensures { λ _. ⌜ now (card .exit) ≡ withFresh (now (card .entry)) m features generation ⌝ }
 {
     let x = load_member(card, m).wiped(features);
-    save_member(card, m, x);
-    reset_configuration(card, m, generation);
-    zero_holding(card, m);
+    write_record(card, m, x, generation);
 }
 
 // The configuration bytes of member m, where they stand.
@@ -243,35 +247,12 @@ pub fn zero_holding(card: &mut [u8], m: u64)
 
 // ---- soundness ----
 
-// The ranges of SPEC 2.1: N 1 to 16, Q 1 to 4, G and S at most 8.
-pub fn in_numbers(members: u64, queues: u64, gets: u64, sets: u64) -> bool
-    ensures { λ r. ⌜ r ≡ inNumbers members queues gets sets ⌝ }
-{
-    if members < 1 {
-        return false;
-    }
-    if MOST_MEMBERS < members {
-        return false;
-    }
-    if queues < 1 {
-        return false;
-    }
-    if 4 < queues {
-        return false;
-    }
-    if 8 < gets {
-        return false;
-    }
-    sets <= 8
-}
-
 fn is_setup_sound(card: &[u8]) -> bool
     requires { ⌜ cardHeaderSize ≤ length (now card) ⌝ }
     ensures { λ r. ⌜ r ≡ soundSetup (setupOf (now (card .entry))) ⌝ }
 {
-    in_numbers(
+    setups::in_ranges(
         wide(card[MEMBERS_AT]),
-        wide(card[QUEUES_AT]),
         wide(card[GETS_AT]),
         wide(card[SETS_AT]),
     )
@@ -284,7 +265,6 @@ fn is_sound_at(card: &[u8], at: usize) -> bool
 {
     member::is_sound_record(
         &card[at..at + MEMBER_SIZE],
-        card[QUEUES_AT],
         card[GETS_AT],
         card[SETS_AT],
         &card[FEATURES_AT..IN_USE_AT],

@@ -28,7 +28,7 @@ use Rattle.objects.proofs.Objects.{objects-back}
 use Rattle.member.specs.declared.Member.{Member}
 use Rattle.member.specs.Record.{modeAt, markAt, queuesAt, objectsAt, heldAt, valuesAt, memberSize, modeByte, objectBytes, memberOf, memberBytes}
 use Rattle.member.specs.Objects.{lookupOf, withObject}
-use Rattle.member.specs.Member.{featuresSize, withMode, withValues, withHeld}
+use Rattle.member.specs.Member.{featuresSize, freshOf, withMode, withValues, withHeld}
 use Rattle.member.proofs.Objects.{lookup-out}
 
 -- its arrays are as long, and its number as low, as its type says
@@ -49,6 +49,10 @@ shaped-held m s held h = record { ids = s .ids; low = h; long = s .long }
 pub shaped-object : (m : Member) → Shaped m → (id : ℕ) (slot : Slot) → Shaped (withObject m id slot)
 unfolding withObject
 shaped-object m s id slot = record { ids = length-set (m .objects) id (record { slot = slot }) ∙ s .ids; low = s .low; long = s .long }
+
+pub fresh-shaped : (queues : ℕ) (features : List ℕ) → length features ≡ featuresSize → Shaped (freshOf queues features)
+unfolding freshOf
+fresh-shaped queues features n = record { ids = refl; low = omega arith; long = rw length-append (omega arith) }
 
 -- ---- a mode and a mark, and their bytes ----
 

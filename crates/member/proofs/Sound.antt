@@ -6,7 +6,7 @@ use mathlib.Core.List.{List, _++_, map}
 use Prim.Native.Nat.{ℕ, zero, suc, _+_, _-_, _≤_, _<_}
 use native.Mathlib.Omega.{arith}
 use lib.Dec.{leb, eqb}
-use lib.ListN.{length, getD, drop, replicate, length-append}
+use lib.ListN.{length, getD, drop, replicate}
 use lib.Seq.{take-at, drop-set-lt, drop-append-add}
 use borrow.Author.Tests.{not-true, not-false, leb-true, le-leb, eqb-true}
 use Rattle.theory.specs.Logic.{_and_, _or_, indicator, within}
@@ -34,7 +34,7 @@ use Rattle.member.specs.Record.{modeAt, markAt, queuesAt, heldAt, values
 use Rattle.member.specs.Objects.{roomIn, withObject}
 use Rattle.member.specs.Member.{featuresSize, freshOf, featuresIn, withMode, withValues, withHeld, handedBack, withPart}
 use Rattle.member.specs.Sound.{soundMark, soundFront, soundRecord}
-use Rattle.member.proofs.Record.{Shaped, mode-low, record-mode, record-mark, record-queues, record-held, record-objects, record-values, values-last, member-shaped, shaped-mode, shaped-values, shaped-held, shaped-object}
+use Rattle.member.proofs.Record.{Shaped, fresh-shaped, mode-low, record-mode, record-mark, record-queues, record-held, record-objects, record-values, values-last, member-shaped, shaped-mode, shaped-values, shaped-held, shaped-object}
 
 -- what a marked member is: stopped, with no holding place and no live object
 pub record Ended (m : Member) : Type 0 where
@@ -126,7 +126,7 @@ module _ (gets sets : ℕ) (features : List ℕ) where
   pub sound-fresh : (queues : ℕ) → within 1 4 queues ≡ true → length features ≡ featuresSize → SoundMember (freshOf queues features)
   unfolding freshOf
   sound-fresh queues k n = record {
-    shaped = record { ids = refl; low = omega arith; long = rw length-append (omega arith) };
+    shaped = fresh-shaped queues features n;
     count = k;
     mark = impossible _;
     few = omega arith;

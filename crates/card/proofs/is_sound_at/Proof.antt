@@ -8,4 +8,4 @@ pub is-sound-at-spec : {M : Type 1} → statement M
 is-sound-at-spec =
     tie.close
     (tie.spec (λ c. search needs) (λ c. search needs) (λ c. search needs) (λ c. search needs) (λ c. search needs) (λ c. search needs) (λ c. search needs)
-    (λ c. search needs) (λ c. search needs) (λ c. search needs) (λ c κs. search (needs, place-long)) (λ c. search (needs, place-tested)))
+    (λ c. search needs) (λ c. search needs) (λ c κs. search (needs, place-long)) (λ c. search (needs, place-tested)))

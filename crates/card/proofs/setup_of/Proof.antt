@@ -1,4 +1,4 @@
--- `card::setup_of` meets its contract: four bytes and a copy are the setup. Assumes nothing.
+-- `card::setup_of` meets its contract: three bytes and a copy are the setup. Assumes nothing.
 use borrow.Author.Needs.{needs}
 use Rattle.card.proofs.ReadLaws.{setup-copied}
 use Rattle.card.proofs.setup_of.Statement.{statement}
@@ -8,4 +8,4 @@ pub setup-of-spec : {M : Type 1} → statement M
 setup-of-spec =
     tie.close
     (tie.spec (λ c. search needs) (λ c. search needs) (λ c. search needs) (λ c. search needs) (λ c κs. search needs)
-    (λ c. search needs) (λ c. search needs) (λ c. search needs) (λ c. search needs) (λ c. search (needs, setup-copied)))
+    (λ c. search needs) (λ c. search needs) (λ c. search needs) (λ c. search (needs, setup-copied)))

@@ -1,0 +1,91 @@
+-- The laws of the members' queue counts: what is read after something was written, and the counts of all members. Assumes
+-- nothing.
+use mathlib.Core.Path.{_≡_, refl, ap, sym, _∙_}
+use mathlib.Core.Logic.{_≢_}
+use mathlib.Core.Bool.{true}
+use mathlib.Core.List.{List, _∷_}
+use Prim.Native.Nat.{ℕ, zero, suc, _+_, _-_, _≤_, _<_}
+use native.Mathlib.Omega.{arith}
+use borrow.Author.Tests.{eqb-true, eqb-false, eq-eqb}
+use lib.Dec.{eqb}
+use lib.ListN.{length, take, length-take}
+use lib.Seq.{getD-take}
+use Rattle.theory.proofs.Tests.{by-cases, and-i, inside}
+use Rattle.member.specs.declared.Member.{Member}
+use Rattle.member.specs.Record.{queuesAt, memberSize, memberOf, memberBytes}
+use Rattle.setups.specs.Setup.{all, isCount, inNumbers}
+use Rattle.card.specs.Layout.{memberBytesAt, configurationAt, recordSize, cardSize, setupOf, withInUse, isMember, recordAt, HasRecord, recordBytes, withRecordBytes, memberIn, withMember, countsFrom, countsOf}
+use Rattle.card.specs.Sound.{soundSetup}
+use Rattle.card.proofs.LayoutLaws.{bytes-other, bytes-behind, bytes-with-use, member-other}
+use Rattle.card.proofs.MarkLaws.{byte-put}
+use Rattle.card.proofs.SoundLaws.{Sound, numbers-sound, sound-member-in}
+
+-- ---- one member's ----
+
+-- a member that is put has the count that it says
+pub count-put : (c : List ℕ) (m : ℕ) (x : Member) → HasRecord c m → memberIn (withMember c m x) m .queues ≡ x .queues
+unfolding memberIn memberOf withMember recordBytes withRecordBytes memberBytes
+count-put c m x h =
+    let n = length-take memberSize (memberBytes x) in
+    byte-put (recordAt m + memberBytesAt) memberSize queuesAt (take memberSize (memberBytes x)) c (omega arith) (omega arith) (omega (arith, h .high))
+    ∙ getD-take memberSize (memberBytes x) queuesAt 0 (omega arith)
+
+module _ (c : List ℕ) (m at n : ℕ) (x : List ℕ) (i : at + n ≤ recordSize) (l : 1 ≤ m) (k : ℕ) (h : 1 ≤ k) where
+  -- no other record's bytes count
+  pub count-other : k ≢ m → memberIn (withRecordBytes c m at n x) k .queues ≡ memberIn c k .queues
+  unfolding memberIn
+  count-other e = ap (λ b. memberOf b .queues) (bytes-other c m at n x i l k memberBytesAt memberSize (omega arith) h e)
+
+  -- nor do those behind a member's
+  pub count-behind : configurationAt ≤ at → memberIn (withRecordBytes c m at n x) k .queues ≡ memberIn c k .queues
+  unfolding memberIn
+  count-behind b = ap (λ r. memberOf r .queues) (bytes-behind c m at n x i l b k h)
+
+pub count-with-use : (c : List ℕ) (mask k : ℕ) → memberIn (withInUse c mask) k .queues ≡ memberIn c k .queues
+unfolding memberIn
+count-with-use c mask k = ap (λ r. memberOf r .queues) (bytes-with-use c mask k memberBytesAt memberSize)
+
+-- a member that is put with the count that was there
+pub count-with-member : (c : List ℕ) (m : ℕ) (x : Member) → HasRecord c m → x .queues ≡ memberIn c m .queues → (k : ℕ) → 1 ≤ k
+    → memberIn (withMember c m x) k .queues ≡ memberIn c k .queues
+count-with-member c m x h q k l =
+    by-cases (eqb k m)
+    (λ e. rw (eqb-true k m e) (count-put c m x h ∙ q))
+    (λ e. ap (λ (y : Member). y .queues) (member-other c m x k (h .low) l (eqb-false k m e)))
+
+-- ---- those of all members ----
+
+pub counts-long : (c : List ℕ) (m n : ℕ) → length (countsFrom c m n) ≡ n
+unfolding countsFrom
+counts-long c m zero = refl
+counts-long c m (suc n) = ap suc (counts-long c (suc m) n)
+
+-- two cards that have the same counts there
+pub counts-alike : (c d : List ℕ) (m n : ℕ) → ((k : ℕ) → m ≤ k → k < m + n → memberIn d k .queues ≡ memberIn c k .queues) → countsFrom d m n ≡ countsFrom c m n
+unfolding countsFrom
+counts-alike c d m zero f = refl
+counts-alike c d m (suc n) f =
+    rw (f m (omega arith) (omega arith), counts-alike c d (suc m) n (λ k l h. f k (omega arith) (omega arith)))
+
+pub counts-same : (c d : List ℕ) → setupOf d ≡ setupOf c → ((k : ℕ) → isMember c k ≡ true → memberIn d k .queues ≡ memberIn c k .queues)
+    → countsOf d ≡ countsOf c
+unfolding countsOf
+counts-same c d e f = rw e (counts-alike c d 1 (setupOf c .members) (λ k l h. f k (inside 1 _ k l (omega arith))))
+
+-- the first of those that are left
+pub counts-step : (c : List ℕ) (m n i : ℕ) → i < n → countsFrom c m (n - i) ≡ memberIn c m .queues ∷ countsFrom c (suc m) (n - (i + 1))
+unfolding countsFrom
+counts-step c m n i h = let e : n - i ≡ suc (n - (i + 1)) = omega arith in rw e
+
+-- those of a sound card are good
+module _ (c : List ℕ) (s : Sound c) where
+  counts-good : (m n : ℕ) → 1 ≤ m → m + n ≤ 1 + setupOf c .members → all isCount (countsFrom c m n) ≡ true
+  unfolding countsFrom all
+  counts-good m zero l h = refl
+  counts-good m (suc n) l h =
+      and-i _ _ (sound-member-in c s m (inside 1 _ m l (omega arith)) .count) (counts-good (suc m) n (omega arith) (omega arith))
+
+  pub counts-numbers : inNumbers (setupOf c .members) (countsOf c) (setupOf c .gets) (setupOf c .sets) ≡ true
+  unfolding inNumbers countsOf soundSetup
+  counts-numbers =
+      and-i _ _ (and-i _ _ (numbers-sound _ (s .numbers)) (eq-eqb _ _ (counts-long c 1 (setupOf c .members)))) (counts-good 1 _ (omega arith) (omega arith))
