@@ -38,16 +38,16 @@ Left = ℕ × (List ℕ × List ℕ)
 -- ---- members ----
 
 -- bs are the member's bytes, where they stand in the card
-pub read-told : (c r l l′ : List ℕ) (m n : ℕ) (s : Setup) (bs list values : List ℕ) (op : ReadOp) (y : Reading)
-    → s ≡ setupOf c → bs ≡ memberBytesIn c m → list ≡ askedList r → y ≡ readOf (s .queues) list op (memberOf bs) → values ≡ memberOf bs .values
-    → (n, l′) ≡ written (replied (y .answer) (resultOf (s .queues) list values (y .body)) (length l)) l
+pub read-told : (c r l l′ : List ℕ) (m n q : ℕ) (bs list values : List ℕ) (op : ReadOp) (y : Reading)
+    → bs ≡ memberBytesIn c m → list ≡ askedList r → y ≡ readOf list op (memberOf bs) → q ≡ memberOf bs .queues → values ≡ memberOf bs .values
+    → (n, l′) ≡ written (replied (y .answer) (resultOf q list values (y .body)) (length l)) l
     → (n, (c, l′)) ≡ delivered (conclude c (length l) (perform c r (Read m op))) l
 unfolding perform memberIn
-read-told c r l l′ m n s bs list values op y e f g h v k = kept c _ _ l l′ n (k ∙ rw (h, v, g, e, f))
+read-told c r l l′ m n q bs list values op y f g h u v k = kept c _ _ l l′ n (k ∙ rw (h, u, v, g, f))
 
 module _ (c r l l′ : List ℕ) (m n : ℕ) (s : Setup) (x : Member) (list : List ℕ) (e : s ≡ setupOf c) (f : x ≡ memberIn c m) where
   module _ (op : ChangeOp) (y : Changed) (g : list ≡ givenList r)
-      (h : y ≡ changeOf (s .queues) (s .gets) (s .sets) list op x)
+      (h : y ≡ changeOf (s .gets) (s .sets) list op x)
       (k : (n, l′) ≡ written (replyOf (y .answer) []) l) (room : headSize ≤ length l) (b : Bool) (said : b ≡ isDone (y .answer)) where
     pub change-refused : not b ≡ true → (n, (c, l′)) ≡ delivered (conclude c (length l) (perform c r (Change m op))) l
     unfolding perform

@@ -29,7 +29,7 @@ perform-mark c s r k (UseList mask) f = mark-with-use c mask k
 perform-mark c s r k (Read m op) f = refl
 perform-mark c s r k (Change m op) f =
     mark-with-member c m _ (sound-has c s m (named-here c r m (f .0)))
-    (change-marked (setupOf c .queues) (setupOf c .gets) (setupOf c .sets) _ op (memberIn c m)) k
+    (change-marked (setupOf c .gets) (setupOf c .sets) _ op (memberIn c m)) k
 
 pub respond-mark : (c r : List ℕ) (room k : ℕ) → isMarked (respond c r room .0) k ≡ isMarked c k
 respond-mark c r room k =

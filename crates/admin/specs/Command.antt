@@ -38,7 +38,7 @@ abbrev pub effect : Answer → List ℕ → List ℕ → Effect
 effect a c x = record { outcome = a; card = c; result = x }
 
 abbrev pub reading : List ℕ → List ℕ → Member → Reading → Effect
-reading c list m x = effect (x .answer) c (resultOf (setupOf c .queues) list (m .values) (x .body))
+reading c list m x = effect (x .answer) c (resultOf (m .queues) list (m .values) (x .body))
 
 abbrev pub changing : List ℕ → ℕ → Changed → Effect
 changing c m x = effect (x .answer) (withMember c m (x .member)) []
@@ -49,9 +49,9 @@ perform c r (Refused a) = effect a c []
 perform c r QueryList = effect Done c (bytes 8 supportedMask)
 perform c r (UseList mask) = effect Done (withInUse c mask) []
 perform c r (Read m op) =
-    reading c (askedList r) (memberIn c m) (readOf (setupOf c .queues) (askedList r) op (memberIn c m))
+    reading c (askedList r) (memberIn c m) (readOf (askedList r) op (memberIn c m))
 perform c r (Change m op) =
-    changing c m (changeOf (setupOf c .queues) (setupOf c .gets) (setupOf c .sets) (givenList r) op (memberIn c m))
+    changing c m (changeOf (setupOf c .gets) (setupOf c .sets) (givenList r) op (memberIn c m))
 
 -- steps 11 and 12: the card after, which a refusal leaves as it was, and the reply
 unfoldable pub conclude : List ℕ → ℕ → Effect → List ℕ × List ℕ

@@ -39,13 +39,12 @@ fn read_member(card: &[u8], m: u64, op: ReadOp, request: &[u8], reply: &mut [u8]
     requires { ⌜ (isSound (now card) ≡ true) × (isMember (now card) m ≡ true) × (headSize ≤ length (now reply)) ⌝ }
     ensures { λ r. ⌜ (r, (now (card .entry), now (reply .exit))) ≡ delivered (conclude (now (card .entry)) (length (now (reply .entry))) (perform (now (card .entry)) (now (request .entry)) (Ask.Read m op))) (now (reply .entry)) ⌝ }
 {
-    let s = card::setup_of(card);
-    let queues = s.queues;
     let bytes = card::member_bytes(card, m);
     let list = from(request, frame::ASKED_AT);
-    let reading = reads::read(bytes, op, queues, list);
+    let reading = reads::read(bytes, op, list);
     let answer = reading.answer;
     let body = reading.body;
+    let queues = member::queues_of(bytes);
     let values = member::values_of(bytes);
     reply::write_reading(answer, body, queues, list, values, reply)
 }
@@ -60,7 +59,6 @@ fn change_member(card: &mut [u8], m: u64, op: ChangeOp, request: &[u8], reply: &
     let outcome = changes::change(
         before,
         op,
-        s.queues,
         s.gets,
         s.sets,
         from(request, frame::GIVEN_AT),

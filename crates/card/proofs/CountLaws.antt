@@ -73,9 +73,12 @@ unfolding countsOf
 counts-same c d e f = rw e (counts-alike c d 1 (setupOf c .members) (λ k l h. f k (inside 1 _ k l (omega arith))))
 
 -- the first of those that are left
-pub counts-step : (c : List ℕ) (m n i : ℕ) → i < n → countsFrom c m (n - i) ≡ memberIn c m .queues ∷ countsFrom c (suc m) (n - (i + 1))
+pub counts-step : (c : List ℕ) (m n i : ℕ) → i < n → countsFrom c m (n - i) ≡ memberIn c m .queues ∷ countsFrom c (m + 1) (n - (i + 1))
 unfolding countsFrom
-counts-step c m n i h = let e : n - i ≡ suc (n - (i + 1)) = omega arith in rw e
+counts-step c m n i h =
+    let e : n - i ≡ suc (n - (i + 1)) = omega arith in
+    let k : m + 1 ≡ suc m = omega arith in
+    rw (e, k)
 
 -- those of a sound card are good
 module _ (c : List ℕ) (s : Sound c) where

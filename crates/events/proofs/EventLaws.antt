@@ -1,13 +1,15 @@
 -- Setup, hand back, wipe, card reset and card store: what the code does, at each return. Assumes nothing.
 use mathlib.Core.Path.{_≡_, refl, ap, sym, _∙_}
+use mathlib.Core.Logic.{_≢_}
 use mathlib.Core.Bool.{Bool, true, false, not}
 use mathlib.Core.List.{List}
-use Prim.Native.Nat.{ℕ, _≤_}
+use Prim.Native.Nat.{ℕ, _-_, _≤_}
+use native.Mathlib.Nat.{sub-zero}
 use native.Mathlib.Omega.{arith}
 use borrow.Author.Needs.{needs}
-use borrow.Author.Tests.{not-true, not-false, eqb-true}
+use borrow.Author.Tests.{not-true, not-false, eqb-true, eq-eqb, ne-eqb}
 use lib.Dec.{eqb}
-use lib.ListN.{length, replicate}
+use lib.ListN.{length, take, drop, replicate}
 use Rattle.theory.specs.Logic.{if_then_else_, unless_answer_then_, _and_}
 use Rattle.theory.specs.Bytes.{put}
 use Rattle.theory.proofs.Tests.{both}
@@ -21,11 +23,19 @@ use Rattle.values.specs.Apply.{storable}
 use Rattle.member.specs.declared.Member.{Member}
 use Rattle.member.specs.Member.{featuresSize, handedBack, withPart}
 use Rattle.card.specs.declared.Setup.{Setup}
-use Rattle.card.specs.Layout.{cardHeaderSize, cardSize, cardBytes, setupOf, isMember, HasRecord, memberIn, withMember, isMarked, withHolding, noBytes, withFresh, freshCard}
-use Rattle.card.specs.Sound.{inNumbers, soundSetup, isSound}
-use Rattle.events.specs.Events.{InBounds, setupWith, setUp, memberAnswer, ifDone, onMember, withHandedBack, storeIn}
+use Rattle.card.specs.Layout.{cardHeaderSize, cardSize, cardBytes, setupOf, isMember, HasRecord, memberIn, withMember, isMarked, withHolding, noBytes, withFresh, countsFrom, countsOf, freshCard}
+use Rattle.card.specs.Sound.{isSound}
+use Rattle.setups.specs.declared.Setup as setups
+use Rattle.setups.specs.declared.ReadOutcome.{ReadOutcome}
+use Rattle.setups.specs.declared.ReadAnswer.{ReadAnswer}
+use Rattle.setups.specs.declared.ReadAnswer.the-variants as reading
+use Rattle.setups.specs.Setup.{mostMembers, inRanges, inNumbers, InNumbers}
+use Rattle.setups.specs.Reading.{readNumber, readSetup}
+use Rattle.setups.proofs.Ranges.{numbers-in}
+use Rattle.setups.proofs.Claims.{claims}
+use Rattle.events.specs.Events.{InBounds, setupWith, refusedSetup, setUp, setUpOf, setUpFrom, memberAnswer, ifDone, onMember, withHandedBack, storeIn}
 use Rattle.card.proofs.LayoutLaws.{has-header}
-use Rattle.card.proofs.SoundLaws.{numbers-of, sound-of, sound-long, sound-has}
+use Rattle.card.proofs.SoundLaws.{sound-of, sound-long, sound-has}
 
 -- two tests, of which the first that fails gives the answer
 both-passed : (s m : Bool) → isEventDone (unless s answer NotSound then unless m answer NoMember then Done) ≡ true → (s ≡ true) × (m ≡ true)
@@ -78,40 +88,69 @@ pub ruleset told = (needs, told-long, told-size, member-record, member-long, mem
 
 -- ---- setup ----
 
-pub bytes-tested : (n q g s b r : ℕ) (t : Bool) → not t ≡ false → t ≡ inNumbers n q g s → r ≡ cardBytes n → eqb b r ≡ eqb b (cardSize n)
-unfolding cardBytes if_then_else_ inNumbers
+pub bytes-tested : (n : ℕ) (q : List ℕ) (g s b r : ℕ) (t : Bool) → not t ≡ false → t ≡ inNumbers n q g s → r ≡ cardBytes n → eqb b r ≡ eqb b (cardSize n)
+unfolding cardBytes if_then_else_ inNumbers inRanges
 bytes-tested n q g s b r t h e f =
-    let w = both _ _ (both _ _ (both _ _ (sym e ∙ not-false t h) .0) .0) .0 in
+    let w = both _ _ (both _ _ (both _ _ (both _ _ (sym e ∙ not-false t h) .0) .0) .0) .0 in
     rw (f, w)
 
 -- the features were copied into l
-pub setup-made : (n q g s : ℕ) (f l own : List ℕ) → length f ≡ featuresSize → length l ≡ featuresSize → own ≡ put 0 f l → setupWith n q g s own ≡ setupWith n q g s f
-setup-made n q g s f l own h k e = rw (e, put-all f l (h ∙ sym k))
+pub setup-made : (n g s : ℕ) (f l own : List ℕ) → length f ≡ featuresSize → length l ≡ featuresSize → own ≡ put 0 f l → setupWith n g s own ≡ setupWith n g s f
+setup-made n g s f l own h k e = rw (e, put-all f l (h ∙ sym k))
 
-module _ (n q g s : ℕ) (f c : List ℕ) (t : Bool) (e : t ≡ inNumbers n q g s and eqb (length f) featuresSize and eqb (length c) (cardSize n)) where
+module _ (n : ℕ) (q : List ℕ) (g s : ℕ) (f c : List ℕ) (t : Bool) (e : t ≡ inNumbers n q g s and eqb (length f) featuresSize and eqb (length c) (cardSize n)) where
   pub setup-refused : not t ≡ true → (d : List ℕ) → d ≡ replicate (length c) 0 → (BadSetup, d) ≡ setUp c n q g s f
-  unfolding setUp
+  unfolding setUp refusedSetup
   setup-refused h d r = stop _ _ _ _ (sym e ∙ not-true t h) (ap (λ l. (BadSetup, l)) r)
 
   module _ (h : not t ≡ false) where
     passed : inNumbers n q g s and eqb (length f) featuresSize and eqb (length c) (cardSize n) ≡ true
     passed = sym e ∙ not-false t h
 
-    pub setup-bounds : InBounds n q g s
-    unfolding soundSetup
-    setup-bounds =
-        let b = numbers-of (setupWith n q g s f) (both _ _ (both _ _ passed .0) .0) in
-        record { fewMembers = b .fewMembers; fewQueues = b .fewQueues; fewGets = b .fewGets; fewSets = b .fewSets }
+    numbers : InNumbers n q g s
+    numbers = numbers-in n q g s (both _ _ (both _ _ passed .0) .0)
+
+    pub setup-bounds : InBounds n g s
+    setup-bounds = record { fewMembers = numbers .few; fewGets = numbers .fewGets; fewSets = numbers .fewSets }
 
     pub setup-sixteen : length f ≡ featuresSize
     setup-sixteen = eqb-true _ _ (both _ _ (both _ _ passed .0) .1)
 
-    pub setup-long : (x : Setup) → x ≡ setupWith n q g s f → length c ≡ cardSize (x .members)
-    setup-long x r = rw r (eqb-true _ _ (both _ _ passed .1))
+    pub setup-long : length c ≡ cardSize (length q)
+    setup-long = eqb-true _ _ (both _ _ passed .1) ∙ ap cardSize (sym (numbers .each))
 
-    pub setup-done : (x : Setup) (d : List ℕ) → x ≡ setupWith n q g s f → d ≡ freshCard x 0 → (Done, d) ≡ setUp c n q g s f
+    pub setup-done : (x : Setup) (d : List ℕ) → x ≡ setupWith n g s f → d ≡ freshCard x q 0 → (Done, d) ≡ setUp c n q g s f
     unfolding setUp
     setup-done x d r p = pass _ _ _ _ passed (ap (λ l. (Done, l)) (p ∙ rw r))
+
+-- a setup by value, of which the counts of its members are lent
+pub set-up-by : (c d : List ℕ) (x : setups.Setup) (a : EventAnswer) → (a, d) ≡ setUp c (x .members) (take (x .members - 0) (drop 0 (x .queues))) (x .gets) (x .sets) (x .features)
+    → (a, d) ≡ setUpOf c x
+unfolding setUpOf
+set-up-by c d x a e = e ∙ rw sub-zero
+
+-- a setup that was read has at most 16 members
+read-few : (l : List ℕ) → readSetup l .answer ≡ reading.Done → readSetup l .setup .members ≤ mostMembers
+read-few l e = numbers-in _ _ _ _ (claims .inRange l e .numbers) .few
+
+number-done : (a : ReadAnswer) → readNumber a ≡ 0 → a ≡ reading.Done
+number-done reading.Done e = refl
+number-done reading.Version2 e = absurd (omega arith)
+number-done reading.Refused e = absurd (omega arith)
+
+-- a packed setup was read as o, and its answer has the number r
+module _ (c l : List ℕ) (o : ReadOutcome) (r : ℕ) (e : o ≡ readSetup l) (n : r ≡ readNumber (o .answer)) where
+  pub packed-refused : r ≢ 0 → (d : List ℕ) → d ≡ replicate (length c) 0 → (BadSetup, d) ≡ setUpFrom c l
+  unfolding setUpFrom refusedSetup
+  packed-refused h d p = stop _ _ _ _ (rw (← e, ← n) (ne-eqb r 0 h)) (ap (λ x. (BadSetup, x)) p)
+
+  module _ (h : r ≡ 0) where
+    pub packed-few : o .setup .members ≤ mostMembers
+    packed-few = rw e (read-few l (rw (← e) (number-done (o .answer) (sym n ∙ h))))
+
+    pub packed-done : (a : EventAnswer) (d : List ℕ) → (a, d) ≡ setUpOf c (o .setup) → (a, d) ≡ setUpFrom c l
+    unfolding setUpFrom
+    packed-done a d p = pass _ _ _ _ (rw (← e, ← n) (eq-eqb r 0 h)) (p ∙ rw e)
 
 -- ---- events ----
 
@@ -137,21 +176,25 @@ pub member-ended : (c d r : List ℕ) (m : ℕ) (x y : Member) → y ≡ memberI
 unfolding withHandedBack
 member-ended c d r m x y p q e f = f ∙ rw (e, q, p)
 
-pub card-reset : (c d : List ℕ) (g : ℕ) (s : Setup) → s ≡ setupOf c → d ≡ freshCard s g
-    → _≡_ {A = EventAnswer × List ℕ} (Done, d) (Done, freshCard (setupOf c) g)
+pub card-reset : (c d : List ℕ) (g : ℕ) (s : Setup) → s ≡ setupOf c → d ≡ freshCard s (countsFrom c 1 (s .members)) g
+    → _≡_ {A = EventAnswer × List ℕ} (Done, d) (Done, freshCard (setupOf c) (countsOf c) g)
+unfolding countsOf
 card-reset c d g s e f = rw (f, e)
 
--- a card store: a is its answer, u whether it is done
-module _ (c : List ℕ) (m t s : ℕ) (value : List ℕ) (w : Setup) (a : EventAnswer) (u : Bool)
-    (g : w ≡ setupOf c) (e : a ≡ storable (w .queues) t s value) (f : u ≡ isEventDone a) where
+-- a card store: x is the member, a the answer, u whether it is done
+module _ (c : List ℕ) (m t s : ℕ) (value : List ℕ) (x : Member) (a : EventAnswer) (u : Bool)
+    (g : x ≡ memberIn c m) (e : a ≡ storable (x .queues) t s value) (f : u ≡ isEventDone a) where
+  is-answer : storable (memberIn c m .queues) t s value ≡ a
+  is-answer = ap (λ (y : Member). storable (y .queues) t s value) (sym g) ∙ sym e
+
   pub store-refused : not u ≡ true → (a, c) ≡ storeIn c m t s value
   unfolding storeIn ifDone
-  store-refused n = rw (← g, ← e) (stop _ _ _ _ (sym f ∙ not-true u n) refl)
+  store-refused n = rw is-answer (stop _ _ _ _ (sym f ∙ not-true u n) refl)
 
-  pub stored-in : (x y : Member) (d : List ℕ) → not u ≡ false → x ≡ memberIn c m → y ≡ withPart (w .queues) x t s value → d ≡ withMember c m y
+  pub stored-in : (y : Member) (d : List ℕ) → not u ≡ false → y ≡ withPart x t s value → d ≡ withMember c m y
       → (Done, d) ≡ storeIn c m t s value
   unfolding storeIn ifDone
-  stored-in x y d n p q r = rw (← g, ← e) (pass _ _ _ _ (sym f ∙ not-false u n) (rw (r, q, p)))
+  stored-in y d n q r = rw is-answer (pass _ _ _ _ (sym f ∙ not-false u n) (rw (r, q, g)))
 
 pub store-done : (c d : List ℕ) (m t s k : ℕ) (value : List ℕ) (a : EventAnswer) → k ≡ selectorOf t s → (a, d) ≡ storeIn c m t k value
     → (a, d) ≡ storeIn c m t (selectorOf t s) value

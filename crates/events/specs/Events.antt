@@ -4,7 +4,7 @@ use mathlib.Core.Bool.{not}
 use mathlib.Core.List.{List}
 use Prim.Native.Nat.{ℕ, _≤_}
 use lib.Dec.{eqb}
-use lib.ListN.{length, replicate}
+use lib.ListN.{length, take, replicate}
 use Rattle.theory.specs.Logic.{unless_answer_then_, _and_}
 use Rattle.protocol.specs.declared.EventAnswer.{EventAnswer}
 use Rattle.protocol.specs.declared.EventAnswer.the-variants.{Done, NotSound, NoMember, BadSetup, WrongMark}
@@ -13,27 +13,40 @@ use Rattle.inventory.specs.Inventory.{selectorOf}
 use Rattle.values.specs.Apply.{storable}
 use Rattle.member.specs.Member.{featuresSize, handedBack, withPart}
 use Rattle.card.specs.declared.Setup.{Setup}
-use Rattle.card.specs.Layout.{cardSize, setupOf, isMember, memberIn, withMember, isMarked, withHolding, noBytes, withFresh, freshCard}
-use Rattle.card.specs.Sound.{inNumbers, isSound}
+use Rattle.setups.specs.declared.Setup as setups
+use Rattle.card.specs.Layout.{cardSize, setupOf, isMember, memberIn, withMember, countsOf, isMarked, withHolding, noBytes, withFresh, freshCard}
+use Rattle.card.specs.Sound.{isSound}
+use Rattle.setups.specs.Setup.{inNumbers}
+use Rattle.setups.specs.Reading.{readNumber, readSetup}
 
-abbrev pub setupWith : ℕ → ℕ → ℕ → ℕ → List ℕ → Setup
-setupWith members queues gets sets features =
-    record { members = members; queues = queues; gets = gets; sets = sets; features = features }
+abbrev pub setupWith : ℕ → ℕ → ℕ → List ℕ → Setup
+setupWith members gets sets features = record { members = members; gets = gets; sets = sets; features = features }
 
 -- numbers that fit a setup's bytes
-pub record InBounds (members queues gets sets : ℕ) : Type 0 where
+pub record InBounds (members gets sets : ℕ) : Type 0 where
   pub fewMembers : members ≤ 16
-  pub fewQueues : queues ≤ 4
   pub fewGets : gets ≤ 8
   pub fewSets : sets ≤ 8
 
--- setup, SPEC 7.2: c is the buffer, of which the length alone counts; refused, it becomes zeros. A new card starts from
--- generation 0 (02, request 3)
-unfoldable pub setUp : List ℕ → ℕ → ℕ → ℕ → ℕ → List ℕ → EventAnswer × List ℕ
+-- setup, SPEC 7.2: c is the buffer, of which the length alone counts; refused, it becomes zeros. There is one queue count for
+-- each member (02, request 9), and a new card starts from generation 0 (02, request 3)
+unfoldable pub refusedSetup : List ℕ → EventAnswer × List ℕ
+refusedSetup c = (BadSetup, replicate (length c) 0)
+
+unfoldable pub setUp : List ℕ → ℕ → List ℕ → ℕ → ℕ → List ℕ → EventAnswer × List ℕ
 setUp c members queues gets sets features =
     unless inNumbers members queues gets sets and eqb (length features) featuresSize and eqb (length c) (cardSize members)
-    answer (BadSetup, replicate (length c) 0) then
-    (Done, freshCard (setupWith members queues gets sets features) 0)
+    answer refusedSetup c then
+    (Done, freshCard (setupWith members gets sets features) queues 0)
+
+-- setup of the bytes of a packed setup of either version (02, request 9): what setup does with the setup that they hold
+unfoldable pub setUpOf : List ℕ → setups.Setup → EventAnswer × List ℕ
+setUpOf c s = setUp c (s .members) (take (s .members) (s .queues)) (s .gets) (s .sets) (s .features)
+
+unfoldable pub setUpFrom : List ℕ → List ℕ → EventAnswer × List ℕ
+setUpFrom c l =
+    unless eqb (readNumber (readSetup l .answer)) 0 answer refusedSetup c then
+    setUpOf c (readSetup l .setup)
 
 -- an event for one member: refused on a card that is not sound, and for a member that it has not got
 unfoldable pub memberAnswer : List ℕ → ℕ → EventAnswer
@@ -60,7 +73,8 @@ handBack c m =
     unless not (isMarked c m) answer (WrongMark, c) then
     (Done, withHandedBack c m))
 
--- wipe (02's term): a marked member becomes fresh, with the generation given (02, request 3), and nothing else changes
+-- wipe (02's term): a marked member becomes fresh, with its queue count and the generation given (02, request 3), and nothing
+-- else changes
 unfoldable pub wipe : List ℕ → ℕ → ℕ → EventAnswer × List ℕ
 wipe c m generation =
     onMember c m (
@@ -71,18 +85,18 @@ wipe c m generation =
 unfoldable pub resetMember : List ℕ → ℕ → ℕ → EventAnswer × List ℕ
 resetMember c m generation = onMember c m (Done, withFresh c m (setupOf c .features) generation)
 
--- card reset, SPEC 7.4: one generation for all members
+-- card reset, SPEC 7.4: one generation for all members, and each keeps its queue count (02, request 9)
 unfoldable pub resetCard : List ℕ → ℕ → EventAnswer × List ℕ
 resetCard c generation =
     unless isSound c answer (NotSound, c) then
-    (Done, freshCard (setupOf c) generation)
+    (Done, freshCard (setupOf c) (countsOf c) generation)
 
 -- a card store (01's term), SPEC 7.5: the data path sets one part of one member, in either mode; s is the selector, to
 -- `store` the 8 selector bytes as a number
 unfoldable pub storeIn : List ℕ → ℕ → ℕ → ℕ → List ℕ → EventAnswer × List ℕ
 storeIn c m t s value =
-    ifDone (storable (setupOf c .queues) t s value)
-    (Done, withMember c m (withPart (setupOf c .queues) (memberIn c m) t s value)) c
+    ifDone (storable (memberIn c m .queues) t s value)
+    (Done, withMember c m (withPart (memberIn c m) t s value)) c
 
 unfoldable pub store : List ℕ → ℕ → ℕ → ℕ → List ℕ → EventAnswer × List ℕ
 store c m t s value = onMember c m (storeIn c m t (selectorOf t s) value)

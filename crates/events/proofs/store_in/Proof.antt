@@ -8,5 +8,5 @@ pub store-in-spec : {M : Type 1} → statement M
 store-in-spec =
     tie.close
     (tie.spec (λ c κs. search needs) (λ c κs. search needs) (λ c κs. search needs) (λ c. search needs)
-    (λ c. search (needs, store-refused)) (λ c κs. search needs) (λ c κs. search needs)
-    (λ c κs. search needs) (λ c. search needs) (λ c. search (needs, stored-in)))
+    (λ c. search (needs, store-refused)) (λ c κs. search needs) (λ c κs. search needs) (λ c. search needs)
+    (λ c. search (needs, stored-in)))

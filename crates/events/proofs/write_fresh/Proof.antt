@@ -13,5 +13,5 @@ features-long s = search needs
 pub write-fresh-spec : {M : Type 1} → statement M
 write-fresh-spec =
     tie.close
-    (tie.spec (λ c κs. search needs) (λ c. search needs) (λ c κs. search needs) (λ c. search needs)
+    (tie.spec (λ c κs. search needs) (λ c κs. search needs) (λ c. search needs)
     (λ c. search (needs, features-long, fresh-written)))
