@@ -34,7 +34,7 @@ unfoldable pub partsSetOf : List ℕ → ℕ → ℕ → List ℕ → Answer × 
 partsSetOf c m id list =
     unless bit (inUseOf c) 0x10 answer (BadOpcode, c) then  -- 4: not in use
     unless ltb id (setupOf c .gets + setupOf c .sets) answer (BadField, c) then  -- 7: id not valid
-    settled c m (changeOf (setupOf c .queues) (setupOf c .gets) (setupOf c .sets) list (SetParts id) (memberIn c m))  -- 8 to 10
+    settled c m (changeOf (setupOf c .gets) (setupOf c .sets) list (SetParts id) (memberIn c m))  -- 8 to 10
 
 module _ (c : List ℕ) (m : ℕ) (e : isSound c ≡ true) (here : isMember c m ≡ true) (u : isMarked c m ≡ false) (room : ℕ) (h : headSize ≤ room) where
   -- a reply with no result fits

@@ -64,7 +64,7 @@ module _ (c : List ℕ) (m : ℕ) (e : isSound c ≡ true) (h : isMember c m ≡
 
   module _ (n : ℕ) (few : n ≤ 1 + holdingSize) where
     member-sound : SoundIn c (withHeld (memberIn c m) n)
-    member-sound = sound-held _ _ _ _ (memberIn c m) sound-there unmarked n few
+    member-sound = sound-held _ _ _ (memberIn c m) sound-there unmarked n few
 
     pub number-sound : Sound (withMember c m (withHeld (memberIn c m) n))
     number-sound = sound-with-member c m _ (facts c m e h) (low c m e h) member-sound
@@ -94,7 +94,7 @@ module _ (c : List ℕ) (m : ℕ) (e : isSound c ≡ true) (h : isMember c m ≡
           → withHeldBytes (withHeldBytes c m n x) m k y ≡ withHeldBytes c m k y
       unfolding withHeldBytes
       held-over k y i l =
-          let s = sound-held _ _ _ _ (memberIn c m) sound-there unmarked k i in
+          let s = sound-held _ _ _ (memberIn c m) sound-there unmarked k i in
           ap (λ (z : Member). withHolding (withMember (withHeldBytes c m n x) m (withHeld z k)) m y) held-number
           ∙ ap (λ d. withHolding d m y) (holding-swap _ m x (withHeld (memberIn c m) k) ∙ ap (λ d. withHolding d m x) (member-over c m _ _ (s .shaped)))
           ∙ holding-over _ m x y l

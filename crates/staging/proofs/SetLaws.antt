@@ -71,7 +71,7 @@ module _ (c : List ℕ) (m : ℕ) (e : isSound c ≡ true) (h : isMember c m ≡
   gone-with : (y : Member) → SoundIn c y → y .marked ≡ false → withoutHeld (withMember c m y) m ≡ withHolding (withMember c m (withHeld y 0)) m noBytes
   unfolding withoutHeld withHeldBytes
   gone-with y f n =
-      let g = sound-held _ _ _ _ y f n 0 (omega arith) in
+      let g = sound-held _ _ _ y f n 0 (omega arith) in
       rw (member-same c m y (sound-has c s m h) (f .shaped))
       (ap (λ d. withHolding d m noBytes) (member-over c m y (withHeld y 0) (g .shaped)))
 
@@ -91,12 +91,12 @@ module _ (c : List ℕ) (m : ℕ) (e : isSound c ≡ true) (h : isMember c m ≡
         by-cases (bit (inUseOf c) 0x10)
         (λ u. rw u (by-cases (ltb id (setupOf c .gets + setupOf c .sets))
         (λ v. rw v
-        (let y = changeOf (setupOf c .queues) (setupOf c .gets) (setupOf c .sets) list (SetParts id) (memberIn c m) in
+        (let y = changeOf (setupOf c .gets) (setupOf c .sets) list (SetParts id) (memberIn c m) in
         ap (λ (d : List ℕ). (answerNumber (y .answer), d))
         (settled-as (isDone (y .answer)) (y .member)
-        (change-sound (setupOf c .queues) (setupOf c .gets) (setupOf c .sets) list (SetParts id) (memberIn c m) _ (ltb-true _ _ v) unmarked (sound-member-in c s m h))
-        (change-marked (setupOf c .queues) (setupOf c .gets) (setupOf c .sets) list (SetParts id) (memberIn c m) ∙ unmarked)
-        (change-refused (setupOf c .queues) (setupOf c .gets) (setupOf c .sets) list (SetParts id) (memberIn c m)))))
+        (change-sound (setupOf c .gets) (setupOf c .sets) list (SetParts id) (memberIn c m) _ (ltb-true _ _ v) unmarked (sound-member-in c s m h))
+        (change-marked (setupOf c .gets) (setupOf c .sets) list (SetParts id) (memberIn c m) ∙ unmarked)
+        (change-refused (setupOf c .gets) (setupOf c .sets) list (SetParts id) (memberIn c m)))))
         (λ v. rw v (ap (λ (d : List ℕ). (answerNumber BadField, d)) gone-as))))
         (λ u. rw u (ap (λ (d : List ℕ). (answerNumber BadOpcode, d)) gone-as))
 
@@ -128,7 +128,7 @@ module _ (c : List ℕ) (id : ℕ) (x : Member) (u : ℕ) (p : u ≡ inUseOf c) 
     bad-id l list = rw (sym is-used ∙ not-false b n, ← f, le-ltb id (w .gets + w .sets) l)
 
     pub sets-held : id < w .gets + w .sets → (m k : ℕ) (all list : List ℕ) → all ≡ holdingIn c m → list ≡ take k all → (z : Changed)
-        → z ≡ changeOf (w .queues) (w .gets) (w .sets) list (SetParts id) x → z ≡ setInto c id (take k (holdingIn c m)) x
+        → z ≡ changeOf (w .gets) (w .sets) list (SetParts id) x → z ≡ setInto c id (take k (holdingIn c m)) x
     unfolding setInto unless_answer_then_
     sets-held l m k all list a t z e =
         rw (sym is-used ∙ not-false b n, ← f, lt-ltb id (w .gets + w .sets) l) (e ∙ rw (t, a))

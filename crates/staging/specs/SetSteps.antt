@@ -16,4 +16,4 @@ unfoldable pub setInto : List ℕ → ℕ → List ℕ → Member → Changed
 setInto c id list x =
     unless bit (inUseOf c) 0x10 answer refuse x BadOpcode then  -- 4
     unless ltb id (setupOf c .gets + setupOf c .sets) answer refuse x BadField then  -- 7
-    changeOf (setupOf c .queues) (setupOf c .gets) (setupOf c .sets) list (SetParts id) x  -- 8 to 10
+    changeOf (setupOf c .gets) (setupOf c .sets) list (SetParts id) x  -- 8 to 10

@@ -150,7 +150,6 @@ fn set_held(card: &[u8], m: u64, x: Member, id: u32, k: usize) -> Changed
     changes::change(
         x,
         ChangeOp::SetParts(id as usize),
-        s.queues,
         s.gets,
         s.sets,
         list,
