@@ -5,13 +5,17 @@ ghost use mathlib.Core.List.{[]};
 ghost use Rattle.theory.specs.Logic.{indicator};
 ghost use Rattle.card.specs.Layout.{version, cardBytes};
 ghost use Rattle.card.specs.Sound.{isSound};
-ghost use Rattle.events.specs.Events.{numbered, setUp, handBack, wipe, resetCard, store};
+ghost use Rattle.setups.specs.Reading.{readVersion1, readSetup};
+ghost use Rattle.setups.specs.Writing.{written};
+ghost use Rattle.events.specs.Events.{numbered, setUp, setUpFrom, handBack, wipe, resetCard, store};
 ghost use Rattle.admin.specs.Command.{commandOf};
 ghost use Rattle.host.specs.Request.{built};
 ghost use Rattle.host.specs.Reply.{readReply};
 ghost use Rattle.kajurnat.specs.Told.{told};
+ghost use Rattle.kajurnat.specs.SetupTold.{setupTold};
 use host::Command;
 use host::Outcome;
+use setups::ReadOutcome;
 ghost use Rattle.staging.specs.Staging.{beginOf, feedOf, finishOf, dropOf};
 ghost use Rattle.message.specs.Message.{messageOf};
 
@@ -39,19 +43,115 @@ pub extern "C" fn kajurnat_card_bytes(members: u64) -> usize
     card::card_bytes(members)
 }
 
-// Makes the buffer a fresh card; refused, every byte of it is zero.
+// Makes the buffer a fresh card; refused, every byte of it is zero. There is one queue count for each member.
 #[no_mangle]
 pub extern "C" fn kajurnat_setup(
     card: &mut [u8],
     members: u64,
-    queues: u64,
+    queues: &[u8],
     gets: u64,
     sets: u64,
     features: &[u8],
 ) -> u8
-    ensures { λ r. ⌜ (r, now (card .exit)) ≡ numbered (setUp (now (card .entry)) members queues gets sets (now (features .entry))) ⌝ }
+    ensures { λ r. ⌜ (r, now (card .exit)) ≡ numbered (setUp (now (card .entry)) members (now (queues .entry)) gets sets (now (features .entry))) ⌝ }
 {
     protocol::event_number(events::set_up(card, members, queues, gets, sets, features))
+}
+
+// The same of a packed setup, of either version.
+#[no_mangle]
+pub extern "C" fn kajurnat_setup_from(card: &mut [u8], setup: &[u8]) -> u8
+    ensures { λ r. ⌜ (r, now (card .exit)) ≡ numbered (setUpFrom (now (card .entry)) (now (setup .entry))) ⌝ }
+{
+    protocol::event_number(events::set_up_from(card, setup))
+}
+
+// Packs a setup at the front of the buffer and answers its length; 0, with nothing written, where it is bad or the buffer too
+// short.
+#[no_mangle]
+pub extern "C" fn kajurnat_setup_write(
+    setup: &mut [u8],
+    members: u64,
+    queues: &[u8],
+    gets: u64,
+    sets: u64,
+    features: &[u8],
+) -> usize
+    ensures { λ r. ⌜ (r, now (setup .exit)) ≡ written (now (setup .entry)) members (now (queues .entry)) gets sets (now (features .entry)) ⌝ }
+{
+    setups::write(setup, members, queues, gets, sets, features)
+}
+
+// What was read of a packed setup, in buffers of 16 bytes for the queue counts and the features: 0, or the number of the
+// refusal and nothing written.
+fn tell_setup(
+    read: ReadOutcome,
+    members: &mut u8,
+    queues: &mut [u8],
+    gets: &mut u8,
+    sets: &mut u8,
+    features: &mut [u8],
+) -> u8
+    ensures { λ r. ⌜ (r, (now (members .exit), (now (queues .exit), (now (gets .exit), (now (sets .exit), now (features .exit)))))) ≡ setupTold read (now (members .entry)) (now (queues .entry)) (now (gets .entry)) (now (sets .entry)) (now (features .entry)) ⌝ }
+{
+    let answer = read.answer;
+    let number = setups::read_number(answer);
+    if number != 0 {
+        return number;
+    }
+    if queues.len() != setups::MOST_MEMBERS {
+        return 2;
+    }
+    if features.len() != setups::FEATURES_SIZE {
+        return 2;
+    }
+    let s = read.setup;
+    let counts = s.queues;
+    let own = s.features;
+    *members = s.members;
+    wire::copy(queues, 0, &counts);
+    *gets = s.gets;
+    *sets = s.sets;
+    wire::copy(features, 0, &own);
+    0
+}
+
+// Reads a packed setup of either version: 0, with the setup, or 2 for one that is refused, and nothing written. The counts of
+// members past the last are 0.
+#[no_mangle]
+pub extern "C" fn kajurnat_setup_read(
+    setup: &[u8],
+    members: &mut u8,
+    queues: &mut [u8],
+    gets: &mut u8,
+    sets: &mut u8,
+    features: &mut [u8],
+) -> u8
+    ensures { λ r. ⌜ (r, (now (members .exit), (now (queues .exit), (now (gets .exit), (now (sets .exit), now (features .exit)))))) ≡ setupTold (readSetup (now (setup .entry))) (now (members .entry)) (now (queues .entry)) (now (gets .entry)) (now (sets .entry)) (now (features .entry)) ⌝ }
+{
+    tell_setup(setups::read(setup), members, queues, gets, sets, features)
+}
+
+// Reads one of version 1, and answers 1 for any of version 2.
+#[no_mangle]
+pub extern "C" fn kajurnat_setup_read_v1(
+    setup: &[u8],
+    members: &mut u8,
+    queues: &mut [u8],
+    gets: &mut u8,
+    sets: &mut u8,
+    features: &mut [u8],
+) -> u8
+    ensures { λ r. ⌜ (r, (now (members .exit), (now (queues .exit), (now (gets .exit), (now (sets .exit), now (features .exit)))))) ≡ setupTold (readVersion1 (now (setup .entry))) (now (members .entry)) (now (queues .entry)) (now (gets .entry)) (now (sets .entry)) (now (features .entry)) ⌝ }
+{
+    tell_setup(
+        setups::read_version_1(setup),
+        members,
+        queues,
+        gets,
+        sets,
+        features,
+    )
 }
 
 // One group administration command: the bytes written to the reply, the card and the reply buffer after it.
