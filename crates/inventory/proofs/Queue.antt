@@ -41,9 +41,6 @@ pub value-read : (l : List ℕ) (r : ℕ) → length l ≡ queueSize → eqb r 0
     → eqb r 0 ≡ queueAllowed l
 value-read l r n e = e ∙ false-or _ ∙ ap queueAllowed (take-all queueSize l (omega arith))
 
-pub four-read : (q : ℕ) (l : List ℕ) (r : ℕ) → q ≡ 4 → eqb r 0 ≡ queuesAllowed 4 l → eqb r 0 ≡ queuesAllowed q l
-four-read q l r e t = rw e t
-
 -- the four queues
 none-both : (a b : ℕ) → eqb (bitOr a b) 0 ≡ eqb a 0 and eqb b 0
 none-both a b =
@@ -89,6 +86,12 @@ module _ (q : ℕ) (v : List ℕ) where
     where
       one : (k : ℕ) → k < 4 → leb q k or queueAllowed (queueValue k v) ≡ true
       one k l = by-cases (leb q k) (λ t. rw t (true-or _)) (λ t. rw (f k (leb-false q k t) l) (or-true _))
+
+-- all four are allowed, so those that are there are
+pub four-allowed : (q : ℕ) (v : List ℕ) (r : ℕ) → eqb r 0 ≡ queuesAllowed 4 v → r ≡ 0 → true ≡ queuesAllowed q v
+four-allowed q v r e z =
+    let a : queuesAllowed 4 v ≡ true = sym e ∙ eq-eqb r 0 z in
+    sym (all-allowed q v (λ k h l. each-allowed 4 v a k l l))
 
 -- ---- and as rows of the table ----
 

@@ -297,14 +297,14 @@ pub fn is_value_allowed(t: u16, value: &[u8]) -> bool
     fault_at(1, 0, value, 0) == 0
 }
 
-// Whether the values of a member with so many queues have an allowed one for each. With four queues, which is the most, the
-// compiler leaves out the tests of whether one is there.
+// Whether the values of a member with so many queues have an allowed one for each. If all four have, which is so but for
+// bytes that no call writes, it does not matter which of them are there.
 pub fn are_queues_allowed(queues: u8, values: &[u8]) -> bool
     requires { ⌜ length (now values) ≡ valuesSize ⌝ }
     ensures { λ r. ⌜ r ≡ queuesAllowed queues (now (values .entry)) ⌝ }
 {
-    if queues == 4 {
-        return faults(4, values) == 0;
+    if faults(4, values) == 0 {
+        return true;
     }
     faults(queues, values) == 0
 }

@@ -8,10 +8,10 @@ use native.Mathlib.Omega.{arith}
 use lib.Dec.{leb, eqb}
 use lib.ListN.{length, getD, drop, replicate}
 use lib.Seq.{take-at, drop-set-lt, drop-append-add}
-use borrow.Author.Tests.{not-true, not-false, leb-true, le-leb, eqb-true}
+use borrow.Author.Tests.{not-true, not-false, leb-true, le-leb, lt-leb, eqb-true}
 use Rattle.theory.specs.Logic.{_and_, _or_, indicator, within}
 use Rattle.theory.specs.Bytes.{bytesAt, same}
-use Rattle.theory.proofs.Tests.{by-cases, both, either, and-i, and-assoc, and-false, false-and, same-true, eq-same}
+use Rattle.theory.proofs.Tests.{by-cases, both, either, and-i, and-true, and-assoc, and-false, false-and, same-true, eq-same}
 use Rattle.theory.proofs.Bytes.{bytesAt-bytesAt}
 use Rattle.theory.proofs.Ladder.{ladder}
 use Rattle.wire.specs.Le.{le, number}
@@ -216,32 +216,33 @@ module _ (gets sets : ℕ) (features : List ℕ) where
             allowed = s .allowed;
           }
 
--- ---- the test, one step after the other ----
+-- ---- the test, one step after the other; what the front has is tested last ----
 
-module _ (gets sets : ℕ) (features r : List ℕ) (t : Bool) (d : t ≡ soundFront r) where
-  pub bad-front : not t ≡ true → false ≡ soundRecord gets sets features r
+module _ (gets sets : ℕ) (features r : List ℕ) (held : ℕ) (g : held ≡ number heldAt 2 r) where
+  pub bad-held : 1 + holdingSize < held → false ≡ soundRecord gets sets features r
   unfolding soundRecord
-  bad-front h = rw (← d) (search ladder)
+  bad-held h = rw (← g, lt-leb _ _ h) (simp (false-and, and-false))
 
-  module _ (held : ℕ) (g : held ≡ number heldAt 2 r) where
-    pub bad-held : not t ≡ false → 1 + holdingSize < held → false ≡ soundRecord gets sets features r
+  module _ (bs : List ℕ) (b : Bool) (p : bs ≡ objectBytes r) (q : b ≡ allUpTo 2 bs and allUpTo 0 (drop (gets + sets) bs) and withinLimits gets sets bs) where
+    steps : soundFront r and (leb held (1 + holdingSize)
+        and (b and (same (bytesAt valuesAt featuresSize r) features and queuesAllowed (getD r queuesAt 0) (bytesAt valuesAt valuesSize r))))
+        ≡ soundRecord gets sets features r
     unfolding soundRecord
-    bad-held n h = rw (← d, ← g) (search ladder)
+    steps = rw (q, p, g) (simp and-assoc)
 
-    module _ (bs : List ℕ) (b : Bool) (p : bs ≡ objectBytes r) (q : b ≡ allUpTo 2 bs and allUpTo 0 (drop (gets + sets) bs) and withinLimits gets sets bs) where
-      steps : t and (leb held (1 + holdingSize)
-          and (b and (same (bytesAt valuesAt featuresSize r) features and queuesAllowed (getD r queuesAt 0) (bytesAt valuesAt valuesSize r))))
-          ≡ soundRecord gets sets features r
-      unfolding soundRecord
-      steps = rw (q, p, g, d) (simp and-assoc)
+    pub bad-objects : not b ≡ true → false ≡ soundRecord gets sets features r
+    bad-objects h = rw (← steps, not-true b h) (simp (false-and, and-false))
 
-      pub bad-objects : not b ≡ true → false ≡ soundRecord gets sets features r
-      bad-objects h = rw (← steps, not-true b h) (simp (false-and, and-false))
+    module _ (f : Bool) (ef : f ≡ same (bytesAt valuesAt featuresSize r) features) where
+      pub bad-features : not f ≡ true → false ≡ soundRecord gets sets features r
+      bad-features h = rw (← steps, ← ef, not-true f h) (simp (false-and, and-false))
 
-      module _ (n : not t ≡ false) (k : held ≤ 1 + holdingSize) (h : not b ≡ false) (f : Bool) (ef : f ≡ same (bytesAt valuesAt featuresSize r) features) where
-        pub bad-features : not f ≡ true → false ≡ soundRecord gets sets features r
-        bad-features z = rw (← steps, not-false b h, not-false t n) (search ladder)
+      module _ (z : Bool) (ez : z ≡ queuesAllowed (getD r queuesAt 0) (bytesAt valuesAt valuesSize r)) where
+        pub bad-queues : not z ≡ true → false ≡ soundRecord gets sets features r
+        bad-queues h = rw (← steps, ← ez, not-true z h) (simp and-false)
 
-        pub sound-rest : not f ≡ false → (x : Bool) → x ≡ queuesAllowed (getD r queuesAt 0) (bytesAt valuesAt valuesSize r) → x ≡ soundRecord gets sets features r
+        pub front-last : held ≤ 1 + holdingSize → not b ≡ false → not f ≡ false → not z ≡ false → (x : Bool) → x ≡ soundFront r
+            → x ≡ soundRecord gets sets features r
         unfolding _and_
-        sound-rest z x e = rw (← steps, not-false b h, not-false t n, le-leb _ _ k, ← ef, not-false f z) e
+        front-last k h i j x e =
+            rw (← steps, le-leb _ _ k, not-false b h, ← ef, not-false f i, ← ez, not-false z j) (e ∙ sym (and-true (soundFront r)))

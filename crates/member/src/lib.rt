@@ -282,9 +282,6 @@ pub fn is_sound_record(bytes: &[u8], gets: u8, sets: u8, features: &[u8]) -> boo
     requires { ⌜ length (now bytes) ≡ memberSize ⌝ }
     ensures { λ r. ⌜ r ≡ soundRecord gets sets (now (features .entry)) (now (bytes .entry)) ⌝ }
 {
-    if !is_front_sound(bytes) {
-        return false;
-    }
     if HELD_MOST < wire::read_u16(bytes, HELD_AT) {
         return false;
     }
@@ -294,7 +291,10 @@ pub fn is_sound_record(bytes: &[u8], gets: u8, sets: u8, features: &[u8]) -> boo
     if !wire::equal(&bytes[VALUES_AT..FEATURES_END], features) {
         return false;
     }
-    inventory::are_queues_allowed(bytes[QUEUES_AT], &bytes[VALUES_AT..MEMBER_SIZE])
+    if !inventory::are_queues_allowed(bytes[QUEUES_AT], &bytes[VALUES_AT..MEMBER_SIZE]) {
+        return false;
+    }
+    is_front_sound(bytes)
 }
 
 // ---- from a member's bytes to the member ----
