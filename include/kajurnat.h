@@ -13,12 +13,15 @@
  *     keeps no pointer.
  *   - The answer, the bytes written and the card afterwards are those that
  *     the specification gives. A refusal leaves the card as it was, but for
- *     three calls: kajurnat_setup() fills a refused buffer with zeros, and
- *     kajurnat_restore_finish(), and kajurnat_restore_feed() with more than
- *     there is room for, end a holding place that is open.
+ *     four calls: kajurnat_setup() and kajurnat_setup_from() fill a refused
+ *     buffer with zeros, and kajurnat_restore_finish(), and
+ *     kajurnat_restore_feed() with more than there is room for, end a holding
+ *     place that is open.
  *   - A sound card stays sound.
- *   - A capture of all parts of a member can be set in a stopped member of a
- *     card of the same setup, and a capture there gives the same bytes.
+ *   - A capture of all parts of a member can be set in a stopped member with as
+ *     many queues of a card of the same setup, and a capture there gives the
+ *     same bytes.
+ *   - A setup that is packed is read back as it was.
  *   - Once a member is wiped, or the card is reset, no reply and no byte of the
  *     card depends on the commands, messages, stores and restores that named it
  *     before.
@@ -34,9 +37,9 @@
  *     const, for reads and writes where it is not. With length 0 any pointer
  *     will do, NULL too; nothing is read or written through it.
  *   - The buffers of a call do not overlap: card, request or message, and
- *     reply are apart from each other, and so are card and features, card and
- *     value, card and fragment, request and list, and the reply and the four
- *     numbers that it is read into.
+ *     reply are apart from each other, and so are card, queues and features,
+ *     card and packed setup, card and value, card and fragment, request and
+ *     list, and a reply or a packed setup and all that it is read into.
  *   - Until the call returns, nothing else writes to its buffers, and nothing
  *     else reads those that it writes. There is no lock inside: one call at a
  *     time for each card. Calls on different cards may run at once.
@@ -73,7 +76,7 @@ extern "C" {
  * What the bytes of a card mean: raised whenever that changes. A card is for
  * the library whose kajurnat_version() is the one it was made with.
  */
-#define KAJURNAT_VERSION 4
+#define KAJURNAT_VERSION 5
 
 /* The stack that a call takes at most, memcpy, memmove and memset aside. */
 #define KAJURNAT_STACK_BYTES 2560
@@ -84,11 +87,13 @@ extern "C" {
 enum {
     KAJURNAT_MEMBERS_MIN = 1,
     KAJURNAT_MEMBERS_MAX = 16,
-    KAJURNAT_QUEUES_MIN = 1, /* of each member */
+    KAJURNAT_QUEUES_MIN = 1, /* of a member; members may differ */
     KAJURNAT_QUEUES_MAX = 4,
     KAJURNAT_GETS_MAX = 8, /* get objects of each member; 0 is allowed */
     KAJURNAT_SETS_MAX = 8, /* set objects of each member; 0 is allowed */
-    KAJURNAT_FEATURES_BYTES = 16
+    KAJURNAT_FEATURES_BYTES = 16,
+    KAJURNAT_SETUP_BYTES = 19,    /* packed, members of as many queues */
+    KAJURNAT_SETUP_BYTES_MAX = 23 /* packed, others: 19 and members / 4 up */
 };
 
 /*
@@ -96,7 +101,7 @@ enum {
  * sizes. kajurnat_card_bytes() gives the same number at run time.
  */
 #define KAJURNAT_CARD_BYTES(members) \
-    ((size_t)28 + (size_t)1265 * (size_t)(members))
+    ((size_t)27 + (size_t)1266 * (size_t)(members))
 
 /* The answers of setup, hand back, wipe, reset and store. */
 enum {
@@ -108,6 +113,25 @@ enum {
     KAJURNAT_BAD_QUEUE_SIZE = 5, /* a size that no ring has; see Parts */
     KAJURNAT_OUT_OF_ORDER = 6,   /* of the two halves of a member's reset */
     KAJURNAT_NOT_SOUND = 9 /* the buffer is not a sound card; no status */
+};
+
+/*
+ * A setup may be kept as bytes that outlive a release, packed most significant
+ * bit first:
+ *
+ *   version 4 bits, members - 1 in 4, queues - 1 in 2, gets in 4, sets in 4, six
+ *   zero bits, then the 16 bytes of features
+ *
+ * This is version 1, for members of as many queues each. Version 2 has zero in
+ * place of queues - 1, and behind the 24 bits 2 bits for each member, from member
+ * 1, its number of queues less one, and zero bits to a whole byte.
+ */
+
+/* The answers of the readers of packed setups. */
+enum {
+    KAJURNAT_SETUP_READ = 0,
+    KAJURNAT_SETUP_VERSION_2 = 1, /* kajurnat_setup_read_v1() alone */
+    KAJURNAT_SETUP_REFUSED = 2
 };
 
 /* ---- Requests and replies --------------------------------------------- */
@@ -345,13 +369,59 @@ size_t kajurnat_card_bytes(uint64_t members);
  * but the device features, and so are its configuration and the generation of
  * it. What the buffer held before does not matter.
  *
+ * queues has a number of queues for each member, from member 1.
+ *
  * Returns KAJURNAT_DONE. Returns KAJURNAT_BAD_SETUP, and every byte of the
- * buffer is zero, if a number is outside its limits, features_len is not 16,
- * or card_len is not kajurnat_card_bytes(members).
+ * buffer is zero, if a number is outside its limits, queues_len is not members,
+ * features_len is not 16, or card_len is not kajurnat_card_bytes(members).
  */
 uint8_t kajurnat_setup(uint8_t *card, size_t card_len, uint64_t members,
-                       uint64_t queues, uint64_t gets, uint64_t sets,
-                       const uint8_t *features, size_t features_len);
+                       const uint8_t *queues, size_t queues_len, uint64_t gets,
+                       uint64_t sets, const uint8_t *features,
+                       size_t features_len);
+
+/*
+ * The same from a packed setup of either version. Returns KAJURNAT_BAD_SETUP,
+ * and every byte of the buffer is zero, if the readers refuse the setup or
+ * card_len is not kajurnat_card_bytes() of its members.
+ */
+uint8_t kajurnat_setup_from(uint8_t *card, size_t card_len,
+                            const uint8_t *setup, size_t setup_len);
+
+/*
+ * Packs a setup at the start of the buffer and returns its length: version 1 if
+ * all members have as many queues, else version 2. The bytes of the buffer past
+ * it keep their values.
+ *
+ * Returns 0, with nothing written, if kajurnat_setup() would refuse the numbers,
+ * queues or features, or the buffer is too short. KAJURNAT_SETUP_BYTES_MAX is
+ * always enough.
+ */
+size_t kajurnat_setup_write(uint8_t *setup, size_t setup_len, uint64_t members,
+                            const uint8_t *queues, size_t queues_len,
+                            uint64_t gets, uint64_t sets,
+                            const uint8_t *features, size_t features_len);
+
+/*
+ * Reads a packed setup of either version. queues has room for
+ * KAJURNAT_MEMBERS_MAX numbers; those past the last member are 0.
+ *
+ * Returns KAJURNAT_SETUP_READ, or KAJURNAT_SETUP_REFUSED, with nothing written,
+ * if the bytes are no setup, queues_len is not 16, or features_len is not 16.
+ */
+uint8_t kajurnat_setup_read(const uint8_t *setup, size_t setup_len,
+                            uint8_t *members, uint8_t *queues,
+                            size_t queues_len, uint8_t *gets, uint8_t *sets,
+                            uint8_t *features, size_t features_len);
+
+/*
+ * The same for version 1 alone. Returns KAJURNAT_SETUP_VERSION_2, with nothing
+ * written and before all else, if the first four bits are those of version 2.
+ */
+uint8_t kajurnat_setup_read_v1(const uint8_t *setup, size_t setup_len,
+                               uint8_t *members, uint8_t *queues,
+                               size_t queues_len, uint8_t *gets, uint8_t *sets,
+                               uint8_t *features, size_t features_len);
 
 /*
  * Carries out one command and returns the number of reply bytes written: 8

@@ -1,21 +1,13 @@
 /*
- * What kajurnat.h says, tried from C: the worked examples, a refusal for each
- * row of the header's order that also meets later rows, requests of other
- * lengths than are built, a restore in fragments, messages, the builders and the
- * reader, NULL with length 0, soundness and version.
+ * What kajurnat.h says of commands, tried from C: the worked examples, a refusal
+ * for each row of the header's order that also meets later rows, requests of
+ * other lengths than are built, the builders and the reader, NULL with length 0,
+ * soundness and version.
  */
-#include "common.h"
-#include "kajurnat.h"
+#include "card.h"
 
 #include <inttypes.h>
 
-enum { MEMBERS = 2, QUEUES = 1, GETS = 1, SETS = 1 };
-
-enum { GET_ID = 0, SET_ID = 1 };
-
-#define ZERO_8 0, 0, 0, 0, 0, 0, 0, 0
-#define ZERO_16 ZERO_8, ZERO_8
-#define DRIVER_FEATURES 0x01, 0x01, 0, 0, ZERO_8, 16, 0, 0, 0, ZERO_16
 #define HEADER(type) type, 0x01, 0, 0, ZERO_8, 0, 0, 0, 0
 
 #define NO_LIST NULL, 0
@@ -122,17 +114,6 @@ static const struct row rows[] = {
     {"no mask", LIST_USE, 3, 0, 0, NO_LIST, ROOM, OK, 8, 0, 24},
     {"blocked", LIST_USE, 3, 0, 0, NO_LIST, ROOM, EINVAL(OPCODE), 8, 0, 0},
 };
-
-static uint8_t card[KAJURNAT_CARD_BYTES(MEMBERS)];
-static const uint8_t features[KAJURNAT_FEATURES_BYTES];
-
-static void set_up(void)
-{
-    expect(kajurnat_setup(card, sizeof card, MEMBERS, QUEUES, GETS, SETS,
-                          features, sizeof features) == KAJURNAT_DONE,
-           "the setup is taken");
-    expect(kajurnat_is_sound(card, sizeof card) == 1, "the card is sound");
-}
 
 /* The request of a row; one with an opcode that no builder has is a list query
  * with another opcode. */
@@ -251,114 +232,6 @@ static void try_host(void)
            "numbers that are not known are handled, and shown");
 }
 
-/* The answer of a call of a restore. */
-#define ANSWER(status, qualifier)                                              \
-    ((uint32_t)KAJURNAT_STATUS_##status | (uint32_t)KAJURNAT_Q_##qualifier     \
-                                              << 16)
-
-/* A restore of member 2 in fragments: each row of its answers, with later rows
- * met too. */
-static void try_restore(void)
-{
-    static const uint8_t list[] = {DRIVER_FEATURES};
-    static const uint8_t zeros[KAJURNAT_RESTORE_BYTES_MAX + 1];
-    uint8_t before[sizeof card];
-
-    set_up();
-    memcpy(before, card, sizeof card);
-    expect(
-        kajurnat_restore_begin(card, sizeof card, 3) ==
-                ANSWER(EINVAL, INVALID_MEMBER) &&
-            kajurnat_restore_feed(card, sizeof card, 0, zeros, sizeof zeros) ==
-                ANSWER(EINVAL, INVALID_MEMBER) &&
-            kajurnat_restore_finish(card, sizeof card, 0, 9) ==
-                ANSWER(EINVAL, INVALID_MEMBER) &&
-            kajurnat_restore_drop(card, sizeof card, 3) ==
-                ANSWER(EINVAL, INVALID_MEMBER),
-        "restore: no such member");
-    expect(kajurnat_restore_feed(card, sizeof card, 2, zeros, sizeof zeros) ==
-                   ANSWER(ENXIO, INVALID_COMMAND) &&
-               kajurnat_restore_finish(card, sizeof card, 2, 9) ==
-                   ANSWER(ENXIO, INVALID_COMMAND) &&
-               kajurnat_restore_drop(card, sizeof card, 2) ==
-                   ANSWER(ENXIO, INVALID_COMMAND),
-           "restore: nothing begun");
-    expect(memcmp(card, before, sizeof card) == 0,
-           "restore: a refusal changes nothing");
-
-    expect(kajurnat_restore_begin(card, sizeof card, 2) == ANSWER(OK, OK) &&
-               kajurnat_restore_begin(card, sizeof card, 2) ==
-                   ANSWER(EEXIST, INVALID_COMMAND) &&
-               kajurnat_restore_feed(card, sizeof card, 2, zeros,
-                                     KAJURNAT_RESTORE_BYTES_MAX) ==
-                   ANSWER(OK, OK) &&
-               kajurnat_restore_feed(card, sizeof card, 2, NULL, 0) ==
-                   ANSWER(OK, OK) &&
-               kajurnat_restore_feed(card, sizeof card, 2, zeros, 1) ==
-                   ANSWER(EINVAL, INVALID_COMMAND) &&
-               kajurnat_restore_drop(card, sizeof card, 2) ==
-                   ANSWER(ENXIO, INVALID_COMMAND),
-           "restore: a feed without room ends it");
-    expect(kajurnat_restore_begin(card, sizeof card, 2) == ANSWER(OK, OK) &&
-               kajurnat_restore_feed(card, sizeof card, 2, list, sizeof list) ==
-                   ANSWER(OK, OK) &&
-               kajurnat_restore_drop(card, sizeof card, 2) == ANSWER(OK, OK) &&
-               kajurnat_restore_begin(card, sizeof card, 2) == ANSWER(OK, OK) &&
-               kajurnat_restore_finish(card, sizeof card, 2, SET_ID) ==
-                   ANSWER(EINVAL, INVALID_OPCODE) &&
-               kajurnat_restore_begin(card, sizeof card, 1) == ANSWER(OK, OK) &&
-               kajurnat_hand_back(card, sizeof card, 1) == KAJURNAT_DONE &&
-               kajurnat_restore_begin(card, sizeof card, 1) ==
-                   ANSWER(EAGAIN, TRYAGAIN) &&
-               kajurnat_wipe(card, sizeof card, 1, 0) == KAJURNAT_DONE,
-           "restore: drop, a refused finish and a hand back end it");
-    expect(memcmp(card, before, sizeof card) == 0,
-           "restore: nothing is left of it");
-
-    const uint32_t answer = ANSWER(EAGAIN, TRYAGAIN);
-    expect(KAJURNAT_RESTORE_STATUS(answer) == KAJURNAT_STATUS_EAGAIN &&
-               KAJURNAT_RESTORE_QUALIFIER(answer) == KAJURNAT_Q_TRYAGAIN,
-           "restore: the numbers of an answer");
-}
-
-/* A set request for member 2, a get request, and the bus outcome. */
-static void try_messages(void)
-{
-    uint8_t set[] = {0, KAJURNAT_MSG_SET_CONFIG, 1, 0, 0x34, 0x12, 22, 0,
-                     7, 0, 0, 0, 3, 0, 0, 0, 2, 0, 0, 0, 0xaa, 0xbb};
-    const uint8_t get[] = {0, KAJURNAT_MSG_GET_CONFIG, 1, 0, 0, 0, 16, 0,
-                           0, 0, 0, 0, KAJURNAT_CONFIG_BYTES, 0, 0, 0};
-    uint8_t reply[KAJURNAT_MSG_RESPONSE_BYTES_MAX];
-
-    expect(kajurnat_hand_back(card, sizeof card, 2) == KAJURNAT_DONE &&
-               kajurnat_message(card, sizeof card, get, sizeof get, reply,
-                                sizeof reply) == 0 &&
-               kajurnat_wipe(card, sizeof card, 2, 7) == KAJURNAT_DONE,
-           "message: the generation to start from");
-    expect(kajurnat_message(card, sizeof card, set, sizeof set, reply, 21) == 0,
-           "message: no room for the response");
-    expect(kajurnat_message(card, sizeof card, set, sizeof set, reply,
-                            sizeof reply) == 22 &&
-               reply[0] == KAJURNAT_MSG_TYPE_RESPONSE &&
-               memcmp(reply + 1, set + 1, 7) == 0 && reply[8] == 8 &&
-               memcmp(reply + 9, set + 9, 13) == 0,
-           "message: a write is applied");
-    expect(kajurnat_message(card, sizeof card, set, sizeof set, reply,
-                            sizeof reply) == KAJURNAT_MSG_RESPONSE_BYTES &&
-               reply[8] == 8 && reply[16] == 0,
-           "message: a stale write is not");
-    expect(kajurnat_message(card, sizeof card, get, sizeof get, reply,
-                            sizeof reply) == sizeof reply &&
-               reply[22] == 0 && reply[23] == 0xaa && reply[24] == 0xbb,
-           "message: a read");
-    expect(kajurnat_message(card, sizeof card, get, sizeof get - 1, reply,
-                            sizeof reply) == 0 &&
-               kajurnat_message(card, sizeof card, NULL, 0, NULL, 0) == 0 &&
-               kajurnat_message(NULL, 0, get, sizeof get, reply,
-                                sizeof reply) == 0,
-           "message: the bus outcome");
-}
-
 /* Row 2 of the order, and length 0 everywhere. */
 static void try_lengths(void)
 {
@@ -394,63 +267,24 @@ static void try_lengths(void)
                kajurnat_restore_finish(NULL, 0, 1, 0) == KAJURNAT_NOT_SOUND &&
                kajurnat_restore_drop(NULL, 0, 1) == KAJURNAT_NOT_SOUND,
            "NULL: restore");
-    expect(kajurnat_setup(NULL, 0, MEMBERS, QUEUES, GETS, SETS, features,
-                          sizeof features) == KAJURNAT_BAD_SETUP &&
-               kajurnat_setup(NULL, 0, 0, 0, 0, 0, NULL, 0) ==
+    expect(kajurnat_setup(NULL, 0, MEMBERS, queues, sizeof queues, GETS, SETS,
+                          features, sizeof features) == KAJURNAT_BAD_SETUP &&
+               kajurnat_setup(NULL, 0, 0, NULL, 0, 0, 0, NULL, 0) ==
                    KAJURNAT_BAD_SETUP &&
-               kajurnat_setup(card, sizeof card, MEMBERS, QUEUES, GETS, SETS,
-                              NULL, 0) == KAJURNAT_BAD_SETUP,
+               kajurnat_setup(card, sizeof card, MEMBERS, NULL, 0, GETS, SETS,
+                              features, sizeof features) ==
+                   KAJURNAT_BAD_SETUP &&
+               kajurnat_setup(card, sizeof card, MEMBERS, queues, sizeof queues,
+                              GETS, SETS, NULL, 0) == KAJURNAT_BAD_SETUP &&
+               kajurnat_setup_from(NULL, 0, NULL, 0) == KAJURNAT_BAD_SETUP,
            "NULL: setup");
     expect(kajurnat_is_sound(card, sizeof card) == 0,
            "a refused setup leaves no sound card");
 }
 
-/* The selectors and lengths of the PCI common fields, and events. */
-static void try_stores(void)
-{
-    static const struct {
-        uint64_t offset;
-        size_t length;
-    } fields[] = {
-        {KAJURNAT_COMMON_DEVICE_FEATURE_SELECT, 4},
-        {KAJURNAT_COMMON_DRIVER_FEATURE_SELECT, 4},
-        {KAJURNAT_COMMON_CONFIG_MSIX_VECTOR, 2},
-        {KAJURNAT_COMMON_QUEUE_SELECT, 2},
-    };
-    const uint8_t value[4] = {0};
-
-    for (size_t i = 0; i < sizeof fields / sizeof fields[0]; i++) {
-        expect(kajurnat_store(card, sizeof card, 2,
-                              KAJURNAT_PART_PCI_COMMON_CFG, fields[i].offset,
-                              value, fields[i].length) == KAJURNAT_DONE,
-               "a PCI common field");
-    }
-
-    uint8_t queue[32] = {0};
-    put_number(queue, 2, KAJURNAT_QUEUE_SIZE_MAX);
-    expect(kajurnat_store(card, sizeof card, 2, KAJURNAT_PART_VQ_CFG, 0, queue,
-                          sizeof queue) == KAJURNAT_DONE,
-           "the largest queue size");
-    put_number(queue, 2, 100);
-    expect(kajurnat_store(card, sizeof card, 2, KAJURNAT_PART_VQ_CFG, 0, queue,
-                          sizeof queue) == KAJURNAT_BAD_QUEUE_SIZE &&
-               kajurnat_store(card, sizeof card, 2, KAJURNAT_PART_VQ_CFG, 0,
-                              queue, 31) == KAJURNAT_WRONG_LENGTH,
-           "a queue size that no ring has");
-    expect(kajurnat_wipe(card, sizeof card, 2, 0) == KAJURNAT_OUT_OF_ORDER &&
-               kajurnat_hand_back(card, sizeof card, 2) == KAJURNAT_DONE &&
-               kajurnat_hand_back(card, sizeof card, 2) ==
-                   KAJURNAT_OUT_OF_ORDER &&
-               kajurnat_wipe(card, sizeof card, 2, 0) == KAJURNAT_DONE &&
-               kajurnat_hand_back(card, sizeof card, 3) ==
-                   KAJURNAT_NO_SUCH_MEMBER &&
-               kajurnat_reset_card(card, sizeof card, 0) == KAJURNAT_DONE,
-           "the resets");
-}
-
 int main(int count, char **arguments)
 {
-    take_no_arguments(count, arguments, "tries what kajurnat.h says");
+    take_no_arguments(count, arguments, "tries what kajurnat.h says of commands");
     expect(kajurnat_version() == KAJURNAT_VERSION, "the version");
     expect(kajurnat_card_bytes(MEMBERS) == sizeof card &&
                kajurnat_card_bytes(0) == 0 && kajurnat_card_bytes(17) == 0,
@@ -460,11 +294,9 @@ int main(int count, char **arguments)
         try_row(&rows[i]);
     }
     try_host();
-    try_restore();
-    try_stores();
-    try_messages();
+    set_up();
     try_lengths();
-    printf("boundary: as kajurnat.h says\n");
+    printf("boundary: as kajurnat.h says of commands\n");
     expect(fflush(stdout) == 0, "the output is written");
     return EXIT_SUCCESS;
 }

@@ -18,8 +18,10 @@
 #include <stdlib.h>
 #include <string.h>
 
-/* The setup of both cards. */
+/* The setup of both cards. Both members have one queue. */
 enum { MEMBERS = 2, QUEUES = 1, GETS = 1, SETS = 1 };
+
+static const uint8_t queues[MEMBERS] = {QUEUES, QUEUES};
 
 static const uint8_t features[KAJURNAT_FEATURES_BYTES] = {
     [4] = 0x01, /* VIRTIO_F_VERSION_1 */
@@ -107,8 +109,8 @@ static void set_up(struct card *card)
     expect(sizeof card->bytes == kajurnat_card_bytes(MEMBERS),
            "the buffer is one card long");
     uint8_t answer =
-        kajurnat_setup(card->bytes, sizeof card->bytes, MEMBERS, QUEUES, GETS,
-                       SETS, features, sizeof features);
+        kajurnat_setup(card->bytes, sizeof card->bytes, MEMBERS, queues,
+                       sizeof queues, GETS, SETS, features, sizeof features);
     expect(answer == KAJURNAT_DONE, "the setup is taken");
     printf("%s: a card of %d members, %zu bytes\n", card->name, MEMBERS,
            sizeof card->bytes);

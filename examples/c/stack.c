@@ -74,10 +74,33 @@ static void record(const char *name, size_t bytes)
 
 MEASURED(size_t, kajurnat_card_bytes, (uint64_t members), (members))
 MEASURED(uint8_t, kajurnat_setup,
-         (uint8_t * card, size_t card_len, uint64_t members, uint64_t queues,
-          uint64_t gets, uint64_t sets, const uint8_t *features,
-          size_t features_len),
-         (card, card_len, members, queues, gets, sets, features, features_len))
+         (uint8_t * card, size_t card_len, uint64_t members,
+          const uint8_t *queues, size_t queues_len, uint64_t gets,
+          uint64_t sets, const uint8_t *features, size_t features_len),
+         (card, card_len, members, queues, queues_len, gets, sets, features,
+          features_len))
+MEASURED(uint8_t, kajurnat_setup_from,
+         (uint8_t * card, size_t card_len, const uint8_t *setup,
+          size_t setup_len),
+         (card, card_len, setup, setup_len))
+MEASURED(size_t, kajurnat_setup_write,
+         (uint8_t * setup, size_t setup_len, uint64_t members,
+          const uint8_t *queues, size_t queues_len, uint64_t gets,
+          uint64_t sets, const uint8_t *features, size_t features_len),
+         (setup, setup_len, members, queues, queues_len, gets, sets, features,
+          features_len))
+MEASURED(uint8_t, kajurnat_setup_read,
+         (const uint8_t *setup, size_t setup_len, uint8_t *members,
+          uint8_t *queues, size_t queues_len, uint8_t *gets, uint8_t *sets,
+          uint8_t *features, size_t features_len),
+         (setup, setup_len, members, queues, queues_len, gets, sets, features,
+          features_len))
+MEASURED(uint8_t, kajurnat_setup_read_v1,
+         (const uint8_t *setup, size_t setup_len, uint8_t *members,
+          uint8_t *queues, size_t queues_len, uint8_t *gets, uint8_t *sets,
+          uint8_t *features, size_t features_len),
+         (setup, setup_len, members, queues, queues_len, gets, sets, features,
+          features_len))
 MEASURED(size_t, kajurnat_command,
          (uint8_t * card, size_t card_len, const uint8_t *request,
           size_t request_len, uint8_t *reply, size_t reply_len),

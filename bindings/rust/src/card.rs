@@ -7,7 +7,7 @@ use crate::raw;
 use crate::reply::{Refusal, Reply, ReplyTooShort};
 use crate::request::Request;
 use crate::restore::Restore;
-use crate::setup::{Setup, SetupError};
+use crate::setup::{BadSetup, Setup, SetupError};
 use alloc::vec;
 use alloc::vec::Vec;
 use core::borrow::Borrow;
@@ -23,7 +23,7 @@ use core::fmt;
 /// ```
 /// use kajurnat::{Card, PartType, Setup};
 ///
-/// const SETUP: Setup = Setup { members: 1, queues: 2, gets: 1, sets: 1, features: [0; 16] };
+/// const SETUP: Setup = Setup::alike(1, 2, 1, 1, [0; 16]);
 ///
 /// // A card that owns its memory.
 /// let mut card = Card::new(&SETUP)?;
@@ -63,6 +63,20 @@ impl Card {
     /// [`SetupError`] names the first number that is out of range.
     pub fn new(setup: &Setup) -> Result<Self, SetupError> {
         Self::new_in(setup, vec![0; setup.card_bytes()])
+    }
+
+    /// A fresh card of a setup that was kept as bytes, of either version: see
+    /// [`Setup::to_bytes`].
+    ///
+    /// # Errors
+    ///
+    /// [`BadSetup::Refused`] if the bytes are no setup.
+    pub fn from_setup(bytes: &[u8]) -> Result<Self, BadSetup> {
+        let mut memory = vec![0; Setup::from_bytes(bytes)?.card_bytes()];
+        match raw::setup_from(&mut memory, bytes) {
+            0 => Ok(Self { memory }),
+            _ => Err(BadSetup::Refused),
+        }
     }
 }
 
@@ -113,7 +127,7 @@ impl<B: AsMut<[u8]>> Card<B> {
         let answer = raw::setup(
             bytes,
             setup.members.into(),
-            setup.queues.into(),
+            setup.counts(),
             setup.gets.into(),
             setup.sets.into(),
             &setup.features,
@@ -128,7 +142,7 @@ impl<B: AsMut<[u8]>> Card<B> {
     ///
     /// ```
     /// # use kajurnat::{Card, Opcode, Request, Setup};
-    /// # let setup = Setup { members: 1, queues: 1, gets: 1, sets: 1, features: [0; 16] };
+    /// # let setup = Setup::alike(1, 1, 1, 1, [0; 16]);
     /// # let mut card = Card::new(&setup)?;
     /// let mask = card.send(Request::list_query())?;
     /// assert_eq!(mask, Opcode::SUPPORTED.to_le_bytes());
@@ -199,7 +213,7 @@ impl<B: AsMut<[u8]>> Card<B> {
     ///
     /// ```
     /// # use kajurnat::{Card, Kind, Opcode, Request, Setup};
-    /// # let setup = Setup { members: 1, queues: 1, gets: 1, sets: 1, features: [0; 16] };
+    /// # let setup = Setup::alike(1, 1, 1, 1, [0; 16]);
     /// # let mut card = Card::new(&setup)?;
     /// # card.send(Request::list_use(Opcode::SUPPORTED))?;
     /// # card.send(Request::create(1, 0, Kind::Get))?;

@@ -12,7 +12,7 @@
 //! use kajurnat::{Card, Kind, Opcode, PartType, Qualifier, Request, Setup};
 //!
 //! // Two members with one queue each, and room for one get and one set object.
-//! let setup = Setup { members: 2, queues: 1, gets: 1, sets: 1, features: [0; 16] };
+//! let setup = Setup::alike(2, 1, 1, 1, [0; 16]);
 //! let mut card = Card::new(&setup)?;
 //!
 //! // Put every command in use.
@@ -90,5 +90,5 @@ pub use raw::version;
 pub use reply::{BadReply, Refusal, Reply, ReplyTooShort};
 pub use request::{Kind, Metadata, Opcode, Request, RequestTooLong};
 pub use restore::Restore;
-pub use setup::{Setup, SetupError};
+pub use setup::{BadSetup, Setup, SetupError};
 pub use status::{Qualifier, Status};

@@ -28,7 +28,7 @@ const BUS: u8 = 0b10;
 /// ```
 /// use kajurnat::{Card, Message, Response, Setup};
 ///
-/// let setup = Setup { members: 2, queues: 1, gets: 1, sets: 1, features: [0; 16] };
+/// let setup = Setup::alike(2, 1, 1, 1, [0; 16]);
 /// let mut card = Card::new(&setup)?;
 /// let mut buffer = [0; Response::MAX];
 ///

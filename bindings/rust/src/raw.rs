@@ -12,6 +12,14 @@
 #![allow(unsafe_code)]
 
 mod abi;
+mod host;
+mod setup;
+
+pub use host::{
+    reply_read, request_create, request_destroy, request_get, request_list_query, request_list_use,
+    request_metadata, request_mode, request_modify, request_query, request_set,
+};
+pub use setup::{setup, setup_from, setup_read, setup_read_v1, setup_write};
 
 /// The version of a card's bytes. It is raised whenever they change their
 /// meaning: bytes that were kept are a card for the same version only.
@@ -35,35 +43,6 @@ pub fn is_sound(card: &[u8]) -> u8 {
 pub fn card_bytes(members: u64) -> usize {
     // SAFETY: the call is lent no memory.
     unsafe { abi::kajurnat_card_bytes(members) }
-}
-
-/// Makes `card` a fresh card and answers 0.
-///
-/// Answers 4 and fills `card` with zeros if a number is out of range, if
-/// `features` is not 16 bytes, or if `card` is not [`card_bytes`] long.
-#[must_use]
-pub fn setup(
-    card: &mut [u8],
-    members: u64,
-    queues: u64,
-    gets: u64,
-    sets: u64,
-    features: &[u8],
-) -> u8 {
-    // SAFETY: each pointer and length are those of one slice, which is
-    // borrowed for the call (`card` mutably, so it overlaps no other).
-    unsafe {
-        abi::kajurnat_setup(
-            card.as_mut_ptr(),
-            card.len(),
-            members,
-            queues,
-            gets,
-            sets,
-            features.as_ptr(),
-            features.len(),
-        )
-    }
 }
 
 /// Carries out one command and returns the number of reply bytes written.
@@ -210,131 +189,4 @@ pub fn restore_finish(card: &mut [u8], member: u64, id: u32) -> u32 {
 pub fn restore_drop(card: &mut [u8], member: u64) -> u32 {
     // SAFETY: as in `restore_begin`.
     unsafe { abi::kajurnat_restore_drop(card.as_mut_ptr(), card.len(), member) }
-}
-
-/// Builds a list query. This and the builders below write the request at the
-/// start of `request` and return its length. They return 0, with nothing
-/// written, if it is over 4,096 bytes or too long for `request`.
-#[must_use]
-pub fn request_list_query(request: &mut [u8]) -> usize {
-    // SAFETY: pointer and length are those of one slice, which is borrowed
-    // mutably for the call; so it is in the builders below.
-    unsafe { abi::kajurnat_request_list_query(request.as_mut_ptr(), request.len()) }
-}
-
-/// Builds a list use.
-#[must_use]
-pub fn request_list_use(request: &mut [u8], mask: u64) -> usize {
-    // SAFETY: as in `request_list_query`.
-    unsafe { abi::kajurnat_request_list_use(request.as_mut_ptr(), request.len(), mask) }
-}
-
-/// Builds an object create.
-#[must_use]
-pub fn request_create(request: &mut [u8], member: u64, id: u32, kind: u8) -> usize {
-    // SAFETY: as in `request_list_query`.
-    unsafe { abi::kajurnat_request_create(request.as_mut_ptr(), request.len(), member, id, kind) }
-}
-
-/// Builds an object modify.
-#[must_use]
-pub fn request_modify(request: &mut [u8], member: u64, id: u32, kind: u8) -> usize {
-    // SAFETY: as in `request_list_query`.
-    unsafe { abi::kajurnat_request_modify(request.as_mut_ptr(), request.len(), member, id, kind) }
-}
-
-/// Builds an object query.
-#[must_use]
-pub fn request_query(request: &mut [u8], member: u64, id: u32) -> usize {
-    // SAFETY: as in `request_list_query`.
-    unsafe { abi::kajurnat_request_query(request.as_mut_ptr(), request.len(), member, id) }
-}
-
-/// Builds an object destroy.
-#[must_use]
-pub fn request_destroy(request: &mut [u8], member: u64, id: u32) -> usize {
-    // SAFETY: as in `request_list_query`.
-    unsafe { abi::kajurnat_request_destroy(request.as_mut_ptr(), request.len(), member, id) }
-}
-
-/// Builds a parts metadata; `what` is its type byte.
-#[must_use]
-pub fn request_metadata(request: &mut [u8], member: u64, id: u32, what: u8) -> usize {
-    // SAFETY: as in `request_list_query`.
-    unsafe { abi::kajurnat_request_metadata(request.as_mut_ptr(), request.len(), member, id, what) }
-}
-
-/// Builds a parts get; `which` is its type byte.
-#[must_use]
-pub fn request_get(request: &mut [u8], member: u64, id: u32, which: u8, headers: &[u8]) -> usize {
-    // SAFETY: as in `request_list_query`; pointer and length of the headers
-    // are those of another slice, which is borrowed for the call.
-    unsafe {
-        abi::kajurnat_request_get(
-            request.as_mut_ptr(),
-            request.len(),
-            member,
-            id,
-            which,
-            headers.as_ptr(),
-            headers.len(),
-        )
-    }
-}
-
-/// Builds a parts set.
-#[must_use]
-pub fn request_set(request: &mut [u8], member: u64, id: u32, list: &[u8]) -> usize {
-    // SAFETY: as in `request_get`.
-    unsafe {
-        abi::kajurnat_request_set(
-            request.as_mut_ptr(),
-            request.len(),
-            member,
-            id,
-            list.as_ptr(),
-            list.len(),
-        )
-    }
-}
-
-/// Builds a mode set.
-#[must_use]
-pub fn request_mode(request: &mut [u8], member: u64, mode: u8) -> usize {
-    // SAFETY: as in `request_list_query`.
-    unsafe { abi::kajurnat_request_mode(request.as_mut_ptr(), request.len(), member, mode) }
-}
-
-/// Reads a reply as the answer to a command; `what` is the type byte of a
-/// parts metadata, and is not read for another opcode.
-///
-/// Answers 0 and writes the status and the qualifier to act on, and both as
-/// they were sent; the result is the reply from byte 8. Answers 1, with
-/// nothing written, if the reply is under 8 bytes or of the wrong length for
-/// its command and status, or the opcode is none of the ten.
-#[must_use]
-pub fn reply_read(
-    opcode: u16,
-    what: u8,
-    reply: &[u8],
-    status: &mut u16,
-    qualifier: &mut u16,
-    sent_status: &mut u16,
-    sent_qualifier: &mut u16,
-) -> u8 {
-    // SAFETY: pointer and length are those of one slice, and the other
-    // pointers those of one number each; all are borrowed for the call (the
-    // numbers mutably, so they overlap no other).
-    unsafe {
-        abi::kajurnat_reply_read(
-            opcode,
-            what,
-            reply.as_ptr(),
-            reply.len(),
-            status,
-            qualifier,
-            sent_status,
-            sent_qualifier,
-        )
-    }
 }

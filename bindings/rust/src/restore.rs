@@ -17,7 +17,7 @@ use core::mem;
 ///
 /// ```
 /// # use kajurnat::{Card, Kind, Opcode, PartType, Request, Setup};
-/// # let setup = Setup { members: 2, queues: 1, gets: 1, sets: 1, features: [0; 16] };
+/// # let setup = Setup::alike(2, 1, 1, 1, [0; 16]);
 /// # let mut card = Card::new(&setup)?;
 /// # card.send(Request::list_use(Opcode::SUPPORTED))?;
 /// # card.send(Request::create(1, 0, Kind::Get))?;

@@ -1,5 +1,8 @@
 //! The setup of a card.
 
+use crate::raw;
+use alloc::vec;
+use alloc::vec::Vec;
 use core::fmt;
 use core::ops::RangeInclusive;
 
@@ -10,19 +13,32 @@ use core::ops::RangeInclusive;
 /// ```
 /// use kajurnat::{Card, Setup, SetupError};
 ///
-/// let setup = Setup { members: 16, queues: 4, gets: 8, sets: 8, features: [0; 16] };
+/// let setup = Setup::alike(16, 4, 8, 8, [0; 16]);
 /// assert_eq!(Card::new(&setup)?.setup(), setup);
 ///
 /// let refused = Card::new(&Setup { members: 17, ..setup });
 /// assert_eq!(refused, Err(SetupError::Members(17)));
 /// # Ok::<(), SetupError>(())
 /// ```
+///
+/// It may be kept as bytes, which outlive a release:
+///
+/// ```
+/// # use kajurnat::{Setup, SetupError};
+/// let setup = Setup::alike(2, 1, 1, 1, [0; 16]);
+/// let kept = setup.to_bytes()?;
+/// assert_eq!(kept[..3], [0x11, 0x04, 0x40]);
+/// assert_eq!(Setup::from_bytes(&kept), Ok(setup));
+/// # Ok::<(), SetupError>(())
+/// ```
 #[derive(Clone, Copy, Debug, PartialEq, Eq)]
 pub struct Setup {
     /// The number of members, 1 to 16. They are numbered from 1.
     pub members: u8,
-    /// The number of queues of each member, 1 to 4. They are numbered from 0.
-    pub queues: u8,
+    /// The number of queues of each member, 1 to 4, from member 1. Queues are
+    /// numbered from 0. Those past the last member are not read, and 0 in the
+    /// setup of a card.
+    pub queues: [u8; 16],
     /// How many get objects each member has room for, 0 to 8.
     pub gets: u8,
     /// How many set objects each member has room for, 0 to 8.
@@ -31,6 +47,13 @@ pub struct Setup {
     pub features: [u8; 16],
 }
 
+/// The length of a card's header.
+const HEADER: usize = 27;
+/// The length of a member's record.
+const RECORD: usize = 1266;
+/// Where the number of queues stands in a record.
+const QUEUES: usize = 2;
+
 impl Setup {
     /// How many members a card may have.
     pub const MEMBERS: RangeInclusive<u8> = 1..=16;
@@ -38,30 +61,115 @@ impl Setup {
     pub const QUEUES: RangeInclusive<u8> = 1..=4;
     /// How many get objects, and how many set objects, each member may have.
     pub const OBJECTS: RangeInclusive<u8> = 0..=8;
+    /// The longest setup as bytes.
+    pub const BYTES_MAX: usize = 23;
+
+    /// A setup whose members all have as many queues.
+    #[must_use]
+    pub const fn alike(members: u8, queues: u8, gets: u8, sets: u8, features: [u8; 16]) -> Self {
+        let mut counts = [0; 16];
+        let mut member = 0;
+        while member < members && member < 16 {
+            counts[member as usize] = queues;
+            member += 1;
+        }
+        Self { members, queues: counts, gets, sets, features }
+    }
 
     /// The exact length of a card of this setup, also as a constant for the
     /// sizes of arrays.
     #[must_use]
     pub const fn card_bytes(&self) -> usize {
-        28 + 1265 * self.members as usize
+        HEADER + RECORD * self.members as usize
     }
 
-    /// The setup that the head of a sound card holds: the four numbers, one
-    /// byte each, and the features.
+    /// The bytes of the setup: version 1 if all members have as many queues,
+    /// else version 2.
+    ///
+    /// # Errors
+    ///
+    /// [`SetupError`] names the first number that is out of range.
+    pub fn to_bytes(&self) -> Result<Vec<u8>, SetupError> {
+        let mut bytes = vec![0; Self::BYTES_MAX];
+        let written = raw::setup_write(
+            &mut bytes,
+            self.members.into(),
+            self.counts(),
+            self.gets.into(),
+            self.sets.into(),
+            &self.features,
+        );
+        bytes.truncate(written);
+        match written {
+            0 => Err(SetupError::cause(self, self.card_bytes())),
+            _ => Ok(bytes),
+        }
+    }
+
+    /// The setup that these bytes are, of either version.
+    ///
+    /// # Errors
+    ///
+    /// [`BadSetup::Refused`] if they are none.
+    pub fn from_bytes(bytes: &[u8]) -> Result<Self, BadSetup> {
+        Self::read(bytes, raw::setup_read)
+    }
+
+    /// The same for a program that knows version 1 alone: all members have as
+    /// many queues.
+    ///
+    /// # Errors
+    ///
+    /// [`BadSetup::Version2`] if the bytes are of version 2, before all else,
+    /// and [`BadSetup::Refused`] if they are no setup.
+    pub fn from_bytes_v1(bytes: &[u8]) -> Result<Self, BadSetup> {
+        Self::read(bytes, raw::setup_read_v1)
+    }
+
+    /// Reads bytes by one of the archive's readers.
+    fn read(bytes: &[u8], read: Reader) -> Result<Self, BadSetup> {
+        let mut setup = Self::alike(0, 0, 0, 0, [0; 16]);
+        let Self { members, queues, gets, sets, features } = &mut setup;
+        match read(bytes, members, queues, gets, sets, features) {
+            0 => Ok(setup),
+            1 => Err(BadSetup::Version2),
+            _ => Err(BadSetup::Refused),
+        }
+    }
+
+    /// The numbers of queues of the members that there are.
+    pub(crate) fn counts(&self) -> &[u8] {
+        self.queues.get(..self.members.into()).unwrap_or(&self.queues)
+    }
+
+    /// The setup that a sound card holds: three numbers, one byte each, and the
+    /// features in its head, and a number of queues in each record.
     pub(crate) fn of_card(card: &[u8]) -> Self {
+        let mut queues = [0; 16];
+        for (count, record) in queues.iter_mut().zip(card[HEADER..].chunks_exact(RECORD)) {
+            *count = record[QUEUES];
+        }
         let mut features = [0; 16];
-        features.copy_from_slice(&card[4..20]);
-        Self { members: card[0], queues: card[1], gets: card[2], sets: card[3], features }
+        features.copy_from_slice(&card[3..19]);
+        Self { members: card[0], queues, gets: card[1], sets: card[2], features }
     }
 }
+
+/// A reader of setups.
+type Reader = fn(&[u8], &mut u8, &mut [u8], &mut u8, &mut u8, &mut [u8]) -> u8;
 
 /// Why no card is made: the first cause in the order written here.
 #[derive(Clone, Copy, Debug, PartialEq, Eq)]
 pub enum SetupError {
     /// The number of members is not in [`Setup::MEMBERS`].
     Members(u8),
-    /// The number of queues is not in [`Setup::QUEUES`].
-    Queues(u8),
+    /// The number of queues of a member is not in [`Setup::QUEUES`].
+    Queues {
+        /// The first such member.
+        member: u8,
+        /// Its number of queues.
+        queues: u8,
+    },
     /// The number of get objects is not in [`Setup::OBJECTS`].
     Gets(u8),
     /// The number of set objects is not in [`Setup::OBJECTS`].
@@ -78,10 +186,11 @@ pub enum SetupError {
 impl SetupError {
     /// Why the archive refuses this setup in memory of this length.
     pub(crate) fn cause(setup: &Setup, memory: usize) -> Self {
+        let bad_queues = |(_, queues): &(u8, &u8)| !Setup::QUEUES.contains(queues);
         if !Setup::MEMBERS.contains(&setup.members) {
             Self::Members(setup.members)
-        } else if !Setup::QUEUES.contains(&setup.queues) {
-            Self::Queues(setup.queues)
+        } else if let Some((member, queues)) = (1..).zip(setup.counts()).find(bad_queues) {
+            Self::Queues { member, queues: *queues }
         } else if !Setup::OBJECTS.contains(&setup.gets) {
             Self::Gets(setup.gets)
         } else if !Setup::OBJECTS.contains(&setup.sets) {
@@ -96,7 +205,7 @@ impl fmt::Display for SetupError {
     fn fmt(&self, f: &mut fmt::Formatter<'_>) -> fmt::Result {
         let (number, what, range) = match *self {
             Self::Members(number) => (number, "members", Setup::MEMBERS),
-            Self::Queues(number) => (number, "queues", Setup::QUEUES),
+            Self::Queues { queues, .. } => (queues, "queues", Setup::QUEUES),
             Self::Gets(number) => (number, "get objects", Setup::OBJECTS),
             Self::Sets(number) => (number, "set objects", Setup::OBJECTS),
             Self::Length { memory, card } => {
@@ -104,11 +213,32 @@ impl fmt::Display for SetupError {
             }
         };
         let (least, most) = range.into_inner();
-        write!(f, "{number} {what}: a setup has {least} to {most}")
+        let who = if let Self::Queues { .. } = self { "member" } else { "setup" };
+        write!(f, "{number} {what}: a {who} has {least} to {most}")
     }
 }
 
 impl core::error::Error for SetupError {}
+
+/// Bytes are not read as a setup.
+#[derive(Clone, Copy, Debug, PartialEq, Eq)]
+pub enum BadSetup {
+    /// They are of version 2, which [`Setup::from_bytes_v1`] does not read.
+    Version2,
+    /// They are no setup.
+    Refused,
+}
+
+impl fmt::Display for BadSetup {
+    fn fmt(&self, f: &mut fmt::Formatter<'_>) -> fmt::Result {
+        f.write_str(match self {
+            Self::Version2 => "the setup is of version 2, and version 1 is read",
+            Self::Refused => "the bytes are no setup",
+        })
+    }
+}
+
+impl core::error::Error for BadSetup {}
 
 #[cfg(test)]
 mod tests {
@@ -118,6 +248,8 @@ mod tests {
     #[test]
     fn an_error_says_what_would_do() {
         assert_eq!(SetupError::Members(17).to_string(), "17 members: a setup has 1 to 16");
+        let error = SetupError::Queues { member: 3, queues: 5 };
+        assert_eq!(error.to_string(), "5 queues: a member has 1 to 4");
         let error = SetupError::Length { memory: 100, card: 1293 };
         assert_eq!(error.to_string(), "100 bytes of memory: a card of this setup has 1293");
     }

@@ -20,7 +20,7 @@ fn a_card_of_any_setup_is_sound_and_tells_it() {
         for queues in Setup::QUEUES {
             for gets in Setup::OBJECTS {
                 for sets in Setup::OBJECTS {
-                    let setup = Setup { members, queues, gets, sets, features };
+                    let setup = Setup::alike(members, queues, gets, sets, features);
                     let card = Card::new(&setup).unwrap();
                     assert_eq!(card.setup(), setup);
                     assert!(Card::from_bytes(card.as_bytes()).is_ok());
@@ -42,14 +42,14 @@ fn a_card_in_use_tells_its_setup() {
 #[test]
 fn the_first_number_out_of_range_is_named() {
     let error = |members, queues, gets, sets| {
-        let setup = Setup { members, queues, gets, sets, features: [0; 16] };
+        let setup = Setup::alike(members, queues, gets, sets, [0; 16]);
         Card::new(&setup).unwrap_err()
     };
     assert_eq!(error(0, 1, 0, 0), SetupError::Members(0));
     assert_eq!(error(17, 5, 9, 9), SetupError::Members(17));
     assert_eq!(error(255, 1, 0, 0), SetupError::Members(255));
-    assert_eq!(error(1, 0, 0, 0), SetupError::Queues(0));
-    assert_eq!(error(1, 5, 9, 9), SetupError::Queues(5));
+    assert_eq!(error(1, 0, 0, 0), SetupError::Queues { member: 1, queues: 0 });
+    assert_eq!(error(1, 5, 9, 9), SetupError::Queues { member: 1, queues: 5 });
     assert_eq!(error(1, 1, 9, 9), SetupError::Gets(9));
     assert_eq!(error(1, 1, 8, 9), SetupError::Sets(9));
 }
@@ -132,7 +132,7 @@ fn a_reply_buffer_may_be_as_long_as_the_reply() {
 
 #[test]
 fn the_longest_reply_is_a_capture_of_four_queues() {
-    let setup = Setup { queues: 4, ..SETUP };
+    let setup = Setup { queues: [4; 16], ..SETUP };
     let mut card = Card::new(&setup).unwrap();
     use_all(&mut card).unwrap();
     card.send(Request::create(1, GET, Kind::Get)).unwrap();

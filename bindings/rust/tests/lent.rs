@@ -84,10 +84,10 @@ fn memory_has_the_length_of_the_card() {
 
 #[test]
 fn a_refused_setup_leaves_zeros() {
-    let setup = Setup { queues: 5, ..SETUP };
+    let setup = Setup { queues: [5; 16], ..SETUP };
     let mut memory = ready_card().into_bytes();
     let error = Card::new_in(&setup, &mut memory[..]).unwrap_err();
-    assert_eq!(error, SetupError::Queues(5));
+    assert_eq!(error, SetupError::Queues { member: 1, queues: 5 });
     assert!(memory.iter().all(|&byte| byte == 0));
 }
 

@@ -5,13 +5,13 @@ use kajurnat::{raw, Setup};
 /// A sound card with two members.
 fn sound_card() -> Vec<u8> {
     let mut card = vec![0; raw::card_bytes(2)];
-    assert_eq!(raw::setup(&mut card, 2, 1, 1, 1, &[3; 16]), 0);
+    assert_eq!(raw::setup(&mut card, 2, &[1, 1], 1, 1, &[3; 16]), 0);
     card
 }
 
 #[test]
-fn the_bindings_are_for_version_4() {
-    assert_eq!(raw::version(), 4);
+fn the_bindings_are_for_version_5() {
+    assert_eq!(raw::version(), 5);
 }
 
 #[test]
@@ -27,9 +27,9 @@ fn a_sound_card_is_told_from_other_bytes() {
 #[test]
 fn card_bytes_grow_by_one_record_a_member() {
     for members in Setup::MEMBERS {
-        let setup = Setup { members, queues: 1, gets: 0, sets: 0, features: [0; 16] };
+        let setup = Setup::alike(members, 1, 0, 0, [0; 16]);
         assert_eq!(raw::card_bytes(members.into()), setup.card_bytes());
-        assert_eq!(setup.card_bytes(), 28 + 1265 * usize::from(members));
+        assert_eq!(setup.card_bytes(), 27 + 1266 * usize::from(members));
     }
     for members in [0, 17, (1 << 32) + 1, u64::MAX] {
         assert_eq!(raw::card_bytes(members), 0);
@@ -40,31 +40,39 @@ fn card_bytes_grow_by_one_record_a_member() {
 fn a_refused_setup_leaves_zeros() {
     let length = raw::card_bytes(2);
     let features = [3; 16];
-    let refused = |length: usize, numbers: [u64; 4], features: &[u8]| {
-        let [members, queues, gets, sets] = numbers;
+    let refused = |length: usize, numbers: [u64; 3], queues: &[u8], features: &[u8]| {
+        let [members, gets, sets] = numbers;
         let mut card = vec![0xee; length];
         let answer = raw::setup(&mut card, members, queues, gets, sets, features);
         assert_eq!(answer, 4);
         assert!(card.iter().all(|&byte| byte == 0));
+        let mut setup = [0xee; 23];
+        let written = raw::setup_write(&mut setup, members, queues, gets, sets, features);
+        assert!(written == 0 && setup == [0xee; 23] || length != raw::card_bytes(2));
     };
-    refused(length, [0, 1, 1, 1], &features);
-    refused(length, [17, 1, 1, 1], &features);
-    refused(length, [(1 << 32) + 2, 1, 1, 1], &features);
-    refused(length, [2, 0, 1, 1], &features);
-    refused(length, [2, 5, 1, 1], &features);
-    refused(length, [2, 1, 9, 1], &features);
-    refused(length, [2, 1, 1, u64::MAX], &features);
-    refused(length, [2, 1, 1, 1], &[]);
-    refused(length, [2, 1, 1, 1], &[3; 15]);
-    refused(length, [2, 1, 1, 1], &[3; 17]);
-    refused(length - 1, [2, 1, 1, 1], &features);
-    refused(length + 1, [2, 1, 1, 1], &features);
-    refused(0, [2, 1, 1, 1], &features);
+    refused(length, [0, 1, 1], &[], &features);
+    refused(length, [17, 1, 1], &[1; 17], &features);
+    refused(length, [(1 << 32) + 2, 1, 1], &[1; 2], &features);
+    refused(length, [2, 1, 1], &[1, 0], &features);
+    refused(length, [2, 1, 1], &[5, 1], &features);
+    refused(length, [2, 1, 1], &[1], &features);
+    refused(length, [2, 1, 1], &[1; 3], &features);
+    refused(length, [2, 9, 1], &[1; 2], &features);
+    refused(length, [2, 1, u64::MAX], &[1; 2], &features);
+    refused(length, [2, 1, 1], &[1; 2], &[]);
+    refused(length, [2, 1, 1], &[1; 2], &[3; 15]);
+    refused(length, [2, 1, 1], &[1; 2], &[3; 17]);
+    refused(length - 1, [2, 1, 1], &[1; 2], &features);
+    refused(length + 1, [2, 1, 1], &[1; 2], &features);
+    refused(0, [2, 1, 1], &[1; 2], &features);
+    let mut card = vec![0xee; length];
+    assert_eq!(raw::setup_from(&mut card, &[0x11; 19]), 4);
+    assert!(card.iter().all(|&byte| byte == 0));
 }
 
 #[test]
 fn a_card_that_is_not_sound_is_refused() {
-    for mut card in [vec![], vec![0; 28], vec![0xff; raw::card_bytes(2)]] {
+    for mut card in [vec![], vec![0; 27], vec![0xff; raw::card_bytes(2)]] {
         let before = card.clone();
         let mut reply = [0xee; 16];
         assert_eq!(raw::command(&mut card, &[0; 24], &mut reply), 0);

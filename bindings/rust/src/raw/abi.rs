@@ -12,10 +12,54 @@ extern "C" {
         card: *mut u8,
         card_len: usize,
         members: u64,
-        queues: u64,
+        queues: *const u8,
+        queues_len: usize,
         gets: u64,
         sets: u64,
         features: *const u8,
+        features_len: usize,
+    ) -> u8;
+
+    pub fn kajurnat_setup_from(
+        card: *mut u8,
+        card_len: usize,
+        setup: *const u8,
+        setup_len: usize,
+    ) -> u8;
+
+    pub fn kajurnat_setup_write(
+        setup: *mut u8,
+        setup_len: usize,
+        members: u64,
+        queues: *const u8,
+        queues_len: usize,
+        gets: u64,
+        sets: u64,
+        features: *const u8,
+        features_len: usize,
+    ) -> usize;
+
+    pub fn kajurnat_setup_read(
+        setup: *const u8,
+        setup_len: usize,
+        members: *mut u8,
+        queues: *mut u8,
+        queues_len: usize,
+        gets: *mut u8,
+        sets: *mut u8,
+        features: *mut u8,
+        features_len: usize,
+    ) -> u8;
+
+    pub fn kajurnat_setup_read_v1(
+        setup: *const u8,
+        setup_len: usize,
+        members: *mut u8,
+        queues: *mut u8,
+        queues_len: usize,
+        gets: *mut u8,
+        sets: *mut u8,
+        features: *mut u8,
         features_len: usize,
     ) -> u8;
 

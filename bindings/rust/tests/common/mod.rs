@@ -10,7 +10,7 @@ pub const GET: u32 = 0;
 pub const SET: u32 = 1;
 
 /// Two members, one queue, one get and one set object, no device features.
-pub const SETUP: Setup = Setup { members: 2, queues: 1, gets: 1, sets: 1, features: [0; 16] };
+pub const SETUP: Setup = Setup::alike(2, 1, 1, 1, [0; 16]);
 
 /// The value of a queue of size 128.
 pub const QUEUE: [u8; 32] = {

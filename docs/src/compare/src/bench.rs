@@ -59,8 +59,8 @@ pub fn contestants(card: &Card) -> [Contestant; 3] {
 /// first half get objects, and random parts.
 pub fn full_card() -> Card {
     let mut random = Random::new(1, 0);
-    let setup = Setup::new(MEMBERS, QUEUES.into(), 8, 8, [3; 16]).expect("it is in range");
-    let mut card = Card::new(setup);
+    let setup = Setup::alike(MEMBERS, QUEUES, 8, 8, [3; 16]).expect("it is in range");
+    let mut card = Card::new(&setup);
     card.in_use = SUPPORTED;
     for member in &mut card.members {
         fill(&mut random, member);

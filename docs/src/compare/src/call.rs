@@ -14,8 +14,10 @@ use crate::show::{CardBytes, Hex};
 pub enum Call {
     /// The length of a card with so many members.
     CardBytes(u64),
-    /// Setup in a buffer.
-    Setup { numbers: [u64; 4], features: Buffer, card: Room },
+    /// Setup in a buffer; the numbers are N, G and S.
+    Setup { numbers: [u64; 3], queues: Buffer, features: Buffer, card: Room },
+    /// Setup from its bytes in a buffer.
+    SetupFrom { setup: Buffer, card: Room },
     /// These bytes become the card.
     Card(Buffer),
     /// A command with a reply buffer.
@@ -42,11 +44,20 @@ pub enum Call {
     Build { fields: Fields, list: Buffer, room: Room },
     /// A reply read as the answer to a command; `what` is a type byte.
     Read { opcode: u16, what: u8, reply: Buffer },
+    /// The bytes of a setup, written in a buffer.
+    WriteSetup { numbers: [u64; 3], queues: Buffer, features: Buffer, room: Room },
+    /// A setup read from its bytes, by the reader of version 1 or by that of
+    /// both; the lengths are those of the buffers for queues and features.
+    ReadSetup { first: bool, setup: Buffer, lengths: [usize; 2], place: Place },
 }
 
 /// The length of the four numbers that a reply is read into: status and
 /// qualifier to act on, and both as they were sent.
 pub const NUMBERS: usize = 8;
+
+/// The length of the three numbers that a setup is read into, ahead of queues and
+/// features.
+pub const COUNTS: usize = 3;
 
 impl Call {
     /// The buffer that is written besides the card: reply, request, or the
@@ -56,21 +67,30 @@ impl Call {
             Call::Command { room, .. } | Call::Message { room, .. } => *room,
             Call::Build { room, .. } => *room,
             Call::Read { .. } => NUMBERS.into(),
+            Call::WriteSetup { room, .. } => *room,
+            Call::ReadSetup { lengths: [queues, features], place, .. } => {
+                Room { length: COUNTS + queues + features, place: *place }
+            }
             _ => 0.into(),
         }
     }
 
     /// The bytes that the call only reads, and what they are.
-    pub fn input(&self) -> Option<(&'static str, &Buffer)> {
+    pub fn inputs(&self) -> Vec<(&'static str, &Buffer)> {
         match self {
-            Call::Setup { features, .. } => Some(("features", features)),
-            Call::Command { request, .. } => Some(("request", request)),
-            Call::Message { message, .. } => Some(("message", message)),
-            Call::Store { value, .. } => Some(("value", value)),
-            Call::Feed { fragment, .. } => Some(("fragment", fragment)),
-            Call::Build { list, .. } => Some(("list", list)),
-            Call::Read { reply, .. } => Some(("reply", reply)),
-            _ => None,
+            Call::Setup { queues, features, .. } | Call::WriteSetup { queues, features, .. } => {
+                vec![("queues", queues), ("features", features)]
+            }
+            Call::SetupFrom { setup, .. } | Call::ReadSetup { setup, .. } => {
+                vec![("setup", setup)]
+            }
+            Call::Command { request, .. } => vec![("request", request)],
+            Call::Message { message, .. } => vec![("message", message)],
+            Call::Store { value, .. } => vec![("value", value)],
+            Call::Feed { fragment, .. } => vec![("fragment", fragment)],
+            Call::Build { list, .. } => vec![("list", list)],
+            Call::Read { reply, .. } => vec![("reply", reply)],
+            _ => vec![],
         }
     }
 
@@ -102,9 +122,16 @@ impl Call {
     pub fn at_usual_places(&self) -> Call {
         let mut call = self.clone();
         match &mut call {
-            Call::Setup { features, card, .. } => {
+            Call::Setup { queues, features, card: room, .. }
+            | Call::WriteSetup { queues, features, room, .. } => {
+                queues.place = Place::USUAL;
                 features.place = Place::USUAL;
-                card.place = Place::USUAL;
+                room.place = Place::USUAL;
+            }
+            Call::SetupFrom { setup, card: Room { place, .. } }
+            | Call::ReadSetup { setup, place, .. } => {
+                setup.place = Place::USUAL;
+                *place = Place::USUAL;
             }
             Call::Card(bytes) => bytes.place = Place::USUAL,
             Call::Command { request: sent, room } | Call::Message { message: sent, room } => {
@@ -152,9 +179,12 @@ impl fmt::Display for Call {
     fn fmt(&self, f: &mut fmt::Formatter) -> fmt::Result {
         match self {
             Call::CardBytes(members) => write!(f, "length of a card with {members} members"),
-            Call::Setup { numbers: [n, q, g, s], features, card } => {
-                write!(f, "setup N={n} Q={q} G={g} S={s}, features {features}")?;
+            Call::Setup { numbers: [n, g, s], queues, features, card } => {
+                write!(f, "setup N={n} G={g} S={s}, queues {queues}, features {features}")?;
                 write!(f, ", in a buffer of {card}")
+            }
+            Call::SetupFrom { setup, card } => {
+                write!(f, "setup from {} bytes: {setup}, in a buffer of {card}", setup.len())
             }
             Call::Card(bytes) => write!(f, "{}{}", CardBytes(bytes), bytes.place),
             Call::Command { request, room } => {
@@ -189,6 +219,15 @@ impl fmt::Display for Call {
             Call::Read { opcode, what, reply } => {
                 write!(f, "reply to opcode {opcode:#x}, type byte {what}, to read")?;
                 write!(f, ", of {} bytes: {reply}", reply.len())
+            }
+            Call::WriteSetup { numbers: [n, g, s], queues, features, room } => {
+                write!(f, "setup to write: N={n} G={g} S={s}, queues {queues}")?;
+                write!(f, ", features {features}, in a buffer of {room}")
+            }
+            Call::ReadSetup { first, setup, lengths: [queues, features], place } => {
+                let reader = if *first { "version 1" } else { "both versions" };
+                write!(f, "setup to read by the reader of {reader}, of {} bytes", setup.len())?;
+                write!(f, ": {setup}, in buffers of {queues} and {features}{place}")
             }
         }
     }

@@ -40,7 +40,10 @@ const EVENTS: [&str; 6] =
 const MESSAGES: [&str; 3] = ["message: read", "message: write", "other messages"];
 /// What becomes of a message.
 const RESPONSES: [&str; 3] = ["none", "length 0", "data"];
-const HOST: [&str; 2] = ["request built", "reply read"];
+const HOST: [&str; 3] = ["request built", "reply read", "setup written"];
+const READERS: [&str; 2] = ["setup, version 1", "setup, both"];
+/// What the readers of setups answer.
+const READ_ANSWERS: [&str; 3] = ["1", "2", "0"];
 
 /// How often a kind of call was answered in one way.
 #[derive(Default)]
@@ -53,7 +56,7 @@ impl Coverage {
         let (kind, answer) = match call {
             Call::CardBytes(_) | Call::Card(_) => return,
             Call::Command { request, .. } => (command(request), status(seen)),
-            Call::Setup { .. } => (EVENTS[0], seen.answer.to_string()),
+            Call::Setup { .. } | Call::SetupFrom { .. } => (EVENTS[0], seen.answer.to_string()),
             Call::Message { message, .. } => (message_kind(message), response(seen)),
             Call::HandBack(_) => (EVENTS[1], seen.answer.to_string()),
             Call::Wipe { .. } => (EVENTS[2], seen.answer.to_string()),
@@ -65,6 +68,10 @@ impl Coverage {
             Call::Drop(_) => (RESTORES[3], restore(seen)),
             Call::Build { .. } => (HOST[0], outcome(seen.answer != 0)),
             Call::Read { .. } => (HOST[1], outcome(seen.answer == 0)),
+            Call::WriteSetup { .. } => (HOST[2], outcome(seen.answer != 0)),
+            Call::ReadSetup { first, .. } => {
+                (READERS[usize::from(!first)], seen.answer.to_string())
+            }
         };
         self.count(kind, answer);
     }
@@ -148,6 +155,7 @@ impl fmt::Display for Coverage {
         self.table(f, &RESTORES, &RESTORE_ANSWERS)?;
         self.table(f, &EVENTS, &ANSWERS)?;
         self.table(f, &MESSAGES, &RESPONSES)?;
-        self.table(f, &HOST, &OUTCOMES)
+        self.table(f, &HOST, &OUTCOMES)?;
+        self.table(f, &READERS, &READ_ANSWERS)
     }
 }

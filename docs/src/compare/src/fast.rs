@@ -4,7 +4,9 @@
 //! plain card makes, soundness of the whole card included. All else is left to
 //! the plain card.
 
-use plain_card::bytes::{HEADER, HELD, MARK, MODE, OBJECTS, RECORD, VALUES};
+use plain_card::bytes::{
+    FEATURES, HEADER, HELD, IN_USE, MARK, MODE, OBJECTS, QUEUES, RECORD, VALUES,
+};
 use plain_card::exported;
 use plain_card::frame::{array_at, u16_at, u32_at, u64_at};
 use plain_card::holding::ROOM;
@@ -27,11 +29,11 @@ pub fn command(card: &mut [u8], request: &[u8], reply: &mut [u8]) -> usize {
 fn capture(card: &[u8], request: &[u8], reply: &mut [u8]) -> Option<usize> {
     let (header, records) = card.split_first_chunk::<HEADER>()?;
     let request: &[u8; REQUEST] = request.try_into().ok()?;
-    let [members, queues, gets, sets] = array_at(header, 0);
+    let [members, gets, sets] = array_at(header, 0);
     if !sound(header, records) || u16_at(request, 0) != Opcode::PartsGet as u16 {
         return None;
     }
-    let in_use = u64_at(header, 20) & Opcode::PartsGet.bit() != 0;
+    let in_use = u64_at(header, IN_USE) & Opcode::PartsGet.bit() != 0;
     let member = u64_at(request, 16);
     let id = u32_at(request, 28);
     let good = in_use
@@ -47,7 +49,7 @@ fn capture(card: &[u8], request: &[u8], reply: &mut [u8]) -> Option<usize> {
     if record[OBJECTS + id as usize] != 1 {
         return None;
     }
-    match queues {
+    match record[QUEUES] {
         1 => write::<1>(record, reply),
         2 => write::<2>(record, reply),
         3 => write::<3>(record, reply),
@@ -57,25 +59,16 @@ fn capture(card: &[u8], request: &[u8], reply: &mut [u8]) -> Option<usize> {
 
 /// Soundness of the whole card.
 fn sound(header: &[u8; HEADER], records: &[u8]) -> bool {
-    let [members, queues, gets, sets] = array_at(header, 0);
+    let [members, gets, sets] = array_at(header, 0);
     let setup = (members.wrapping_sub(1) < 16)
-        & (queues.wrapping_sub(1) < 4)
         & (gets <= 8)
         & (sets <= 8)
-        & (u64_at(header, 20) & !SUPPORTED == 0);
-    if !setup || records.len() != RECORD * usize::from(members) {
+        & (u64_at(header, IN_USE) & !SUPPORTED == 0);
+    let long = records.len() == RECORD * usize::from(members);
+    if !(setup && long && rings(records)) {
         return false;
     }
-    let no_rings = match queues {
-        1 => no_rings::<1>(records),
-        2 => no_rings::<2>(records),
-        3 => no_rings::<3>(records),
-        _ => no_rings::<4>(records),
-    };
-    if no_rings {
-        return false;
-    }
-    let features: [u8; 16] = array_at(header, 4);
+    let features: [u8; 16] = array_at(header, FEATURES);
     let ids = usize::from(gets + sets);
     records.chunks_exact(RECORD).all(|record| {
         let objects: [u8; 16] = array_at(record, OBJECTS);
@@ -101,13 +94,29 @@ fn let_go(record: &[u8]) -> bool {
 /// Where size and enabled field stand in the first eight bytes of a queue.
 const SIZE_AND_ENABLED: u64 = 0xffff_0000_ffff;
 
-/// Whether one of the Q queues of a record has a size that no ring has. This
-/// pass of its own has no exit before its end.
-fn no_rings<const Q: usize>(records: &[u8]) -> bool {
-    let bad = records.chunks_exact(RECORD).fold(0, |bad, record| {
-        (0..Q).fold(bad, |bad, queue| bad | no_ring(u64_at(record, VALUES + 45 + 32 * queue)))
+/// Whether every record has 1 to 4 queues, of sizes that rings have: at once if
+/// all have as many as the first, else one record after the other.
+fn rings(records: &[u8]) -> bool {
+    let alike = match records[QUEUES] {
+        1 => rings_of::<1>(records),
+        2 => rings_of::<2>(records),
+        3 => rings_of::<3>(records),
+        4 => rings_of::<4>(records),
+        _ => return false,
+    };
+    let single = records.len() == RECORD;
+    alike || !single && records.chunks_exact(RECORD).all(rings)
+}
+
+/// Whether every record has Q queues, of such sizes. There is no exit before the
+/// end.
+fn rings_of<const Q: usize>(records: &[u8]) -> bool {
+    let (bad, other) = records.chunks_exact(RECORD).fold((0, 0), |(bad, other), record| {
+        let sizes =
+            (0..Q).fold(bad, |bad, queue| bad | no_ring(u64_at(record, VALUES + 45 + 32 * queue)));
+        (sizes, other | record[QUEUES] ^ Q as u8)
     });
-    bad & SIZE_AND_ENABLED != 0
+    (bad & SIZE_AND_ENABLED == 0) & (other == 0)
 }
 
 /// Of these two fields, bits that are set if the size has two bits or more, or

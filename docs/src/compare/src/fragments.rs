@@ -48,7 +48,7 @@ impl Trial for Fragments {
             record.mode = Mode::Stopped;
         }
         let id = draw::set_id(random, &card, member);
-        let list = draw::list_to_restore(random, &card);
+        let list = draw::list_to_restore(random, &card, member);
         let cuts = [(); 2].map(|()| cuts(random, list.len()));
         Fragments { card, member, id, list, cuts }
     }

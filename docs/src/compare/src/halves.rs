@@ -88,10 +88,11 @@ impl Halves {
 
 /// A list that a request has room for.
 fn list(random: &mut Random, card: &Card, fields: Fields) -> Vec<u8> {
+    let queues = card.member(fields.member).queues;
     loop {
         let list = match fields.opcode {
-            Opcode::PartsGet if fields.byte == 0 => draw::asked(random, card),
-            Opcode::PartsSet => draw::given(random, card),
+            Opcode::PartsGet if fields.byte == 0 => draw::asked(random, queues),
+            Opcode::PartsSet => draw::given(random, card, queues),
             _ => vec![],
         };
         if list.len() <= LONGEST - DATA - fields.opcode.fixed_length() {

@@ -1,6 +1,7 @@
 //! Demand 3, tried on random pairs of sequences.
 //!
-//! Two sound cards differ in member m's record at most, and not in its mark. A
+//! Two sound cards differ in member m's record at most, and not in its mark and its
+//! number of queues. A
 //! wipe of m that answers 0, or a reset of the whole card, is its reset. Up to
 //! that the two sequences are the same but for calls that name m, which hand
 //! backs and wipes do not; from the reset on they are the same. The calls before
@@ -9,6 +10,7 @@
 
 use std::fmt;
 
+use plain_card::member::Member;
 use plain_card::{bytes, Card};
 
 use crate::call::Call;
@@ -45,8 +47,8 @@ impl Trial for Pair {
         let [member, other_member] = [(); 2].map(|()| 1 + random.below(card.members.len()) as u64);
         let favoured = Favoured::members(member, other_member);
         let mut other = card.clone();
-        let marked = card.member(member).marked;
-        *other.member_mut(member) = draw::record(random, &card.setup, marked);
+        let Member { queues, marked, .. } = *card.member(member);
+        *other.member_mut(member) = draw::record(random, &card.setup, queues, marked);
         let (left, right) = (card.clone(), other.clone());
         let mut cards = [card, other];
         let mut before: Vec<Turn> = (0..random.below(40))

@@ -1,8 +1,8 @@
 //! The round trip of demand 2, tried on random cards.
 //!
 //! A full capture of one member, set in a stopped member of a sound card with
-//! the same setup, is accepted, and a capture there gives the same bytes. Neither
-//! is handed back.
+//! the same setup and with as many queues, is accepted, and a capture there gives
+//! the same bytes. Neither is handed back.
 
 use std::fmt;
 
@@ -39,11 +39,12 @@ impl Trial for RoundTrip {
         source.in_use |= Opcode::PartsGet.bit();
         let mut target = source.clone();
         target.in_use = source.in_use | Opcode::PartsSet.bit();
-        for record in &mut target.members {
-            *record = draw::other_record(random, &source.setup);
-        }
         let from = 1 + random.below(source.members.len()) as u64;
         let to = 1 + random.below(target.members.len()) as u64;
+        target.member_mut(to).queues = source.member(from).queues;
+        for record in &mut target.members {
+            *record = draw::other_record(random, &source.setup, record.queues);
+        }
         let source_get = live(random, &mut source, from, Kind::Get);
         let target_get = live(random, &mut target, to, Kind::Get);
         let target_set = live(random, &mut target, to, Kind::Set);

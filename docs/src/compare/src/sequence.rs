@@ -4,7 +4,7 @@
 use std::fmt;
 
 use plain_card::bytes::{
-    self, CONFIGURATION, GENERATION, HEADER, HELD, HOLDING, MARK, OBJECTS, RECORD, VALUES,
+    self, CONFIGURATION, GENERATION, HEADER, HELD, HOLDING, MARK, OBJECTS, QUEUES, RECORD, VALUES,
 };
 use plain_card::Card;
 
@@ -196,6 +196,7 @@ fn place(at: usize) -> String {
         at @ VALUES.. => format!(" (value byte {} of member {member})", at - VALUES),
         HELD.. => format!(" (length held for member {member})"),
         at @ OBJECTS.. => format!(" (object {} of member {member})", at - OBJECTS),
+        QUEUES.. => format!(" (number of queues of member {member})"),
         MARK.. => format!(" (mark of member {member})"),
         _ => format!(" (mode of member {member})"),
     }

@@ -7,6 +7,7 @@ use plain_card::configuration::Configuration;
 use plain_card::holding::Holding;
 use plain_card::member::{Member, Mode};
 use plain_card::part::{inventory, MAX_QUEUES};
+use plain_card::setup::Common;
 use plain_card::{Card, Setup};
 
 /// Bytes in hexadecimal, with long runs of one byte shortened.
@@ -38,13 +39,16 @@ impl fmt::Display for CardBytes<'_> {
 }
 
 fn sound_card(f: &mut fmt::Formatter, card: &Card) -> fmt::Result {
-    let Setup { members: n, queues: q, gets: g, sets: s, features } = &card.setup;
-    write!(f, "card N={n} Q={q} G={g} S={s}, features {}", Hex(features))?;
+    let Setup { common: Common { members: n, gets: g, sets: s, features }, queues } =
+        card.whole_setup();
+    write!(f, "card N={n} Q={queues:?} G={g} S={s}, features {}", Hex(&features))?;
     write!(f, ", in use {:#x}, fresh but for:", card.in_use)?;
-    let fresh = Member::fresh(&card.setup, 0);
-    for (member, record) in (1..).zip(&card.members).filter(|(_, record)| **record != fresh) {
-        write!(f, "\n    member {member}")?;
-        difference(f, record, &fresh)?;
+    for (member, record) in (1..).zip(&card.members) {
+        let fresh = Member::fresh(&card.setup, record.queues, 0);
+        if *record != fresh {
+            write!(f, "\n    member {member}")?;
+            difference(f, record, &fresh)?;
+        }
     }
     Ok(())
 }

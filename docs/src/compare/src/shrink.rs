@@ -28,8 +28,8 @@ pub fn shrink<T: Clone>(mut items: Vec<T>, shows: impl Fn(&[T]) -> bool) -> Vec<
 
 /// The card with as much of it fresh as still shows it.
 pub fn simplify(mut card: Card, shows: impl Fn(&Card) -> bool) -> Card {
-    let fresh = Member::fresh(&card.setup, 0);
     for member in 0..card.members.len() {
+        let fresh = Member::fresh(&card.setup, card.members[member].queues, 0);
         for change in changes(&card.members[member], &fresh) {
             let mut simpler = card.clone();
             change(&mut simpler.members[member]);

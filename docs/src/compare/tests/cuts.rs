@@ -14,7 +14,7 @@ const SET: u32 = 1;
 
 /// A card with member 2 stopped and its set object live.
 fn card() -> Card {
-    let mut card = Card::new(Setup::new(3, 4, 1, 1, [3; 16]).unwrap());
+    let mut card = Card::new(&Setup::alike(3, 4, 1, 1, [3; 16]).unwrap());
     card.in_use = SUPPORTED;
     card.member_mut(MEMBER).mode = Mode::Stopped;
     card.member_mut(MEMBER).objects.put(SET, Kind::Set);

@@ -17,9 +17,13 @@ impl Device for Fast {
         let card = &mut self.0;
         match call {
             Call::CardBytes(members) => exported::card_bytes(*members),
-            Call::Setup { numbers: [n, q, g, s], features, card: room } => {
+            Call::Setup { numbers: [n, g, s], queues, features, card: room } => {
                 card.resize(room.length, 0);
-                exported::setup(card, *n, *q, *g, *s, features).into()
+                exported::setup(card, *n, queues, *g, *s, features).into()
+            }
+            Call::SetupFrom { setup, card: room } => {
+                card.resize(room.length, 0);
+                exported::setup_from(card, setup).into()
             }
             Call::Card(bytes) => {
                 card.clone_from(&bytes.bytes);
@@ -39,10 +43,11 @@ impl Device for Fast {
             }
             Call::Finish { member, id } => exported::restore_finish(card, *member, *id) as usize,
             Call::Drop(member) => exported::restore_drop(card, *member) as usize,
-            // The host's half has no fast form.
-            Call::Build { .. } | Call::Read { .. } => {
-                Plain::default().hear(call, reply.bytes_mut())
-            }
+            // The host's half and setups as bytes have no fast form.
+            Call::Build { .. }
+            | Call::Read { .. }
+            | Call::WriteSetup { .. }
+            | Call::ReadSetup { .. } => Plain::default().hear(call, reply.bytes_mut()),
         }
     }
 

@@ -6,11 +6,11 @@ use kajurnat::raw;
 use plain_card::host::Request;
 use plain_card::object::Kind;
 use plain_card::opcode::SUPPORTED;
-use plain_card::{bytes, exported, Card, Setup};
+use plain_card::{bytes, exported, setups, Card, Setup};
 
 /// The bytes of a card with a get object and every command in use.
 fn card() -> Vec<u8> {
-    let mut card = Card::new(Setup::new(2, 4, 1, 1, [3; 16]).unwrap());
+    let mut card = Card::new(&Setup::alike(2, 4, 1, 1, [3; 16]).unwrap());
     card.in_use = SUPPORTED;
     card.members[0].objects.put(0, Kind::Get);
     bytes::write(&card)
@@ -124,10 +124,38 @@ fn features_have_a_wrong_length() {
     let mut huge = Huge::new();
     let features = huge.starting_with(&[7; 16]);
     let answer = same(
-        |card| raw::setup(card, 2, 4, 1, 1, features),
-        |card| exported::setup(card, 2, 4, 1, 1, features),
+        |card| raw::setup(card, 2, &[4, 4], 1, 1, features),
+        |card| exported::setup(card, 2, &[4, 4], 1, 1, features),
     );
     assert_eq!(answer, 4);
+}
+
+#[test]
+fn queues_have_a_wrong_length() {
+    let mut huge = Huge::new();
+    let queues = huge.starting_with(&[4, 4]);
+    let answer = same(
+        |card| raw::setup(card, 2, queues, 1, 1, &[3; 16]),
+        |card| exported::setup(card, 2, queues, 1, 1, &[3; 16]),
+    );
+    assert_eq!(answer, 4);
+    let mut buffer = [7; 23];
+    assert_eq!(raw::setup_write(&mut buffer, 2, queues, 1, 1, &[3; 16]), 0);
+    assert_eq!(buffer, [7; 23]);
+}
+
+#[test]
+fn a_packed_setup_is_too_long() {
+    let mut huge = Huge::new();
+    let setup = huge.starting_with(&setups::write(&Setup::alike(2, 4, 1, 1, [3; 16]).unwrap()));
+    let answer =
+        same(|card| raw::setup_from(card, setup), |card| exported::setup_from(card, setup));
+    assert_eq!(answer, 4);
+    for read in [raw::setup_read, raw::setup_read_v1] {
+        let ([mut n, mut g, mut s], mut queues, mut features) = ([7; 3], [7; 16], [7; 16]);
+        assert_eq!(read(setup, &mut n, &mut queues, &mut g, &mut s, &mut features), 2);
+        assert_eq!(([n, g, s], queues, features), ([7; 3], [7; 16], [7; 16]));
+    }
 }
 
 #[test]

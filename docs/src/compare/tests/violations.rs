@@ -24,7 +24,7 @@ fn difference(misuse: Misuse) -> Difference {
 
 fn read_behind_request(call: &Call, lending: &mut Lending) {
     if let Call::Command { request, .. } = call {
-        lending.input.read_beside(request.len() as isize);
+        lending.inputs[0].read_beside(request.len() as isize);
     }
 }
 
@@ -36,13 +36,13 @@ fn write_ahead_of_reply(call: &Call, lending: &mut Lending) {
 
 fn change_value(call: &Call, lending: &mut Lending) {
     if let Call::Store { .. } = call {
-        lending.input.bytes_mut().fill(0x55);
+        lending.inputs[0].bytes_mut().fill(0x55);
     }
 }
 
 fn change_fragment(call: &Call, lending: &mut Lending) {
     if let Call::Feed { .. } = call {
-        lending.input.bytes_mut().fill(0x55);
+        lending.inputs[0].bytes_mut().fill(0x55);
     }
 }
 
@@ -64,12 +64,10 @@ fn a_read_beside_the_request_is_shortened_to_one_command() {
 fn a_read_beside_the_card_keeps_the_card_where_it_shows() {
     let Difference { calls, what, .. } = difference(read_ahead_of_card);
     assert_eq!(what, "  a guard page beside the card was accessed\n");
-    let [Call::Card(_) | Call::Setup { .. }, Call::ResetCard(_)] = &calls[..] else {
-        panic!("{calls:?}")
-    };
+    let [_, Call::ResetCard(_)] = &calls[..] else { panic!("{calls:?}") };
     let place = match &calls[0] {
         Call::Card(bytes) => bytes.place,
-        Call::Setup { card, .. } => card.place,
+        Call::Setup { card, .. } | Call::SetupFrom { card, .. } => card.place,
         other => panic!("{other}"),
     };
     assert_eq!(place, Place::AfterPage);

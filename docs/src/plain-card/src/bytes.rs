@@ -2,9 +2,10 @@
 //!
 //! | header | bytes | record | bytes |
 //! |---|---|---|---|
-//! | N, Q, G, S | 1 each | mode: 0 running, 1 stopped | 1 |
+//! | N, G, S | 1 each | mode: 0 running, 1 stopped | 1 |
 //! | device features | 16 | mark: 0 none, 1 handed back | 1 |
-//! | list in use, little-endian | 8 | objects: 0 free, 1 get, 2 set | 16 |
+//! | list in use, little-endian | 8 | Q | 1 |
+//! | | | objects: 0 free, 1 get, 2 set | 16 |
 //! | | | holding place, little-endian: 0 none, k + 1 open with k bytes | 2 |
 //! | | | values of the parts for Q = 4, in order | 205 |
 //! | | | configuration | 12 |
@@ -18,19 +19,25 @@ use crate::holding::{Holding, ROOM};
 use crate::member::{Member, Mode};
 use crate::object::{Kind, Objects, IDS};
 use crate::part::{inventory, MAX_QUEUES};
-use crate::setup::Setup;
+use crate::setup::Common;
 use crate::values::Values;
 
 /// The length of the header.
-pub const HEADER: usize = 28;
+pub const HEADER: usize = 27;
+/// Where the device features stand in the header.
+pub const FEATURES: usize = 3;
+/// Where the list in use stands in the header.
+pub const IN_USE: usize = FEATURES + 16;
 /// The length of a member's record.
 pub const RECORD: usize = HOLDING + ROOM;
 /// Where the mode stands in a record.
 pub const MODE: usize = 0;
 /// Where the mark stands in a record.
 pub const MARK: usize = MODE + 1;
+/// Where the number of queues stands in a record.
+pub const QUEUES: usize = MARK + 1;
 /// Where the objects stand in a record.
-pub const OBJECTS: usize = MARK + 1;
+pub const OBJECTS: usize = QUEUES + 1;
 /// Where it stands in a record whether a holding place is open.
 pub const HELD: usize = OBJECTS + IDS;
 /// Where the values stand in a record.
@@ -47,24 +54,20 @@ pub const HOLDING: usize = GENERATION + 4;
 /// none.
 pub fn read(bytes: &[u8]) -> Option<Card> {
     let (header, records) = bytes.split_at_checked(HEADER)?;
-    let setup = Setup {
-        members: header[0],
-        queues: header[1],
-        gets: header[2],
-        sets: header[3],
-        features: array_at(header, 4),
-    };
+    let [members, gets, sets] = array_at(header, 0);
+    let setup = Common { members, gets, sets, features: array_at(header, FEATURES) };
     if records.len() != RECORD * usize::from(setup.members) {
         return None;
     }
     let members = records.chunks_exact(RECORD).map(read_record).collect::<Option<_>>()?;
-    Some(Card { setup, in_use: u64_at(header, 20), members })
+    Some(Card { setup, in_use: u64_at(header, IN_USE), members })
 }
 
 fn read_record(record: &[u8]) -> Option<Member> {
     Some(Member {
         mode: if read_bit(record[MODE])? { Mode::Stopped } else { Mode::Running },
         marked: read_bit(record[MARK])?,
+        queues: record[QUEUES],
         objects: read_objects(&record[OBJECTS..HELD])?,
         values: read_values(&record[VALUES..CONFIGURATION]),
         configuration: Configuration {
@@ -108,8 +111,8 @@ fn read_values(mut bytes: &[u8]) -> Values {
 /// The bytes of a card: what [`read`] turns into the same card.
 pub fn write(card: &Card) -> Vec<u8> {
     let mut bytes = Vec::with_capacity(HEADER + RECORD * card.members.len());
-    let Setup { members, queues, gets, sets, features } = &card.setup;
-    bytes.extend([members, queues, gets, sets]);
+    let Common { members, gets, sets, features } = &card.setup;
+    bytes.extend([members, gets, sets]);
     bytes.extend(features);
     bytes.extend(card.in_use.to_le_bytes());
     for member in &card.members {
@@ -121,6 +124,7 @@ pub fn write(card: &Card) -> Vec<u8> {
 fn write_record(bytes: &mut Vec<u8>, member: &Member) {
     bytes.push((member.mode == Mode::Stopped).into());
     bytes.push(member.marked.into());
+    bytes.push(member.queues);
     bytes.extend(member.objects.0.iter().map(|object| match object {
         None => 0,
         Some(Kind::Get) => 1,

@@ -2,13 +2,14 @@
 
 use crate::member::Member;
 use crate::opcode::{FRESH, SUPPORTED};
-use crate::setup::Setup;
+use crate::setup::{Common, Setup};
 
-/// A card: its setup, the list of commands in use and a record for each member.
+/// A card: what its setup says of all members, the list of commands in use and a
+/// record for each member.
 #[derive(Clone, Debug, PartialEq, Eq)]
 pub struct Card {
-    /// The setup.
-    pub setup: Setup,
+    /// The setup, but for the numbers of queues.
+    pub setup: Common,
     /// The list in use: bit n is set if the opcode n is in use.
     pub in_use: u64,
     /// The records; member m is at m - 1.
@@ -17,15 +18,22 @@ pub struct Card {
 
 impl Card {
     /// A new card: fresh, with generation 0.
-    pub fn new(setup: Setup) -> Card {
+    pub fn new(setup: &Setup) -> Card {
         Card::fresh(setup, 0)
     }
 
     /// A fresh card: commands 0x0 and 0x1 in use, every member fresh with the
     /// one generation.
-    pub fn fresh(setup: Setup, generation: u32) -> Card {
-        let members = vec![Member::fresh(&setup, generation); usize::from(setup.members)];
-        Card { setup, in_use: FRESH, members }
+    pub fn fresh(setup: &Setup, generation: u32) -> Card {
+        let fresh = |queues: &u8| Member::fresh(&setup.common, *queues, generation);
+        let members = setup.queues.iter().map(fresh).collect();
+        Card { setup: setup.common.clone(), in_use: FRESH, members }
+    }
+
+    /// The setup that the card was made with.
+    pub fn whole_setup(&self) -> Setup {
+        let queues = self.members.iter().map(|member| member.queues).collect();
+        Setup { common: self.setup.clone(), queues }
     }
 
     /// Whether the card is sound: a setup in range, supported bits only in the

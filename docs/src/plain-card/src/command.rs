@@ -8,7 +8,7 @@ use crate::member::{Member, Mode};
 use crate::object::{Kind, Objects};
 use crate::opcode::{Opcode, SUPPORTED};
 use crate::operation::{Command, Operation};
-use crate::setup::Setup;
+use crate::setup::Common;
 use crate::status::Refusal;
 
 /// The length of a reply's head; the result starts behind it.
@@ -69,14 +69,14 @@ pub fn check_mark(card: &Card, frame: &Frame, opcode: Opcode) -> Result<(), Refu
 fn operate(
     operation: Operation,
     member: &mut Member,
-    setup: &Setup,
+    setup: &Common,
     result: &mut [u8],
 ) -> Result<usize, Refusal> {
     check_objects(operation, &member.objects, setup)?; // step 8
     check_stopped(operation, member.mode)?; // step 9
-    let effect = Effect::of(operation, member, setup.queues)?; // step 10
-    check_room(effect.result_length(setup.queues), result)?; // step 11
-    Ok(effect.perform(member, setup.queues, result)) // step 12
+    let effect = Effect::of(operation, member)?; // step 10
+    check_room(effect.result_length(member.queues), result)?; // step 11
+    Ok(effect.perform(member, result)) // step 12
 }
 
 /// Step 8: the object is free or live as the command needs it, there is room
@@ -84,7 +84,7 @@ fn operate(
 pub fn check_objects(
     operation: Operation,
     objects: &Objects,
-    setup: &Setup,
+    setup: &Common,
 ) -> Result<(), Refusal> {
     match operation {
         Operation::Create(id, _) if objects.find(id).is_some() => Err(Refusal::IdLive),
@@ -104,7 +104,7 @@ pub fn check_objects(
 
 /// With the object put there are no more than G get or S set objects. An
 /// object that keeps its kind takes no new room.
-fn check_limit(objects: &Objects, id: u32, kind: Kind, setup: &Setup) -> Result<(), Refusal> {
+fn check_limit(objects: &Objects, id: u32, kind: Kind, setup: &Common) -> Result<(), Refusal> {
     let mut after = objects.clone();
     after.put(id, kind);
     Refusal::TooManyObjects.unless(after.fit(setup))

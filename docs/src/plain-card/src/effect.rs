@@ -31,7 +31,8 @@ pub enum Effect<'a> {
 
 impl<'a> Effect<'a> {
     /// Step 10: the effect, unless a list of parts is bad.
-    pub fn of(operation: Operation<'a>, member: &Member, queues: u8) -> Result<Self, Refusal> {
+    pub fn of(operation: Operation<'a>, member: &Member) -> Result<Self, Refusal> {
+        let queues = member.queues;
         Ok(match operation {
             Operation::Create(id, kind) => Effect::PutObject(id, kind),
             Operation::Modify(id, kind) => Effect::PutObject(id, kind),
@@ -47,7 +48,7 @@ impl<'a> Effect<'a> {
         })
     }
 
-    /// The length of the result.
+    /// The length of the result, of a member with `queues` queues.
     pub fn result_length(&self, queues: u8) -> usize {
         match self {
             Effect::TellKind(_) | Effect::TellAbout(About::Size | About::Count) => 8,
@@ -59,7 +60,8 @@ impl<'a> Effect<'a> {
     }
 
     /// Changes the record or writes the result, and tells the result's length.
-    pub fn perform(self, member: &mut Member, queues: u8, result: &mut [u8]) -> usize {
+    pub fn perform(self, member: &mut Member, result: &mut [u8]) -> usize {
+        let queues = member.queues;
         match self {
             Effect::PutObject(id, kind) => member.objects.put(id, kind),
             Effect::RemoveObject(id) => member.objects.remove(id),

@@ -19,7 +19,8 @@ impl Card {
     /// generation to start from, and changes nothing else.
     pub fn wipe(&mut self, member: u64, generation: u32) -> Result<(), EventError> {
         EventError::OutOfOrder.unless(self.half_of_reset(member)?.marked)?;
-        *self.member_mut(member) = Member::fresh(&self.setup, generation);
+        let queues = self.member(member).queues;
+        *self.member_mut(member) = Member::fresh(&self.setup, queues, generation);
         Ok(())
     }
 
@@ -34,7 +35,7 @@ impl Card {
     /// with one generation for all members to start from.
     pub fn reset(&mut self, generation: u32) -> Result<(), EventError> {
         EventError::NotSound.unless(self.is_sound())?;
-        *self = Card::fresh(self.setup.clone(), generation);
+        *self = Card::fresh(&self.whole_setup(), generation);
         Ok(())
     }
 
@@ -49,17 +50,18 @@ impl Card {
     ) -> Result<(), EventError> {
         EventError::NotSound.unless(self.is_sound())?;
         EventError::NoMember.unless(self.setup.has_member(member))?;
-        let part = self.stored_part(part_type, selector)?;
+        let part = stored_part(part_type, selector, self.member(member).queues)?;
         EventError::WrongLength.unless(value.len() == part.length() as usize)?;
         EventError::BadQueueSize.unless(part.allows(value))?;
         self.member_mut(member).values.get_mut(part).copy_from_slice(value);
         Ok(())
     }
+}
 
-    /// The part that a store names; device features count as no such part.
-    fn stored_part(&self, part_type: u16, selector: [u8; 8]) -> Result<Part, EventError> {
-        Part::named(part_type, selector, self.setup.queues)
-            .filter(|part| *part != Part::DeviceFeatures)
-            .ok_or(EventError::NoPart)
-    }
+/// The part that a store names on a member with `queues` queues; device features
+/// count as no such part.
+fn stored_part(part_type: u16, selector: [u8; 8], queues: u8) -> Result<Part, EventError> {
+    Part::named(part_type, selector, queues)
+        .filter(|part| *part != Part::DeviceFeatures)
+        .ok_or(EventError::NoPart)
 }

@@ -7,7 +7,8 @@ use crate::bytes::{read, write, HEADER, RECORD};
 use crate::card::Card;
 use crate::host::{self, Answer, Request};
 use crate::opcode::Opcode;
-use crate::setup::{Setup, MEMBERS};
+use crate::setup::{Common, Setup, MEMBERS};
+use crate::setups::{self, Unread};
 use crate::status::{answer, restore_answer, EventError, RestoreError};
 
 /// The length of a card, or 0 if it cannot have so many members.
@@ -18,23 +19,40 @@ pub fn card_bytes(members: u64) -> usize {
     }
 }
 
-/// Makes a fresh card in `card`, or fills it with zeros and answers 4. The
-/// features have to be 16 bytes and the buffer exactly one card long.
+/// Makes a fresh card in `card`, or fills it with zeros and answers 4. There has
+/// to be a number of queues for each member; the features have to be 16 bytes and
+/// the buffer exactly one card long.
 pub fn setup(
     card: &mut [u8],
     members: u64,
-    queues: u64,
+    queues: &[u8],
     gets: u64,
     sets: u64,
     features: &[u8],
 ) -> u8 {
-    let fresh = features
-        .try_into()
-        .ok()
-        .and_then(|features| Setup::new(members, queues, gets, sets, features))
-        .map(|setup| write(&Card::new(setup)))
-        .filter(|fresh| fresh.len() == card.len());
-    match fresh {
+    set_up(card, whole_setup(members, queues, gets, sets, features))
+}
+
+/// The same from the bytes of a setup of either version.
+pub fn setup_from(card: &mut [u8], setup: &[u8]) -> u8 {
+    set_up(card, setups::read(setup).ok())
+}
+
+/// A setup, if its numbers and lengths are right.
+fn whole_setup(
+    members: u64,
+    queues: &[u8],
+    gets: u64,
+    sets: u64,
+    features: &[u8],
+) -> Option<Setup> {
+    Setup::new(members, queues, gets, sets, features.try_into().ok()?)
+}
+
+/// A card of this setup, or zeros.
+fn set_up(card: &mut [u8], setup: Option<Setup>) -> u8 {
+    let fresh = setup.map(|setup| write(&Card::new(&setup)));
+    match fresh.filter(|fresh| fresh.len() == card.len()) {
         Some(fresh) => {
             card.copy_from_slice(&fresh);
             answer(Ok(()))
@@ -43,6 +61,59 @@ pub fn setup(
             card.fill(0);
             answer(Err(EventError::BadSetup))
         }
+    }
+}
+
+/// Writes the bytes of a setup; tells how many, or 0 if it is refused.
+pub fn setup_write(
+    buffer: &mut [u8],
+    members: u64,
+    queues: &[u8],
+    gets: u64,
+    sets: u64,
+    features: &[u8],
+) -> usize {
+    let setup = whole_setup(members, queues, gets, sets, features);
+    let Some(bytes) = setup.map(|setup| setups::write(&setup)) else { return 0 };
+    let Some(start) = buffer.get_mut(..bytes.len()) else { return 0 };
+    start.copy_from_slice(&bytes);
+    bytes.len()
+}
+
+/// The numbers that a setup is read into: N, G and S, the numbers of queues and
+/// the features. The last two have 16 bytes, or nothing is read.
+pub struct Numbers<'a> {
+    /// N, G and S.
+    pub counts: &'a mut [u8; 3],
+    /// The number of queues of each member, 0 for those past N.
+    pub queues: &'a mut [u8],
+    /// The device features.
+    pub features: &'a mut [u8],
+}
+
+/// Reads a setup of either version: 0, or 2 if it is refused.
+pub fn setup_read(setup: &[u8], numbers: Numbers) -> u8 {
+    tell(setups::read(setup), numbers)
+}
+
+/// Reads a setup of version 1: 0, 1 for version 2, or 2 if it is refused.
+pub fn setup_read_v1(setup: &[u8], numbers: Numbers) -> u8 {
+    tell(setups::read_v1(setup), numbers)
+}
+
+fn tell(read: Result<Setup, Unread>, numbers: Numbers) -> u8 {
+    let Numbers { counts, queues, features } = numbers;
+    match read {
+        Err(Unread::Version2) => 1,
+        Ok(setup) if (queues.len(), features.len()) == (16, 16) => {
+            let Common { members, gets, sets, features: ours } = setup.common;
+            *counts = [members, gets, sets];
+            queues.fill(0);
+            queues[..setup.queues.len()].copy_from_slice(&setup.queues);
+            features.copy_from_slice(&ours);
+            0
+        }
+        _ => 2,
     }
 }
 

@@ -1,7 +1,7 @@
 //! The frame of a request: steps 2 to 5 of the status table.
 
 use crate::opcode::{Opcode, FIXED_MAX};
-use crate::setup::Setup;
+use crate::setup::Common;
 use crate::status::Refusal;
 
 /// The longest request.
@@ -50,7 +50,7 @@ impl<'a> Frame<'a> {
     }
 
     /// Step 5: the member exists, if the command names one.
-    pub fn check_member(&self, opcode: Opcode, setup: &Setup) -> Result<(), Refusal> {
+    pub fn check_member(&self, opcode: Opcode, setup: &Common) -> Result<(), Refusal> {
         Refusal::Member.unless(!opcode.names_member() || setup.has_member(self.member))
     }
 }

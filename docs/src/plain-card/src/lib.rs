@@ -1,5 +1,5 @@
 //! An independent plain Rust card and host, written from document 01 and
-//! requests 1, 2, 3, 5, 6 and 10 of document 02 alone.
+//! requests 1, 2, 3, 5, 6, 9 and 10 of document 02 alone.
 //!
 //! It is the readable, executable version of these and the reference that the
 //! verified archive is compared with. It shares no code with the archive. Terms
@@ -10,7 +10,7 @@
 //!
 //! | module | holds |
 //! |---|---|
-//! | [`setup`], [`card`], [`member`], [`object`], [`part`], [`queue`], [`values`], [`holding`], [`configuration`] | the card and what it is made of |
+//! | [`setup`], [`setups`], [`card`], [`member`], [`object`], [`part`], [`queue`], [`values`], [`holding`], [`configuration`] | the card and what it is made of |
 //! | [`frame`], [`opcode`], [`operation`] | from request bytes to what is asked: steps 2 to 7 |
 //! | [`list`] | lists of parts, asked and given: step 10 |
 //! | [`command`](mod@command), [`effect`] | the steps in order, and what a command does |
@@ -44,6 +44,7 @@ pub mod part;
 pub mod queue;
 pub mod restore;
 pub mod setup;
+pub mod setups;
 pub mod status;
 pub mod values;
 

@@ -3,7 +3,7 @@
 use crate::configuration::Configuration;
 use crate::holding::Holding;
 use crate::object::Objects;
-use crate::setup::Setup;
+use crate::setup::{Common, QUEUES};
 use crate::values::Values;
 
 /// Whether a member runs.
@@ -16,14 +16,16 @@ pub enum Mode {
     Stopped,
 }
 
-/// The record of a member: its mode, its mark, its live objects, its parts, its
-/// configuration and its holding place.
+/// The record of a member: its mode, its mark, its number of queues, its live
+/// objects, its parts, its configuration and its holding place.
 #[derive(Clone, Debug, PartialEq, Eq)]
 pub struct Member {
     /// Running or stopped.
     pub mode: Mode,
     /// Whether it is handed back and waits for its wipe.
     pub marked: bool,
+    /// Q, the number of its queues; no reset changes it.
+    pub queues: u8,
     /// The live objects.
     pub objects: Objects,
     /// The values of the parts.
@@ -38,10 +40,11 @@ impl Member {
     /// A fresh member runs, has no objects, has device features as in the
     /// setup and every other part all zero. Its configuration is zero, with the
     /// generation given. No holding place is open. It has no mark.
-    pub fn fresh(setup: &Setup, generation: u32) -> Member {
+    pub fn fresh(setup: &Common, queues: u8, generation: u32) -> Member {
         Member {
             mode: Mode::Running,
             marked: false,
+            queues,
             objects: Objects::default(),
             values: Values { device_features: setup.features, ..Values::default() },
             configuration: Configuration::fresh(generation),
@@ -50,10 +53,11 @@ impl Member {
     }
 
     /// Whether the record may stand in a sound card of this setup.
-    pub fn is_sound(&self, setup: &Setup) -> bool {
-        self.objects.fit(setup)
+    pub fn is_sound(&self, setup: &Common) -> bool {
+        QUEUES.contains(&self.queues)
+            && self.objects.fit(setup)
             && self.values.device_features == setup.features
-            && self.values.queues_allowed(setup.queues)
+            && self.values.queues_allowed(self.queues)
             && self.holding.fits()
             && (!self.marked || self.is_let_go())
     }

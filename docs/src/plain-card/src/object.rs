@@ -1,6 +1,6 @@
 //! Resource objects of a member.
 
-use crate::setup::Setup;
+use crate::setup::Common;
 use crate::status::Refusal;
 
 /// The number of ids a member's table has room for: G + S at most.
@@ -65,7 +65,7 @@ impl Objects {
     }
 
     /// Whether the ids are below G + S, with at most G get and S set objects.
-    pub fn fit(&self, setup: &Setup) -> bool {
+    pub fn fit(&self, setup: &Common) -> bool {
         let valid = usize::from(setup.gets) + usize::from(setup.sets);
         self.0.iter().skip(valid).all(Option::is_none)
             && self.count(Kind::Get) <= usize::from(setup.gets)

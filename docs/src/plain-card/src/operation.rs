@@ -4,7 +4,7 @@ use crate::frame::{behind, fixed_fields, u16_at, u32_at, u64_at};
 use crate::member::Mode;
 use crate::object::Kind;
 use crate::opcode::{Opcode, SUPPORTED};
-use crate::setup::Setup;
+use crate::setup::Common;
 use crate::status::Refusal;
 
 /// A command with its fields.
@@ -55,7 +55,7 @@ pub enum About {
 impl<'a> Command<'a> {
     /// Step 7: the fields. Data may have any length; bytes past the fixed
     /// fields are a list of parts, bits of a mask, or ignored.
-    pub fn read(opcode: Opcode, data: &'a [u8], setup: &Setup) -> Result<Self, Refusal> {
+    pub fn read(opcode: Opcode, data: &'a [u8], setup: &Common) -> Result<Self, Refusal> {
         let fields = &fixed_fields(data);
         let more = behind(data, opcode.fixed_length());
         let operation = match opcode {
@@ -84,14 +84,14 @@ fn mask(fields: &[u8], more: &[u8]) -> Result<u64, Refusal> {
 }
 
 /// The object header: type 0 and a valid id.
-fn id(fields: &[u8], setup: &Setup) -> Result<u32, Refusal> {
+fn id(fields: &[u8], setup: &Common) -> Result<u32, Refusal> {
     let id = u32_at(fields, 4);
     Refusal::Field.unless(u16_at(fields, 0) == 0 && setup.has_id(id))?;
     Ok(id)
 }
 
 /// The object header and flags that are zero.
-fn flagged_id(fields: &[u8], setup: &Setup) -> Result<u32, Refusal> {
+fn flagged_id(fields: &[u8], setup: &Common) -> Result<u32, Refusal> {
     Refusal::Field.unless(u64_at(fields, 8) == 0)?;
     id(fields, setup)
 }

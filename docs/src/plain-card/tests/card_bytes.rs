@@ -7,14 +7,14 @@ use plain_card::configuration::Configuration;
 use plain_card::{bytes, exported};
 
 /// The lengths of header and record, and where the fields of a record stand.
-const HEADER: usize = 28;
-const RECORD: usize = 1265;
-const OBJECTS: usize = 2;
-const HELD: usize = 18;
-const VALUES: usize = 20;
-const CONFIGURATION: usize = 225;
-const GENERATION: usize = 237;
-const HOLDING: usize = 241;
+const HEADER: usize = 27;
+const RECORD: usize = 1266;
+const OBJECTS: usize = 3;
+const HELD: usize = 19;
+const VALUES: usize = 21;
+const CONFIGURATION: usize = 226;
+const GENERATION: usize = 238;
+const HOLDING: usize = 242;
 
 /// The bytes of a card with N=2, Q=2, G=1, S=2 and both members in use.
 fn sample() -> Vec<u8> {
@@ -66,11 +66,12 @@ fn with(at: usize, byte: u8) -> Vec<u8> {
 fn the_layout() {
     let card = sample();
     assert_eq!(card.len(), HEADER + 2 * RECORD);
-    assert_eq!(card[..4], [2, 2, 1, 2]);
-    assert_eq!(card[20..28], ALL.to_le_bytes());
-    assert_eq!(card[HEADER..HEADER + 6], [1, 0, 1, 2, 0, 0]);
+    assert_eq!(card[..3], [2, 1, 2]);
+    assert_eq!(card[19..27], ALL.to_le_bytes());
+    assert_eq!(card[HEADER..HEADER + 6], [1, 0, 2, 1, 2, 0]);
     let second = &card[HEADER + RECORD..];
-    assert_eq!(second[..HELD], [0; HELD]);
+    assert_eq!(second[..OBJECTS], [0, 0, 2]);
+    assert_eq!(second[OBJECTS..HELD], [0; 16]);
     // A holding place of 300 bytes.
     assert_eq!(second[HELD..VALUES], [45, 1]);
     // Queue 1 follows 16 + 16 + 4 + 4 + 2 + 2 + 1 value bytes and queue 0.
@@ -97,7 +98,7 @@ fn read_and_write_are_inverse() {
 fn the_length_is_exact() {
     let card = sample();
     assert!(sound(&card));
-    for length in [0, 27, HEADER, HEADER + RECORD, card.len() - 1] {
+    for length in [0, 26, HEADER, HEADER + RECORD, card.len() - 1] {
         assert!(!sound(&card[..length]));
     }
     assert!(!sound(&[card, vec![0]].concat()));
@@ -105,16 +106,17 @@ fn the_length_is_exact() {
 
 #[test]
 fn the_setup_is_in_range() {
-    for (at, good) in [(1, 1..=4), (2, 1..=8), (3, 1..=8)] {
+    for (at, good) in [(1, 1..=8), (2, 1..=8), (HEADER + 2, 1..=4), (HEADER + RECORD + 2, 1..=4)] {
         for byte in 0..=255 {
             assert_eq!(sound(&with(at, byte)), good.contains(&byte), "byte {at} is {byte}");
         }
     }
     assert!(!sound(&[0; HEADER]));
     for members in 1..=20 {
-        let mut header = bytes::write(&card(1, 1, 0, 0))[..HEADER].to_vec();
-        header[0] = members;
-        let card = [header, vec![0; RECORD * usize::from(members)]].concat();
+        let card = bytes::write(&card(1, 1, 0, 0));
+        let (header, record) = card.split_at(HEADER);
+        let records = record.repeat(members);
+        let card = [&[members as u8], &header[1..], &records].concat();
         assert_eq!(sound(&card), members <= 16);
     }
 }
@@ -122,7 +124,7 @@ fn the_setup_is_in_range() {
 #[test]
 fn the_list_in_use_has_supported_bits_only() {
     for bit in 0..64 {
-        let card = with(20 + bit / 8, sample()[20 + bit / 8] | 1 << (bit % 8));
+        let card = with(19 + bit / 8, sample()[19 + bit / 8] | 1 << (bit % 8));
         assert_eq!(sound(&card), ALL >> bit & 1 == 1);
     }
 }
@@ -176,7 +178,7 @@ fn objects_fit() {
 #[test]
 fn device_features_are_those_of_the_setup() {
     for at in 0..16 {
-        assert!(!sound(&with(4 + at, 1)));
+        assert!(!sound(&with(3 + at, 1)));
         assert!(!sound(&with(HEADER + VALUES + at, 1)));
         assert!(!sound(&with(HEADER + RECORD + VALUES + at, 1)));
     }
@@ -195,7 +197,7 @@ fn other_values_are_free_and_carried() {
         assert_eq!(reset(&mut card, 2), [0, 0]);
         assert_eq!(card[..HEADER + RECORD], before[..HEADER + RECORD]);
         assert_eq!(reset(&mut card, 1), [0, 0]);
-        assert_eq!(card[HEADER + VALUES + 16..], [0; 2 * RECORD - VALUES - 16][..]);
+        assert!(card[HEADER..] == bytes::write(&common::card(2, 2, 1, 2))[HEADER..]);
     }
 }
 
@@ -219,18 +221,23 @@ fn a_holding_place_holds_1024_bytes_at_most() {
 #[test]
 fn setup_makes_a_fresh_card_or_zeros() {
     let mut card = vec![PATTERN; HEADER + 2 * RECORD];
-    assert_eq!(exported::setup(&mut card, 2, 1, 1, 1, &[0; 16]), 0);
+    assert_eq!(exported::setup(&mut card, 2, &[1, 1], 1, 1, &[0; 16]), 0);
     assert_eq!(card, bytes::write(&fresh()));
-    let refused: [(u64, u64, u64, u64, usize, usize); 9] = [
-        (0, 1, 1, 1, 16, HEADER),
-        (17, 1, 1, 1, 16, HEADER + 17 * RECORD),
-        (2, 0, 1, 1, 16, HEADER + 2 * RECORD),
-        (2, 5, 1, 1, 16, HEADER + 2 * RECORD),
-        (2, 1, 9, 1, 16, HEADER + 2 * RECORD),
-        (2, 1, 1, 9, 16, HEADER + 2 * RECORD),
-        (2, 1, 1, 1, 15, HEADER + 2 * RECORD),
-        (2, 1, 1, 1, 16, HEADER + 2 * RECORD + 1),
-        (2, 1, 1, 1, 16, 0),
+    let two = HEADER + 2 * RECORD;
+    let refused: [(u64, &[u8], u64, u64, usize, usize); 13] = [
+        (0, &[], 1, 1, 16, HEADER),
+        (17, &[1; 17], 1, 1, 16, HEADER + 17 * RECORD),
+        (258, &[1; 2], 1, 1, 16, two),
+        (2, &[0, 1], 1, 1, 16, two),
+        (2, &[1, 5], 1, 1, 16, two),
+        (2, &[1], 1, 1, 16, two),
+        (2, &[1, 1, 1], 1, 1, 16, two),
+        (2, &[1, 1], 9, 1, 16, two),
+        (2, &[1, 1], 1, 9, 16, two),
+        (2, &[1, 1], 1, 1 << 32 | 1, 16, two),
+        (2, &[1, 1], 1, 1, 15, two),
+        (2, &[1, 1], 1, 1, 16, two + 1),
+        (2, &[1, 1], 1, 1, 16, 0),
     ];
     for (members, queues, gets, sets, features, length) in refused {
         let mut card = vec![PATTERN; length];

@@ -20,12 +20,12 @@ fn busy() -> Card {
 
 #[test]
 fn a_fresh_card() {
-    let setup = Setup::new(3, 2, 1, 1, [7; 16]).unwrap();
-    let card = Card::new(setup.clone());
+    let setup = Setup::alike(3, 2, 1, 1, [7; 16]).unwrap();
+    let card = Card::new(&setup);
     assert!(card.is_sound());
     assert_eq!((card.in_use, card.members.len()), (3, 3));
     for member in &card.members {
-        assert_eq!(member, &Member::fresh(&setup, 0));
+        assert_eq!(member, &Member::fresh(&setup.common, 2, 0));
         assert_eq!(member.mode, Mode::Running);
         assert_eq!(member.values.device_features, [7; 16]);
         assert_eq!(member.values.queues, [[0; 32]; 4]);
@@ -37,7 +37,7 @@ fn reset_of_a_member_changes_nothing_else() {
     let before = busy();
     let mut card = before.clone();
     assert_eq!((card.hand_back(1), card.wipe(1, 7)), (Ok(()), Ok(())));
-    assert_eq!(card.members[0], Member::fresh(&card.setup, 7));
+    assert_eq!(card.members[0], Member::fresh(&card.setup, 2, 7));
     assert_eq!(card.members[1], before.members[1]);
     assert_eq!((&card.setup, card.in_use), (&before.setup, before.in_use));
 }
@@ -46,7 +46,7 @@ fn reset_of_a_member_changes_nothing_else() {
 fn reset_of_the_whole_card() {
     let mut card = busy();
     assert_eq!(card.reset(7), Ok(()));
-    assert_eq!(card, Card::fresh(card.setup.clone(), 7));
+    assert_eq!(card, Card::fresh(&card.whole_setup(), 7));
     assert_eq!(card.reset(0), Ok(()));
     assert_eq!(card, common::card(2, 2, 1, 1));
 }

@@ -90,7 +90,7 @@ fn lists_fill_a_request_up_to_4096_bytes() {
 
 #[test]
 fn a_built_request_is_taken_as_that_command_with_those_fields() {
-    let setup = Setup::new(3, 1, 2, 2, [0; 16]).unwrap();
+    let setup = Setup::alike(3, 1, 2, 2, [0; 16]).unwrap().common;
     let headers = [header(0x103, 0, 0), header(0x106, 9, 7)].concat();
     let taken = [
         (Request::ListQuery, Command::ListQuery),

@@ -292,7 +292,7 @@ fn the_configuration_is_no_part() {
 fn resets_give_the_generation_to_start_from() {
     let mut card = ready();
     assert_eq!((card.hand_back(2), card.wipe(2, 77)), (Ok(()), Ok(())));
-    assert_eq!(card.members[1], Member::fresh(&card.setup, 77));
+    assert_eq!(card.members[1], Member::fresh(&card.setup, 1, 77));
     assert_eq!(card.members[0].configuration.generation, 0);
     assert_eq!(answer(&mut card, &read(0, 1)), response(GET_CONFIG, 77, 0, &[0]));
     assert_eq!(card.reset(u32::MAX), Ok(()));

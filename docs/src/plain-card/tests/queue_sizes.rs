@@ -32,7 +32,7 @@ const TAKEN: [(u16, u16); 8] =
 
 /// A card with Q = 2, member 1 stopped.
 fn ready() -> Card {
-    stopped(card(2, QUEUES.into(), 1, 1))
+    stopped(card(2, QUEUES, 1, 1))
 }
 
 /// The value of a queue part.
@@ -87,7 +87,7 @@ fn a_store_answers_5_after_3() {
     assert_eq!(store(&mut ready(), 2, &bad), 2);
     let mut bytes = bytes::write(&ready());
     assert_eq!(exported::store(&mut bytes, 3, 0x104, 0, &bad), 1);
-    bytes[20] |= 4;
+    bytes[19] |= 4;
     assert_eq!(exported::store(&mut bytes, 1, 0x104, 0, &bad), 9);
 }
 

@@ -355,7 +355,7 @@ fn step_12_query_tells_the_kind() {
 #[test]
 fn step_12_counts_and_sizes_for_every_number_of_queues() {
     for queues in 1..=4u8 {
-        let mut card = with_objects(card(1, u64::from(queues), 1, 1));
+        let mut card = with_objects(card(1, queues, 1, 1));
         let count = 7 + 2 * queues;
         let size = 157 + 72 * usize::from(queues);
         assert_eq!(reply(&mut card, &metadata(1))[8], count);

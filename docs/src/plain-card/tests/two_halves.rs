@@ -51,7 +51,7 @@ fn wipe_makes_everything_fresh_with_the_generation_given() {
     let mut card = handed_back();
     assert_eq!(card.wipe(1, 77), Ok(()));
     let mut expected = busy();
-    *expected.member_mut(1) = Member::fresh(&expected.setup, 77);
+    *expected.member_mut(1) = Member::fresh(&expected.setup, 2, 77);
     assert_eq!(card, expected);
     assert!(!card.member(1).marked);
 }
@@ -154,7 +154,7 @@ fn messages_get_the_bus_outcome() {
 fn a_reset_of_the_whole_card_wipes_all() {
     let mut card = handed_back();
     assert_eq!(card.reset(4), Ok(()));
-    assert_eq!(card, Card::fresh(card.setup.clone(), 4));
+    assert_eq!(card, Card::fresh(&card.whole_setup(), 4));
 }
 
 #[test]

@@ -3,10 +3,10 @@
 use kajurnat::raw;
 use plain_card::opcode::Opcode;
 
-use super::{read_into, Device};
+use super::{read_into, read_setup_into, Device};
 use crate::call::Call;
 use crate::fields::Fields;
-use crate::memory::{Buffer, Lent, Place};
+use crate::memory::Lent;
 
 /// The verified archive, with a planted misuse or without.
 pub struct Archive {
@@ -23,15 +23,11 @@ pub type Misuse = fn(&Call, &mut Lending);
 pub struct Lending<'a> {
     /// The card.
     pub card: &'a mut Lent,
-    /// What the call only reads: request, message, features, value, fragment,
-    /// list or reply.
-    pub input: &'a mut Lent,
+    /// What the call only reads, in the order of [`Call::inputs`].
+    pub inputs: &'a mut [Lent],
     /// The buffer that is written besides the card.
     pub reply: &'a mut Lent,
 }
-
-/// What a call without bytes to read is lent.
-const NOTHING: &Buffer = &Buffer { bytes: Vec::new(), place: Place::USUAL };
 
 impl Archive {
     /// An archive without a card: no bytes.
@@ -40,13 +36,16 @@ impl Archive {
     }
 
     /// The answer of the archive.
-    fn answer(&mut self, call: &Call, input: &[u8], reply: &mut [u8]) -> usize {
+    fn answer(&mut self, call: &Call, inputs: &[Lent], reply: &mut [u8]) -> usize {
         let card = self.card.bytes_mut();
+        let input = inputs.first().map_or(&[][..], Lent::bytes);
+        let second = inputs.get(1).map_or(&[][..], Lent::bytes);
         match call {
             Call::CardBytes(members) => raw::card_bytes(*members),
-            Call::Setup { numbers: [n, q, g, s], .. } => {
-                raw::setup(card, *n, *q, *g, *s, input).into()
+            Call::Setup { numbers: [n, g, s], .. } => {
+                raw::setup(card, *n, input, *g, *s, second).into()
             }
+            Call::SetupFrom { .. } => raw::setup_from(card, input).into(),
             Call::Card(_) => 0,
             Call::Command { .. } => raw::command(card, input, reply),
             Call::Message { .. } => raw::message(card, input, reply),
@@ -65,6 +64,15 @@ impl Archive {
                 let [a, b, c, d] = numbers;
                 raw::reply_read(*opcode, *what, input, a, b, c, d)
             }),
+            Call::WriteSetup { numbers: [n, g, s], .. } => {
+                raw::setup_write(reply, *n, input, *g, *s, second)
+            }
+            Call::ReadSetup { first, lengths, .. } => {
+                let read = if *first { raw::setup_read_v1 } else { raw::setup_read };
+                read_setup_into(reply, lengths[0], |[n, g, s], queues, features| {
+                    read(input, n, queues, g, s, features)
+                })
+            }
         }
     }
 }
@@ -89,20 +97,24 @@ fn build(fields: &Fields, list: &[u8], buffer: &mut [u8]) -> usize {
 impl Device for Archive {
     fn call(&mut self, call: &Call, reply: &mut Lent) -> usize {
         match call {
-            Call::Setup { card, .. } => self.card = Lent::patterned(*card),
+            Call::Setup { card, .. } | Call::SetupFrom { card, .. } => {
+                self.card = Lent::patterned(*card);
+            }
             Call::Card(bytes) => self.card = Lent::holding(bytes),
             _ => {}
         }
-        let (name, sent) = call.input().unwrap_or(("nothing", NOTHING));
-        let mut input = Lent::holding(sent);
-        let answer = self.answer(call, input.bytes(), reply.bytes_mut());
+        let sent = call.inputs();
+        let mut inputs: Vec<Lent> = sent.iter().map(|(_, sent)| Lent::holding(sent)).collect();
+        let answer = self.answer(call, &inputs, reply.bytes_mut());
         if let Some(misuse) = self.misuse {
-            misuse(call, &mut Lending { card: &mut self.card, input: &mut input, reply });
+            misuse(call, &mut Lending { card: &mut self.card, inputs: &mut inputs, reply });
         }
-        if *input.bytes() != **sent {
-            self.violations.push(format!("bytes of the {name} were changed"));
+        for ((name, sent), mut input) in sent.into_iter().zip(inputs) {
+            if *input.bytes() != **sent {
+                self.violations.push(format!("bytes of the {name} were changed"));
+            }
+            self.violations.extend(input.violations(name));
         }
-        self.violations.extend(input.violations(name));
         answer
     }
 

@@ -8,7 +8,7 @@ pub use plain::Plain;
 
 use plain_card::frame::u16_at;
 
-use crate::call::{Call, NUMBERS};
+use crate::call::{Call, COUNTS, NUMBERS};
 use crate::memory::Lent;
 
 /// A card that hears calls.
@@ -54,6 +54,17 @@ fn read_into(buffer: &mut [u8], read: impl FnOnce(&mut [u16; 4]) -> u8) -> usize
         place.copy_from_slice(&number.to_le_bytes());
     }
     answer.into()
+}
+
+/// Reads a setup into three numbers, queues and features that stand in a buffer.
+fn read_setup_into(
+    buffer: &mut [u8],
+    queues: usize,
+    read: impl FnOnce(&mut [u8; COUNTS], &mut [u8], &mut [u8]) -> u8,
+) -> usize {
+    let (counts, rest) = buffer.split_first_chunk_mut().expect("there is room for them");
+    let (queues, features) = rest.split_at_mut(queues);
+    read(counts, queues, features).into()
 }
 
 /// Makes a call with a reply buffer that holds the pattern.

@@ -1,11 +1,11 @@
 //! The plain card as a device.
 
 use plain_card::bytes;
-use plain_card::exported;
+use plain_card::exported::{self, Numbers};
 use plain_card::status::{answer, restore_answer, EventError, RestoreError};
-use plain_card::{command, message, Card, Setup};
+use plain_card::{command, message, Card};
 
-use super::{read_into, Device};
+use super::{read_into, read_setup_into, Device};
 use crate::call::Call;
 use crate::memory::Lent;
 
@@ -41,10 +41,11 @@ impl Plain {
     pub fn hear(&mut self, call: &Call, reply: &mut [u8]) -> usize {
         match call {
             Call::CardBytes(members) => exported::card_bytes(*members),
-            Call::Setup { numbers, features, card } => {
-                let (answer, plain) = Plain::set_up(*numbers, features, card.length);
-                *self = plain;
-                answer.into()
+            Call::Setup { numbers: [n, g, s], queues, features, card } => {
+                self.set_up(card.length, |card| exported::setup(card, *n, queues, *g, *s, features))
+            }
+            Call::SetupFrom { setup, card } => {
+                self.set_up(card.length, |card| exported::setup_from(card, setup))
             }
             Call::Card(bytes) => {
                 *self = Plain::from_bytes(bytes);
@@ -74,18 +75,24 @@ impl Plain {
             Call::Read { opcode, what, reply: read } => {
                 read_into(reply, |numbers| exported::reply_read(*opcode, *what, read, numbers))
             }
+            Call::WriteSetup { numbers: [n, g, s], queues, features, .. } => {
+                exported::setup_write(reply, *n, queues, *g, *s, features)
+            }
+            Call::ReadSetup { first, setup, lengths, .. } => {
+                let read = if *first { exported::setup_read_v1 } else { exported::setup_read };
+                read_setup_into(reply, lengths[0], |counts, queues, features| {
+                    read(setup, Numbers { counts, queues, features })
+                })
+            }
         }
     }
 
-    /// A fresh card, or a card of zeros.
-    fn set_up([n, q, g, s]: [u64; 4], features: &[u8], length: usize) -> (u8, Plain) {
-        let setup = features.try_into().ok().and_then(|features| Setup::new(n, q, g, s, features));
-        match setup {
-            Some(setup) if length == exported::card_bytes(n) => {
-                (answer(Ok(())), Plain::Card(Card::new(setup)))
-            }
-            _ => (answer(Err(EventError::BadSetup)), Plain::from_bytes(&vec![0; length])),
-        }
+    /// A fresh card, or a card of zeros, in a buffer of this length.
+    fn set_up(&mut self, length: usize, make: impl FnOnce(&mut [u8]) -> u8) -> usize {
+        let mut card = vec![0; length];
+        let answer = make(&mut card);
+        *self = Plain::from_bytes(&card);
+        answer.into()
     }
 
     /// An event's answer.

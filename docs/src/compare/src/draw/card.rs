@@ -1,38 +1,58 @@
 //! Random setups and cards.
 
-use plain_card::bytes::{self, HEADER, HELD, HOLDING, MARK, MODE, OBJECTS, RECORD, VALUES};
+use plain_card::bytes::{
+    self, FEATURES, HEADER, HELD, HOLDING, IN_USE, MARK, MODE, OBJECTS, QUEUES, RECORD, VALUES,
+};
 use plain_card::configuration::Configuration;
 use plain_card::holding::ROOM;
 use plain_card::member::{Member, Mode};
 use plain_card::object::{Kind, IDS};
 use plain_card::opcode::SUPPORTED;
 use plain_card::part::{inventory, Part, MAX_QUEUES};
+use plain_card::setup::Common;
 use plain_card::{Card, Setup};
 
-use super::{generation, length, restore, value};
+use super::restore::{self, Target};
+use super::{generation, length, value};
 use crate::random::Random;
 
 /// Where the queues stand among the values of a record.
 const FIRST_QUEUE: usize = 45;
 
-/// The numbers of a setup in range, more often at an end of it.
-pub fn setup_numbers(random: &mut Random) -> [u64; 4] {
+/// The numbers N, G and S of a setup in range, more often at an end of it.
+pub fn setup_numbers(random: &mut Random) -> [u64; 3] {
     let members = match random.weighted(&[60, 10, 30]) {
         0 => random.pick(&[1, 1, 2, 2, 2, 3]),
         1 => 16,
         _ => 1 + random.below(16) as u64,
     };
-    let queues = 1 + random.below(4) as u64;
     let objects = [0, 1, 1, 2, 3, 5, 8];
-    [members, queues, random.pick(&objects), random.pick(&objects)]
+    [members, random.pick(&objects), random.pick(&objects)]
+}
+
+/// A number of queues for each member: the same for all, or for all but one, or
+/// any.
+pub fn queue_counts(random: &mut Random, members: u64) -> Vec<u8> {
+    let mut counts = vec![1 + random.below(4) as u8; members as usize];
+    match random.below(3) {
+        0 => {}
+        1 => counts[random.below(members as usize)] = 1 + random.below(4) as u8,
+        _ => counts.iter_mut().for_each(|count| *count = 1 + random.below(4) as u8),
+    }
+    counts
+}
+
+/// A setup in range.
+pub fn any_setup(random: &mut Random) -> Setup {
+    let [members, gets, sets] = setup_numbers(random);
+    let queues = queue_counts(random, members);
+    let features = random.bytes(16).try_into().expect("there are 16 bytes");
+    Setup::new(members, &queues, gets, sets, features).expect("it is in range")
 }
 
 /// A sound card in any state.
 pub fn sound_card(random: &mut Random) -> Card {
-    let [members, queues, gets, sets] = setup_numbers(random);
-    let features = random.bytes(16).try_into().expect("there are 16 bytes");
-    let setup = Setup::new(members, queues, gets, sets, features).expect("it is in range");
-    let mut card = Card::new(setup);
+    let mut card = Card::new(&any_setup(random));
     card.in_use = match random.weighted(&[70, 15, 10, 5]) {
         0 => SUPPORTED,
         1 => random.bits() & SUPPORTED | 0b11,
@@ -40,20 +60,20 @@ pub fn sound_card(random: &mut Random) -> Card {
         _ => 0,
     };
     for member in 0..card.members.len() {
-        card.members[member] = other_record(random, &card.setup);
+        card.members[member] = other_record(random, &card.setup, card.members[member].queues);
     }
     card
 }
 
-/// A record that may stand in a sound card of this setup.
-pub fn other_record(random: &mut Random, setup: &Setup) -> Member {
+/// A record with so many queues that may stand in a sound card of this setup.
+pub fn other_record(random: &mut Random, setup: &Common, queues: u8) -> Member {
     let marked = random.chance(12);
-    record(random, setup, marked)
+    record(random, setup, queues, marked)
 }
 
 /// The same with this mark.
-pub fn record(random: &mut Random, setup: &Setup, marked: bool) -> Member {
-    let mut member = Member::fresh(setup, 0);
+pub fn record(random: &mut Random, setup: &Common, queues: u8, marked: bool) -> Member {
+    let mut member = Member::fresh(setup, queues, 0);
     if random.chance(50) {
         member.mode = Mode::Stopped;
     }
@@ -67,7 +87,7 @@ pub fn record(random: &mut Random, setup: &Setup, marked: bool) -> Member {
         }
     }
     if random.chance(30) {
-        member.holding = restore::holding(random, setup);
+        member.holding = restore::holding(random, Target { queues, features: &setup.features });
     }
     if marked {
         // What stands in the room of no holding place is not looked at.
@@ -83,7 +103,7 @@ pub fn record(random: &mut Random, setup: &Setup, marked: bool) -> Member {
         if random.chance(50) {
             let value = match part {
                 // No part of the member: soundness does not look at it.
-                Part::Queue(index) if index >= setup.queues => value::any(random, part),
+                Part::Queue(index) if index >= queues => value::any(random, part),
                 _ => value::good(random, part),
             };
             member.values.get_mut(part).copy_from_slice(&value);
@@ -131,15 +151,15 @@ fn break_rule(random: &mut Random, card: &mut [u8]) {
     let last = (card.len() - HEADER) / RECORD - 1;
     let member = if random.chance(40) { last } else { random.below(last + 1) };
     let record = HEADER + RECORD * member;
-    let [mode, mark, objects, held, features] =
-        [MODE, MARK, OBJECTS, HELD, VALUES].map(|at| record + at);
-    let queues = usize::from(card[1]);
-    let valid = usize::from(card[2] + card[3]);
+    let [mode, mark, count, objects, held, features] =
+        [MODE, MARK, QUEUES, OBJECTS, HELD, VALUES].map(|at| record + at);
+    let queues = usize::from(card[count]);
+    let valid = usize::from(card[1] + card[2]);
     match random.below(16) {
-        0 => card[1] = random.pick(&[0, 5, 255]),
-        1 => card[2 + random.below(2)] = random.pick(&[9, 16, 255]),
-        2 => card[4 + random.below(16)] ^= 1 << random.below(8),
-        3 => card[20 + random.below(8)] |= 1 << random.below(8),
+        0 => card[count] = random.pick(&[0, 5, 255]),
+        1 => card[1 + random.below(2)] = random.pick(&[9, 16, 255]),
+        2 => card[FEATURES + random.below(16)] ^= 1 << random.below(8),
+        3 => card[IN_USE + random.below(8)] |= 1 << random.below(8),
         4 => card[mode] = random.pick(&[2, 3, 128, 255]),
         5 => card[objects + random.below(IDS)] = random.pick(&[3, 4, 128, 255]),
         6 => card[objects + valid.min(IDS - 1)..held].fill(1 + random.byte() % 2),
@@ -182,9 +202,8 @@ fn change_length(random: &mut Random, card: &mut Vec<u8>) {
 
 /// Any number of fresh members; they are a sound card from 1 to 16.
 fn fresh_bytes(members: usize) -> Vec<u8> {
-    let setup = Setup::new(1, 1, 1, 1, [0; 16]).expect("it is in range");
-    let mut card = bytes::write(&Card::new(setup));
-    card[0] = members as u8;
-    card.resize(HEADER + RECORD * members, 0);
-    card
+    let setup = Setup::alike(1, 1, 1, 1, [0; 16]).expect("it is in range");
+    let card = bytes::write(&Card::new(&setup));
+    let (header, record) = card.split_at(HEADER);
+    [&[members as u8], &header[1..], &record.repeat(members)].concat()
 }

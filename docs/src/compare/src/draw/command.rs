@@ -6,7 +6,7 @@ use plain_card::object::{Kind, IDS};
 use plain_card::opcode::{Opcode, SUPPORTED};
 use plain_card::Card;
 
-use super::{length, list, member, place, placed, spoil, Favoured};
+use super::{length, list, member, place, placed, queues_of, spoil, Favoured};
 use crate::call::Call;
 use crate::memory::Room;
 use crate::random::Random;
@@ -80,14 +80,15 @@ fn on_object(random: &mut Random, card: &Card, favoured: Favoured, opcode: Opcod
     };
     let stopped = opcode == Opcode::PartsSet;
     let (member, id) = member_and_id(random, card, favoured, wanted, stopped);
+    let queues = queues_of(card, member);
     match opcode {
         Opcode::Create => Request::Create(member, id, random.below(2) as u8).bytes(),
         Opcode::Query => Request::Query(member, id).bytes(),
         Opcode::Destroy => Request::Destroy(member, id).bytes(),
         Opcode::Metadata => Request::Metadata(member, id, random.below(3) as u8).bytes(),
         Opcode::PartsGet if random.chance(33) => Request::Get(member, id, 1, &[]).bytes(),
-        Opcode::PartsGet => Request::Get(member, id, 0, &list::asked(random, card)).bytes(),
-        Opcode::PartsSet => Request::Set(member, id, &list::given(random, card)).bytes(),
+        Opcode::PartsGet => Request::Get(member, id, 0, &list::asked(random, queues)).bytes(),
+        Opcode::PartsSet => Request::Set(member, id, &list::given(random, card, queues)).bytes(),
         _ => Request::Modify(member, id, random.below(2) as u8).bytes(),
     }
 }

@@ -5,7 +5,7 @@ use plain_card::opcode::{Opcode, SUPPORTED};
 use plain_card::part::HEADER;
 use plain_card::Card;
 
-use super::{command, length, list, place, placed, Favoured};
+use super::{command, length, list, place, placed, queues_of, Favoured};
 use crate::call::Call;
 use crate::fields::Fields;
 use crate::memory::Room;
@@ -123,7 +123,7 @@ fn made_up(random: &mut Random, card: &Card) -> (u16, u8, Vec<u8>) {
     match opcode {
         Opcode::Metadata if what == 2 => reply.extend(header_list(random)),
         Opcode::ListQuery | Opcode::Query | Opcode::Metadata => reply.extend(random.bytes(8)),
-        Opcode::PartsGet => reply.extend(list::given(random, card)),
+        Opcode::PartsGet => reply.extend(list::given(random, card, queues_of(card, 1))),
         _ => {}
     }
     (opcode as u16, what, reply)

@@ -15,10 +15,10 @@ const LONG: [usize; 15] = [15, 16, 17, 18, 32, 33, 41, 64, 65, 127, 128, 129, 20
 /// Where the list of a parts set starts.
 const SET_LIST: usize = DATA + 8;
 
-/// The headers of a parts get.
-pub fn asked(random: &mut Random, card: &Card) -> Vec<u8> {
+/// The headers of a parts get, for a member with `queues` queues.
+pub fn asked(random: &mut Random, queues: u8) -> Vec<u8> {
     let mut headers: Vec<Vec<u8>> =
-        some_parts(random, card).into_iter().map(|part| part.header().to_vec()).collect();
+        some_parts(random, queues).into_iter().map(|part| part.header().to_vec()).collect();
     if random.chance(25) {
         headers.iter_mut().for_each(|header| add_noise(random, header));
         headers.iter_mut().for_each(|header| header[12..16].fill(0xff));
@@ -26,36 +26,36 @@ pub fn asked(random: &mut Random, card: &Card) -> Vec<u8> {
     if random.chance(25) {
         let bad = match random.below(2) {
             0 if !headers.is_empty() => repeated(random, &headers),
-            _ => unknown_part(random, card, OPTIONAL)[..16].to_vec(),
+            _ => unknown_part(random, queues, OPTIONAL)[..16].to_vec(),
         };
         insert(random, &mut headers, bad);
     }
     if random.chance(4) {
-        headers = many_headers(random, card);
+        headers = many_headers(random, queues);
     }
     headers.concat()
 }
 
 /// Many headers: one for each part and then some that make the list bad.
-fn many_headers(random: &mut Random, card: &Card) -> Vec<Vec<u8>> {
-    let mut headers: Vec<Vec<u8>> =
-        inventory(card.setup.queues).map(|part| part.header().to_vec()).collect();
+fn many_headers(random: &mut Random, queues: u8) -> Vec<Vec<u8>> {
+    let mut headers: Vec<Vec<u8>> = inventory(queues).map(|part| part.header().to_vec()).collect();
     random.shuffle(&mut headers);
     let known = headers.clone();
     for _ in headers.len()..random.pick(&LONG) {
         headers.push(match random.chance(70) {
             true => repeated(random, &known),
-            false => unknown_part(random, card, OPTIONAL)[..HEADER].to_vec(),
+            false => unknown_part(random, queues, OPTIONAL)[..HEADER].to_vec(),
         });
     }
     headers
 }
 
-/// The parts of a parts set: those of a member, or of random values.
-pub fn given(random: &mut Random, card: &Card) -> Vec<u8> {
+/// The parts of a parts set, for a member with `queues` queues: with values of a
+/// member, or random ones.
+pub fn given(random: &mut Random, card: &Card, queues: u8) -> Vec<u8> {
     let from = random.below(card.members.len().max(1));
     let captured = random.chance(40);
-    let mut parts: Vec<Vec<u8>> = some_parts(random, card)
+    let mut parts: Vec<Vec<u8>> = some_parts(random, queues)
         .into_iter()
         .map(|name| match card.members.get(from) {
             Some(record) if captured || name == Part::DeviceFeatures => {
@@ -68,17 +68,17 @@ pub fn given(random: &mut Random, card: &Card) -> Vec<u8> {
         parts.iter_mut().for_each(|part| add_noise(random, part));
     }
     while random.chance(30) {
-        let skipped = unknown_part(random, card, OPTIONAL);
+        let skipped = unknown_part(random, queues, OPTIONAL);
         insert(random, &mut parts, skipped.clone());
         if random.chance(30) {
             insert(random, &mut parts, skipped);
         }
     }
     if random.chance(5) {
-        make_long(random, card, &mut parts);
+        make_long(random, queues, &mut parts);
     }
     if random.chance(40) {
-        make_bad(random, card, &mut parts);
+        make_bad(random, card, queues, &mut parts);
     }
     if random.chance(3) {
         fill_up(random, &mut parts);
@@ -87,8 +87,8 @@ pub fn given(random: &mut Random, card: &Card) -> Vec<u8> {
 }
 
 /// Some or all parts that a member has, in any order.
-fn some_parts(random: &mut Random, card: &Card) -> Vec<Part> {
-    let mut parts: Vec<Part> = inventory(card.setup.queues).collect();
+fn some_parts(random: &mut Random, queues: u8) -> Vec<Part> {
+    let mut parts: Vec<Part> = inventory(queues).collect();
     if random.chance(25) {
         return parts;
     }
@@ -113,9 +113,9 @@ fn add_noise(random: &mut Random, part: &mut [u8]) {
     }
 }
 
-/// A part that the members have not got.
-fn unknown_part(random: &mut Random, card: &Card, flags: u8) -> Vec<u8> {
-    let queues = u64::from(card.setup.queues);
+/// A part that a member with `queues` queues has not got.
+fn unknown_part(random: &mut Random, queues: u8, flags: u8) -> Vec<u8> {
+    let queues = u64::from(queues);
     let (part_type, selector) = match random.below(7) {
         0 => (0x104 + random.below(2) as u16, queues + random.below(3) as u64),
         1 => (0x104 + random.below(2) as u16, random.below(4) as u64 | 1 << (8 + random.below(8))),
@@ -145,10 +145,10 @@ fn repeated(random: &mut Random, parts: &[Vec<u8>]) -> Vec<u8> {
 }
 
 /// Makes a given list bad in one way.
-fn make_bad(random: &mut Random, card: &Card, parts: &mut Vec<Vec<u8>>) {
+fn make_bad(random: &mut Random, card: &Card, queues: u8, parts: &mut Vec<Vec<u8>>) {
     if parts.is_empty() || random.chance(15) {
         let flags = random.pick(&[0, 0, 2, 0xfe]);
-        let mandatory = unknown_part(random, card, flags);
+        let mandatory = unknown_part(random, queues, flags);
         return insert(random, parts, mandatory);
     }
     let at = random.below(parts.len());
@@ -178,7 +178,7 @@ fn make_bad(random: &mut Random, card: &Card, parts: &mut Vec<Vec<u8>>) {
         }
         5 => parts.push(vec![0; 1 + random.below(15)]),
         6 | 7 => {
-            let queue = Part::Queue(random.below(usize::from(card.setup.queues).clamp(1, 4)) as u8);
+            let queue = Part::Queue(random.below(queues.into()) as u8);
             let value = value::bad_queue(random);
             insert(random, parts, part(queue, &value));
         }
@@ -200,7 +200,7 @@ fn make_bad(random: &mut Random, card: &Card, parts: &mut Vec<Vec<u8>>) {
 
 /// Brings a given list to many parts by some that are skipped. Parts that leave
 /// no room for them go.
-fn make_long(random: &mut Random, card: &Card, parts: &mut Vec<Vec<u8>>) {
+fn make_long(random: &mut Random, queues: u8, parts: &mut Vec<Vec<u8>>) {
     let count = random.pick(&LONG);
     let room = LONGEST - SET_LIST;
     let fits = |parts: &[Vec<u8>]| {
@@ -211,7 +211,7 @@ fn make_long(random: &mut Random, card: &Card, parts: &mut Vec<Vec<u8>>) {
         parts.pop();
     }
     while parts.len() < count {
-        let mut skipped = unknown_part(random, card, OPTIONAL);
+        let mut skipped = unknown_part(random, queues, OPTIONAL);
         skipped.truncate(HEADER);
         skipped[12..].fill(0);
         insert(random, parts, skipped);
@@ -237,17 +237,17 @@ mod tests {
     use super::*;
     use crate::draw::sound_card;
     use plain_card::list;
+    use plain_card::member::Member;
 
     #[test]
     fn long_lists_of_every_length_are_drawn_and_some_are_good() {
         let mut random = Random::new(1, 0);
         let mut good = [false; LONG.len()];
         for _ in 0..20_000 {
-            let card = sound_card(&mut random);
+            let Member { values, queues, .. } = sound_card(&mut random).members[0].clone();
             let mut parts = vec![];
-            make_long(&mut random, &card, &mut parts);
-            let values = &card.members[0].values;
-            assert!(list::given(&parts.concat(), values, card.setup.queues).is_ok());
+            make_long(&mut random, queues, &mut parts);
+            assert!(list::given(&parts.concat(), &values, queues).is_ok());
             good[LONG.iter().position(|count| *count == parts.len()).unwrap()] = true;
             if good == [true; LONG.len()] {
                 return;
@@ -259,11 +259,10 @@ mod tests {
     #[test]
     fn long_lists_hold_known_parts_behind_many_others() {
         let mut random = Random::new(1, 0);
-        let card = sound_card(&mut random);
         let status = part(Part::DeviceStatus, &[7]);
         let behind_128 = (0..1_000).any(|_| {
             let mut parts = vec![status.clone()];
-            make_long(&mut random, &card, &mut parts);
+            make_long(&mut random, 2, &mut parts);
             parts.iter().position(|part| *part == status).is_some_and(|at| at > 128)
         });
         assert!(behind_128);
@@ -273,9 +272,8 @@ mod tests {
     fn many_headers_start_with_every_part() {
         let mut random = Random::new(1, 0);
         for _ in 0..200 {
-            let card = sound_card(&mut random);
-            let queues = card.setup.queues;
-            let headers = many_headers(&mut random, &card);
+            let queues = 1 + random.below(4) as u8;
+            let headers = many_headers(&mut random, queues);
             let count = inventory(queues).count();
             assert!(list::asked(&headers[..count].concat(), queues).is_ok());
             assert_eq!(list::asked(&headers.concat(), queues).is_ok(), headers.len() == count);

@@ -7,22 +7,22 @@ mod length;
 mod list;
 mod message;
 mod restore;
+mod setup;
 mod spoil;
 mod value;
 
-pub use card::{any_bytes, other_record, record, setup_numbers, sound_card};
+pub use card::{any_bytes, other_record, record, sound_card};
 pub use list::{asked, given};
 pub use message::generation;
 pub use restore::{list_to_restore, set_id};
 pub use value::good as good_value;
 
-use plain_card::bytes::RECORD;
 use plain_card::opcode::Opcode;
 use plain_card::part::{inventory, Part, MAX_QUEUES};
 use plain_card::Card;
 
 use crate::call::Call;
-use crate::memory::{Buffer, Place, Room};
+use crate::memory::{Buffer, Place};
 use crate::random::Random;
 
 /// Members that the calls of a sequence name more often than others, as
@@ -71,7 +71,7 @@ fn placed(random: &mut Random, bytes: Vec<u8>) -> Buffer {
 /// bytes that mostly are not.
 pub fn first(random: &mut Random) -> Call {
     match random.weighted(&[35, 45, 20]) {
-        0 => setup(random),
+        0 => setup::make(random),
         1 => {
             let card = plain_card::bytes::write(&sound_card(random));
             Call::Card(placed(random, card))
@@ -91,7 +91,7 @@ pub fn next(random: &mut Random, card: Option<&Card>, favoured: Favoured) -> Cal
         return first(random);
     }
     if random.chance(1) {
-        return Call::CardBytes(any_count(random));
+        return Call::CardBytes(setup::any_count(random));
     }
     let drawn;
     let card = match card {
@@ -101,9 +101,10 @@ pub fn next(random: &mut Random, card: Option<&Card>, favoured: Favoured) -> Cal
             &drawn
         }
     };
-    match random.chance(10) {
-        true => host::call(random, card, favoured),
-        false => on_card(random, card, favoured),
+    match random.weighted(&[10, 5, 85]) {
+        0 => host::call(random, card, favoured),
+        1 => setup::pack(random),
+        _ => on_card(random, card, favoured),
     }
 }
 
@@ -125,40 +126,10 @@ pub fn on_card(random: &mut Random, card: &Card, favoured: Favoured) -> Call {
     }
 }
 
-/// A setup, in range or not.
-fn setup(random: &mut Random) -> Call {
-    let mut numbers = setup_numbers(random);
-    let mut features = random.bytes(16);
-    let mut length = plain_card::exported::card_bytes(numbers[0]);
-    if random.chance(25) {
-        let at = random.below(4);
-        match random.below(7) {
-            0 => features.truncate(random.below(16)),
-            1 => features.push(0),
-            2 => features.resize(length::wrong(random, 16), 0),
-            3 => length = random.pick(&[0, 28, length - 1, length + 1, length + RECORD]),
-            4 => length = length::wrong(random, length),
-            5 => numbers[at] |= 1 << (8 + random.below(56)),
-            _ => numbers[at] = any_count(random),
-        }
-    }
-    let features = placed(random, features);
-    Call::Setup { numbers, features, card: Room { length, place: place(random) } }
-}
-
-/// A number for a setup, in range or not.
-fn any_count(random: &mut Random) -> u64 {
-    match random.below(3) {
-        0 => random.below(20) as u64,
-        1 => random.pick(&[255, 256, 257, u64::MAX]),
-        _ => random.below(20) as u64 | 1 << (8 + random.below(56)),
-    }
-}
-
 /// A card store, mostly one that is done.
 fn store(random: &mut Random, card: &Card, favoured: Favoured) -> Call {
     let mut member = member(random, card, favoured);
-    let part = any_part_of(random, card);
+    let part = any_part_of(random, queues_of(card, member));
     let mut part_type = part.part_type();
     let mut selector = part.selector();
     let mut value = value::any(random, part);
@@ -182,9 +153,16 @@ fn store(random: &mut Random, card: &Card, favoured: Favoured) -> Call {
     Call::Store { member, part_type, selector: u64::from_le_bytes(selector), value }
 }
 
-/// A part that the card's members have, or now and then one of queues beyond.
-fn any_part_of(random: &mut Random, card: &Card) -> Part {
-    let queues = if random.chance(5) { MAX_QUEUES } else { card.setup.queues };
+/// The number of queues of a member, or one that may be.
+fn queues_of(card: &Card, member: u64) -> u8 {
+    let record = card.members.get((member as usize).wrapping_sub(1));
+    record.map_or(1, |record| record.queues.clamp(1, MAX_QUEUES))
+}
+
+/// A part that a member with so many queues has, or now and then one of queues
+/// beyond.
+fn any_part_of(random: &mut Random, queues: u8) -> Part {
+    let queues = if random.chance(5) { MAX_QUEUES } else { queues };
     let parts: Vec<Part> = inventory(queues).collect();
     random.pick(&parts)
 }

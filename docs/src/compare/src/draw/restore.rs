@@ -6,12 +6,26 @@ use plain_card::list::Header;
 use plain_card::member::{Member, Mode};
 use plain_card::object::Kind;
 use plain_card::part::{inventory, Part, HEADER, OPTIONAL};
-use plain_card::{Card, Setup};
+use plain_card::Card;
 
-use super::{any_member, length, list, member, placed, spoil, value, Favoured};
+use super::{any_member, length, list, member, placed, queues_of, spoil, value, Favoured};
 use crate::call::Call;
 use crate::part_bytes::{any_part, part};
 use crate::random::Random;
+
+/// What a list goes by: the number of queues of its member, and the device
+/// features.
+#[derive(Clone, Copy)]
+pub struct Target<'a> {
+    pub queues: u8,
+    pub features: &'a [u8; 16],
+}
+
+impl<'a> Target<'a> {
+    fn of(card: &'a Card, member: u64) -> Target<'a> {
+        Target { queues: queues_of(card, member), features: &card.setup.features }
+    }
+}
 
 /// A call of a restore; mostly one that goes on with what is begun.
 pub fn restore(random: &mut Random, card: &Card, favoured: Favoured) -> Call {
@@ -27,7 +41,7 @@ pub fn restore(random: &mut Random, card: &Card, favoured: Favoured) -> Call {
     match random.weighted(&weights) {
         0 => Call::Begin(member),
         1 => {
-            let fragment = fragment(random, card, held.unwrap_or_default());
+            let fragment = fragment(random, card, member, held.unwrap_or_default());
             Call::Feed { member, fragment: placed(random, fragment) }
         }
         2 => Call::Finish { member, id: set_id(random, card, member) },
@@ -69,16 +83,16 @@ pub fn set_id(random: &mut Random, card: &Card, member: u64) -> u32 {
     }
 }
 
-/// A list of at most 1,024 bytes, good or not.
-pub fn list_to_restore(random: &mut Random, card: &Card) -> Vec<u8> {
+/// A list of at most 1,024 bytes for a member, good or not.
+pub fn list_to_restore(random: &mut Random, card: &Card, member: u64) -> Vec<u8> {
     let mut list = vec![];
     for _ in 0..1 + random.below(4) {
-        let more = fragment(random, card, &list);
+        let more = fragment(random, card, member, &list);
         if list.len() + more.len() <= ROOM {
             list.extend(more);
         }
     }
-    let rest = rest_of_part(random, &card.setup, &list);
+    let rest = rest_of_part(random, Target::of(card, member), &list);
     if list.len() + rest.len() <= ROOM && random.chance(70) {
         list.extend(rest);
     }
@@ -87,13 +101,14 @@ pub fn list_to_restore(random: &mut Random, card: &Card) -> Vec<u8> {
 
 /// A fragment behind the bytes held: empty, what is left of a list or a piece
 /// of it cut anywhere, to the end of the room or a byte past it, or longer.
-fn fragment(random: &mut Random, card: &Card, held: &[u8]) -> Vec<u8> {
+fn fragment(random: &mut Random, card: &Card, member: u64, held: &[u8]) -> Vec<u8> {
+    let target = Target::of(card, member);
     let room = ROOM.saturating_sub(held.len());
-    let mut rest = rest_of_part(random, &card.setup, held);
+    let mut rest = rest_of_part(random, target, held);
     match random.weighted(&[10, 68, 6, 4, 8, 4]) {
         0 => rest.clear(),
         1 => {
-            rest.extend(more_parts(random, card, &[held, &rest].concat()));
+            rest.extend(more_parts(random, card, target, &[held, &rest].concat()));
             if random.chance(60) {
                 rest.truncate(random.below(rest.len() + 1));
             }
@@ -122,18 +137,18 @@ fn fill_up(rest: &mut Vec<u8>, length: usize) {
 }
 
 /// More parts for a list: some that it has not named, or any list.
-fn more_parts(random: &mut Random, card: &Card, list: &[u8]) -> Vec<u8> {
+fn more_parts(random: &mut Random, card: &Card, target: Target, list: &[u8]) -> Vec<u8> {
+    let queues = target.queues;
     if random.chance(40) {
-        return list::given(random, card);
+        return list::given(random, card, queues);
     }
-    let queues = card.setup.queues;
     let (parts, _) = whole_parts(list);
     let named: Vec<Part> =
         parts.iter().filter_map(|part| Header::read(&part[..HEADER]).part(queues)).collect();
     let mut others: Vec<Part> = inventory(queues).filter(|part| !named.contains(part)).collect();
     random.shuffle(&mut others);
     others.truncate(random.below(4));
-    others.iter().flat_map(|part| random_part(random, &card.setup, &[*part])).collect()
+    others.iter().flat_map(|part| random_part(random, target, &[*part])).collect()
 }
 
 /// The parts of a list up to the first that is cut, and what is behind them.
@@ -149,19 +164,19 @@ fn whole_parts(list: &[u8]) -> (Vec<&[u8]>, &[u8]) {
 
 /// What is missing of the last part of a list that is cut: nothing if it is not
 /// cut, or not in a part that members have.
-fn rest_of_part(random: &mut Random, setup: &Setup, list: &[u8]) -> Vec<u8> {
+fn rest_of_part(random: &mut Random, target: Target, list: &[u8]) -> Vec<u8> {
     let (_, last) = whole_parts(list);
     match header_length(last) {
-        Some(value) if value <= ROOM => rest_of_value(random, setup, last, value),
+        Some(value) if value <= ROOM => rest_of_value(random, target.queues, last, value),
         Some(_) => vec![],
         None if last.is_empty() => vec![],
         None => {
             let fits = |part: &Part| part.header().starts_with(last);
-            let parts: Vec<Part> = inventory(setup.queues).filter(fits).collect();
+            let parts: Vec<Part> = inventory(target.queues).filter(fits).collect();
             if parts.is_empty() {
                 return vec![];
             }
-            let whole = random_part(random, setup, &parts);
+            let whole = random_part(random, target, &parts);
             whole[last.len()..].to_vec()
         }
     }
@@ -169,9 +184,9 @@ fn rest_of_part(random: &mut Random, setup: &Setup, list: &[u8]) -> Vec<u8> {
 
 /// What is missing of the value, of this length, of a part whose header is
 /// whole.
-fn rest_of_value(random: &mut Random, setup: &Setup, last: &[u8], length: usize) -> Vec<u8> {
+fn rest_of_value(random: &mut Random, queues: u8, last: &[u8], length: usize) -> Vec<u8> {
     let (header, start) = last.split_at(HEADER);
-    match Header::read(header).part(setup.queues) {
+    match Header::read(header).part(queues) {
         Some(part) if part.length() as usize == length => value::rest(random, part, start),
         _ => random.bytes(length - start.len()),
     }
@@ -184,16 +199,16 @@ fn header_length(bytes: &[u8]) -> Option<usize> {
 }
 
 /// One of the parts with a random value; device features are the setup's.
-fn random_part(random: &mut Random, setup: &Setup, parts: &[Part]) -> Vec<u8> {
+fn random_part(random: &mut Random, target: Target, parts: &[Part]) -> Vec<u8> {
     match random.pick(parts) {
-        name @ Part::DeviceFeatures => part(name, &setup.features),
+        name @ Part::DeviceFeatures => part(name, target.features),
         name => part(name, &value::good(random, name)),
     }
 }
 
 /// A holding place: open with the start of a list or any bytes, often at an end
 /// of its room, or none; now and then with bytes that are not held.
-pub fn holding(random: &mut Random, setup: &Setup) -> Holding {
+pub fn holding(random: &mut Random, target: Target) -> Holding {
     let mut holding = Holding::default();
     if random.chance(90) {
         let length = match random.weighted(&[60, 20, 20]) {
@@ -201,10 +216,10 @@ pub fn holding(random: &mut Random, setup: &Setup) -> Holding {
             1 => random.below(ROOM + 1),
             _ => random.pick(&[0, 0, 1, ROOM - 1, ROOM]),
         };
-        let mut parts: Vec<Part> = inventory(setup.queues).collect();
+        let mut parts: Vec<Part> = inventory(target.queues).collect();
         random.shuffle(&mut parts);
         let mut list: Vec<u8> =
-            parts.iter().flat_map(|part| random_part(random, setup, &[*part])).collect();
+            parts.iter().flat_map(|part| random_part(random, target, &[*part])).collect();
         fill_up(&mut list, ROOM);
         if random.chance(20) {
             list = random.bytes(ROOM);
@@ -274,11 +289,13 @@ mod tests {
         let mut random = Random::new(1, 0);
         let mut held = [false; ROOM + 1];
         let mut long = 0;
-        for _ in 0..40_000 {
+        for _ in 0..4_000 {
             let card = ready(&mut random);
-            let fragment = fragment(&mut random, &card, &[]);
-            long += usize::from(fragment.len() > 1 << 16);
-            held.iter_mut().skip(fragment.len()).take(1).for_each(|seen| *seen = true);
+            for _ in 0..25 {
+                let fragment = fragment(&mut random, &card, 1, &[]);
+                long += usize::from(fragment.len() > 1 << 16);
+                held.iter_mut().skip(fragment.len()).take(1).for_each(|seen| *seen = true);
+            }
         }
         assert!(held[..300].iter().all(|seen| *seen));
         assert!(held[ROOM - 1] && held[ROOM] && long > 100);
@@ -289,13 +306,13 @@ mod tests {
         let mut random = Random::new(1, 0);
         for _ in 0..1_000 {
             let card = ready(&mut random);
-            let setup = &card.setup;
-            let parts: Vec<Part> = inventory(setup.queues).collect();
-            let whole = random_part(&mut random, setup, &parts);
+            let target = Target::of(&card, 1);
+            let queues = target.queues;
+            let parts: Vec<Part> = inventory(queues).collect();
+            let whole = random_part(&mut random, target, &parts);
             let cut = 1 + random.below(whole.len() - 1);
-            let rest = rest_of_part(&mut random, setup, &whole[..cut]);
+            let rest = rest_of_part(&mut random, target, &whole[..cut]);
             let list = [&whole[..cut], &rest].concat();
-            let queues = setup.queues;
             let features = cut >= HEADER && whole[..2] == [0, 1];
             assert!(
                 features || plain_card::list::given(&list, &card.members[0].values, queues).is_ok()

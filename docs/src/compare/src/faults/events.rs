@@ -88,7 +88,7 @@ fn card_keeps_list(outcome: &mut Outcome) {
 
 fn wipe_keeps_beyond(outcome: &mut Outcome) {
     if let Some((before, after, member)) = outcome.wiped() {
-        let queues = usize::from(after.setup.queues);
+        let queues = usize::from(after.member(member).queues);
         let old = &before.member(member).values;
         let new = &mut after.member_mut(member).values;
         new.queues[queues..].copy_from_slice(&old.queues[queues..]);
@@ -135,7 +135,8 @@ fn store_short(outcome: &mut Outcome) {
     if *outcome.answer == 3 {
         if let Some((_, after)) = outcome.cards() {
             let selector = selector.to_le_bytes();
-            let Some(part) = Part::named(*part_type, selector, after.setup.queues) else { return };
+            let queues = after.member(*member).queues;
+            let Some(part) = Part::named(*part_type, selector, queues) else { return };
             let target = after.member_mut(*member).values.get_mut(part);
             if value.len() < target.len() {
                 target[..value.len()].copy_from_slice(value);
@@ -155,7 +156,7 @@ fn store_next(outcome: &mut Outcome) {
 }
 
 fn setup_without_zeros(outcome: &mut Outcome) {
-    let Call::Setup { card, .. } = outcome.call else { return };
+    let (Call::Setup { card, .. } | Call::SetupFrom { card, .. }) = outcome.call else { return };
     if *outcome.answer == 4 {
         let bytes: Vec<u8> = (0..card.length).map(pattern).collect();
         *outcome.after = Plain::from_bytes(&bytes);
@@ -163,7 +164,7 @@ fn setup_without_zeros(outcome: &mut Outcome) {
 }
 
 fn setup_cut(call: &mut Call) {
-    if let Call::Setup { numbers, .. } = call {
+    if let Call::Setup { numbers, .. } | Call::WriteSetup { numbers, .. } = call {
         *numbers = numbers.map(|number| number & 0xff);
     }
 }

@@ -67,7 +67,8 @@ fn framed<'a>(card: &Card, request: &'a [u8]) -> Option<Frame<'a>> {
 fn wipe_unmarked(outcome: &mut Outcome) {
     let (Call::Wipe { member, generation }, 6) = (outcome.call, *outcome.answer) else { return };
     if let Some((_, after)) = outcome.cards() {
-        *after.member_mut(*member) = Member::fresh(&after.setup, *generation);
+        let queues = after.member(*member).queues;
+        *after.member_mut(*member) = Member::fresh(&after.setup, queues, *generation);
         *outcome.answer = 0;
     }
 }

@@ -8,7 +8,7 @@ use plain_card::part::HEADER;
 use plain_card::status::Refusal;
 use plain_card::Card;
 
-use super::tools::{each_part, framed, given, list_start, named, operation, parts};
+use super::tools::{each_part, framed, given, list_start, named, operation, parts, queues};
 use super::{fault, Fault, Plant};
 use crate::call::Call;
 
@@ -101,8 +101,9 @@ fn repeats_past_32(card: &Card, request: &mut Vec<u8>) {
         return;
     }
     let mut known = vec![];
+    let count = queues(card, request);
     for (index, range) in parts(card, request).into_iter().enumerate() {
-        let Some(name) = named(card, &request[range.clone()]) else { continue };
+        let Some(name) = named(count, &request[range.clone()]) else { continue };
         if index >= 32 && known.contains(&name) {
             make_skipped(&mut request[range]);
         }
@@ -128,8 +129,9 @@ fn part_cut(card: &Card, request: &mut Vec<u8>) {
     if !sets(card, request) {
         return;
     }
+    let count = queues(card, request);
     for range in parts(card, request).into_iter().rev() {
-        let Some(name) = named(card, &request[range.clone()]) else { continue };
+        let Some(name) = named(count, &request[range.clone()]) else { continue };
         let (length, wanted) = (range.len() - HEADER, name.length() as usize);
         if length > wanted && (length - wanted) % 256 == 0 {
             request[range.start + 12..range.start + 16]

@@ -11,6 +11,10 @@ pub const FAULTS: &[Fault] = &[
     fault("memory: request read in words of 8", Plant::Misuse(request_words)),
     fault("memory: byte behind the value read", Plant::Misuse(value_behind)),
     fault("memory: byte behind the features read", Plant::Misuse(features_behind)),
+    fault("memory: byte behind the queues read", Plant::Misuse(queues_behind)),
+    fault("memory: byte behind a packed setup read", Plant::Misuse(setup_behind)),
+    fault("memory: packed setup changed", Plant::Misuse(setup_changed)),
+    fault("memory: byte behind a written setup written", Plant::Misuse(written_behind)),
     fault("memory: byte behind the fragment read", Plant::Misuse(fragment_behind)),
     fault("memory: byte behind the message read", Plant::Misuse(message_behind)),
     fault("memory: message changed", Plant::Misuse(message_changed)),
@@ -35,17 +39,18 @@ pub const FAULTS: &[Fault] = &[
     fault("memory: reply to read changed", Plant::Misuse(reply_read_changed)),
 ];
 
-/// The request of a command, the message, the value of a store, the features of
-/// a setup or the fragment of a feed, if that is what the call reads.
+/// What the call reads of this name.
 fn input<'a>(name: &str, call: &Call, lending: &'a mut Lending) -> Option<&'a mut Lent> {
-    call.input().filter(|(input, _)| *input == name).map(|_| &mut *lending.input)
+    let at = call.inputs().iter().position(|(input, _)| *input == name)?;
+    lending.inputs.get_mut(at)
 }
 
 /// Whether the call is one that is lent the card.
 fn on_card(call: &Call) -> bool {
     let half = matches!(call, Call::HandBack(_) | Call::Wipe { .. });
     let event = half || matches!(call, Call::ResetCard(_) | Call::Store { .. });
-    event || matches!(call, Call::Setup { .. } | Call::Command { .. } | Call::Message { .. })
+    let setup = matches!(call, Call::Setup { .. } | Call::SetupFrom { .. });
+    event || setup || matches!(call, Call::Command { .. } | Call::Message { .. })
 }
 
 fn read_behind(lent: &Lent) {
@@ -94,6 +99,30 @@ fn value_behind(call: &Call, lending: &mut Lending) {
 fn features_behind(call: &Call, lending: &mut Lending) {
     if let Some(features) = input("features", call, lending) {
         read_behind(features);
+    }
+}
+
+fn queues_behind(call: &Call, lending: &mut Lending) {
+    if let Some(queues) = input("queues", call, lending) {
+        read_behind(queues);
+    }
+}
+
+fn setup_behind(call: &Call, lending: &mut Lending) {
+    if let Some(setup) = input("setup", call, lending) {
+        read_behind(setup);
+    }
+}
+
+fn setup_changed(call: &Call, lending: &mut Lending) {
+    if let Some(setup) = input("setup", call, lending) {
+        change(setup);
+    }
+}
+
+fn written_behind(call: &Call, lending: &mut Lending) {
+    if let Call::WriteSetup { .. } = call {
+        write_behind(lending.reply);
     }
 }
 
@@ -183,7 +212,7 @@ fn fragment_changed(call: &Call, lending: &mut Lending) {
 
 /// The status of a reply is wrong if the request lies at an odd offset.
 fn request_offset(call: &Call, lending: &mut Lending) {
-    if matches!(call, Call::Command { .. }) && lending.input.offset() % 2 == 1 {
+    if matches!(call, Call::Command { .. }) && lending.inputs[0].offset() % 2 == 1 {
         change_first(lending.reply);
     }
 }

@@ -25,6 +25,7 @@ mod parts;
 mod programs;
 mod queue;
 mod restore;
+mod setups;
 mod soundness;
 mod tools;
 
@@ -243,6 +244,7 @@ pub fn all() -> Vec<&'static Fault> {
         message_frame::FAULTS,
         exchange::FAULTS,
         host::FAULTS,
+        setups::FAULTS,
         soundness::FAULTS,
         memory::FAULTS,
     ]

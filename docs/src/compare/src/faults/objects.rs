@@ -33,8 +33,10 @@ pub const FAULTS: &[Fault] = &[
 fn every_id_counts(outcome: &mut Outcome) {
     match outcome.call {
         Call::Wipe { member, .. } => outcome.memory.made.retain(|(m, _), _| m != member),
-        Call::Command { .. } | Call::Store { .. } | Call::HandBack(_) => {}
-        _ => outcome.memory.made.clear(),
+        Call::Setup { .. } | Call::SetupFrom { .. } | Call::Card(_) | Call::ResetCard(_) => {
+            outcome.memory.made.clear();
+        }
+        _ => {}
     }
     let Some((member, Operation::Create(_, kind))) = outcome.operation() else { return };
     let Some((before, _)) = outcome.cards() else { return };

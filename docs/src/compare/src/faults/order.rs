@@ -7,8 +7,9 @@ use plain_card::member::Mode;
 use plain_card::object::{Kind, Objects};
 use plain_card::opcode::Opcode;
 use plain_card::operation::Operation;
+use plain_card::setup::Common;
 use plain_card::status::Refusal;
-use plain_card::{Card, Setup};
+use plain_card::Card;
 
 use super::tools::{framed, operation};
 use super::{fault, Fault, Plant};
@@ -47,7 +48,7 @@ fn limit_before_live(card: &Card, request: &[u8], _: usize) -> Option<Refusal> {
 }
 
 /// Whether there are as many objects of the kind as there may be.
-pub fn full(objects: &Objects, kind: Kind, setup: &Setup) -> bool {
+pub fn full(objects: &Objects, kind: Kind, setup: &Common) -> bool {
     let limit = match kind {
         Kind::Get => setup.gets,
         Kind::Set => setup.sets,
@@ -65,7 +66,7 @@ fn list_before_running(card: &Card, request: &[u8], _: usize) -> Option<Refusal>
     let Operation::PartsSet(_, given) = operation else { return None };
     let record = card.member(member);
     check_objects(operation, &record.objects, &card.setup).ok()?;
-    list::given(given, &record.values, card.setup.queues).err()
+    list::given(given, &record.values, record.queues).err()
 }
 
 /// Room for the headers asked is wanted before they are read.

@@ -5,13 +5,13 @@ use std::collections::BTreeSet;
 use plain_card::command;
 use plain_card::frame::{u16_at, u32_at};
 use plain_card::list::Header;
-use plain_card::member::Mode;
+use plain_card::member::{Member, Mode};
 use plain_card::operation::Operation;
 use plain_card::part::{inventory, Part, HEADER, OPTIONAL, RESERVED_TYPES};
 use plain_card::status::Refusal;
 use plain_card::Card;
 
-use super::tools::{each_part, given, list_start, named, operation, parts};
+use super::tools::{each_part, given, list_start, named, operation, parts, queues};
 use super::{breaking, fault, Fault, Outcome, Plant, Property};
 use crate::call::Call;
 use crate::device::Plain;
@@ -64,8 +64,9 @@ fn parts_before_bad(outcome: &mut Outcome) {
 /// All but the last of parts, or headers, that name the same known part go.
 fn repeats_dropped(card: &Card, request: &mut Vec<u8>) {
     let mut seen = BTreeSet::new();
+    let count = queues(card, request);
     for range in parts(card, request).into_iter().rev() {
-        let repeated = named(card, &request[range.clone()]).is_some_and(|part| !seen.insert(part));
+        let repeated = named(count, &request[range.clone()]).is_some_and(|part| !seen.insert(part));
         if repeated {
             request.drain(range);
         }
@@ -73,7 +74,8 @@ fn repeats_dropped(card: &Card, request: &mut Vec<u8>) {
 }
 
 fn optional_refused(card: &Card, request: &[u8], _: usize) -> Option<Refusal> {
-    let unknown = given(card, request)?.iter().any(|part| named(card, part).is_none());
+    let count = queues(card, request);
+    let unknown = given(card, request)?.iter().any(|part| named(count, part).is_none());
     unknown.then_some(Refusal::BadList)
 }
 
@@ -88,7 +90,8 @@ fn reserved_skipped(card: &Card, request: &mut Vec<u8>) {
 fn unknown_repeated(card: &Card, request: &[u8], _: usize) -> Option<Refusal> {
     let mut seen = BTreeSet::new();
     let parts = given(card, request)?;
-    let mut unknown = parts.iter().filter(|part| named(card, part).is_none());
+    let count = queues(card, request);
+    let mut unknown = parts.iter().filter(|part| named(count, part).is_none());
     let repeated = unknown.any(|part| !seen.insert((u16_at(part, 0), part[4..12].to_vec())));
     repeated.then_some(Refusal::BadList)
 }
@@ -99,9 +102,10 @@ fn any_flag(card: &Card, request: &mut Vec<u8>) {
 
 /// A known part under other unread selector bytes counts as unknown.
 fn selector_whole(card: &Card, request: &mut Vec<u8>) {
+    let count = queues(card, request);
     each_part(card, request, |part| {
         let unread = unread_selector(u16_at(part, 0));
-        if named(card, part).is_some() && part[4..12][unread].iter().any(|byte| *byte != 0) {
+        if named(count, part).is_some() && part[4..12][unread].iter().any(|byte| *byte != 0) {
             part[..2].copy_from_slice(&UNKNOWN.to_le_bytes());
         }
     });
@@ -116,13 +120,15 @@ fn index_cut(card: &Card, request: &mut Vec<u8>) {
 }
 
 fn flags_read(card: &Card, request: &[u8], _: usize) -> Option<Refusal> {
-    let other = |part: &&[u8]| named(card, part).is_some_and(|name| name.flags() != part[2]);
+    let count = queues(card, request);
+    let other = |part: &&[u8]| named(count, part).is_some_and(|name| name.flags() != part[2]);
     given(card, request)?.iter().any(other).then_some(Refusal::BadList)
 }
 
 fn features_ignored(card: &Card, request: &mut Vec<u8>) {
+    let count = queues(card, request);
     each_part(card, request, |part| {
-        if named(card, part) == Some(Part::DeviceFeatures) && part.len() == HEADER + 16 {
+        if named(count, part) == Some(Part::DeviceFeatures) && part.len() == HEADER + 16 {
             part[HEADER..].copy_from_slice(&card.setup.features);
         }
     });
@@ -133,9 +139,10 @@ fn features_set(outcome: &mut Outcome) {
     let Some((member, Operation::PartsSet(..))) = outcome.operation() else { return };
     let Call::Command { request, .. } = outcome.call else { return };
     let Some((before, after)) = outcome.cards() else { return };
+    let count = before.member(member).queues;
     let features = |range: &std::ops::Range<usize>| {
         let part = &request[range.clone()];
-        named(before, part) == Some(Part::DeviceFeatures) && part.len() == HEADER + 16
+        named(count, part) == Some(Part::DeviceFeatures) && part.len() == HEADER + 16
     };
     let Some(range) = parts(before, request).into_iter().find(features) else { return };
     let mut misheard = request.bytes.clone();
@@ -196,8 +203,8 @@ fn asked_order(outcome: &mut Outcome) {
     let Some((member, Operation::GetSelected(_, headers))) = outcome.operation() else { return };
     let asked: Vec<u8> = headers.to_vec();
     if let (true, Some((before, _))) = (outcome.succeeded(), outcome.cards()) {
-        let values = &before.member(member).values;
-        let names = asked.chunks(HEADER).filter_map(|header| named(before, header));
+        let Member { values, queues, .. } = before.member(member);
+        let names = asked.chunks(HEADER).filter_map(|header| named(*queues, header));
         let parts: Vec<u8> =
             names.flat_map(|name| crate::part_bytes::part(name, values.get(name))).collect();
         outcome.reply[8..8 + parts.len()].copy_from_slice(&parts);
@@ -231,7 +238,8 @@ fn queue_cut(outcome: &mut Outcome) {
 
 fn features_refused(card: &Card, request: &[u8], _: usize) -> Option<Refusal> {
     let parts = given(card, request)?;
-    let has = parts.iter().any(|part| named(card, part) == Some(Part::DeviceFeatures));
+    let count = queues(card, request);
+    let has = parts.iter().any(|part| named(count, part) == Some(Part::DeviceFeatures));
     has.then_some(Refusal::BadList)
 }
 

@@ -7,7 +7,7 @@ use plain_card::part::{Part, HEADER};
 use plain_card::status::Refusal;
 use plain_card::{queue, Card};
 
-use super::tools::{given, named, parts};
+use super::tools::{given, named, parts, queues};
 use super::{breaking, fault, Fault, Outcome, Plant, Property};
 use crate::call::Call;
 
@@ -31,16 +31,20 @@ pub const FAULTS: &[Fault] = &[
 /// A rule for size and enabled field.
 type Rule = fn(u16, u16) -> bool;
 
-/// Whether a part is a queue that the member has, and the rule holds for it.
-fn holds(card: &Card, part: &[u8], rule: Rule) -> bool {
-    let known = matches!(named(card, part), Some(Part::Queue(_)));
+/// Whether a part is a queue of a member with `queues` queues, and the rule holds
+/// for it.
+fn holds(queues: u8, part: &[u8], rule: Rule) -> bool {
+    let known = matches!(named(queues, part), Some(Part::Queue(_)));
     known && part.len() == HEADER + 32 && rule(u16_at(part, HEADER), u16_at(part, HEADER + 4))
 }
 
 /// The part that a card store names, if it has its length and the rule holds.
 fn stored(outcome: &mut Outcome, rule: Rule) -> Option<Part> {
-    let Call::Store { part_type: 0x104, selector, value, .. } = outcome.call else { return None };
-    let queues = outcome.cards()?.0.setup.queues;
+    let Call::Store { member, part_type: 0x104, selector, value } = outcome.call else {
+        return None;
+    };
+    let (card, _) = outcome.cards()?;
+    let queues = card.setup.has_member(*member).then(|| card.member(*member).queues)?;
     let part = Part::named(0x104, selector.to_le_bytes(), queues)?;
     (value.len() == 32 && rule(u16_at(value, 0), u16_at(value, 4))).then_some(part)
 }
@@ -69,17 +73,18 @@ fn taken(outcome: &mut Outcome, rule: Rule) {
     let Some((before, after)) = outcome.cards() else { return };
     let mut card = before.clone();
     let mut misheard = request.bytes.clone();
-    let mut queues = vec![];
+    let count = queues(before, request);
+    let mut replaced = vec![];
     for range in parts(before, request) {
-        if holds(before, &request[range.clone()], rule) {
+        if holds(count, &request[range.clone()], rule) {
             misheard[range.start + HEADER..range.end].fill(0);
-            queues.extend(named(before, &request[range.clone()]).map(|part| (part, range)));
+            replaced.extend(named(count, &request[range.clone()]).map(|part| (part, range)));
         }
     }
     let mut reply = [1; 8];
     command(&mut card, &misheard, &mut reply);
     if reply == [0; 8] {
-        for (part, range) in queues {
+        for (part, range) in replaced {
             let value = &request[range][HEADER..];
             card.member_mut(member).values.get_mut(part).copy_from_slice(value);
         }
@@ -96,7 +101,8 @@ fn refused(outcome: &mut Outcome, rule: Rule) {
     }
     let Call::Command { request, .. } = outcome.call else { return };
     let Some((before, _)) = outcome.cards() else { return };
-    let has = |parts: Vec<&[u8]>| parts.iter().any(|part| holds(before, part, rule));
+    let count = queues(before, request);
+    let has = |parts: Vec<&[u8]>| parts.iter().any(|part| holds(count, part, rule));
     if given(before, request).is_some_and(has) && outcome.succeeded() {
         *outcome.after = outcome.before.clone();
         outcome.reply[..8].copy_from_slice(&Refusal::BadList.reply());
@@ -154,9 +160,10 @@ fn size_before_length(outcome: &mut Outcome) {
 }
 
 fn skipped_tried(card: &Card, request: &[u8], _: usize) -> Option<Refusal> {
+    let count = queues(card, request);
     let bad = |part: &&[u8]| {
         let queue = u16_at(part, 0) == 0x104 && part.len() == HEADER + 32;
-        queue && named(card, part).is_none() && !queue::allowed(&part[HEADER..])
+        queue && named(count, part).is_none() && !queue::allowed(&part[HEADER..])
     };
     given(card, request)?.iter().any(bad).then_some(Refusal::BadList)
 }

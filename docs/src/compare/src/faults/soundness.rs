@@ -1,6 +1,8 @@
 //! Cards that are not sound, taken for sound ones.
 
-use plain_card::bytes::{HEADER, HELD, HOLDING, MODE, OBJECTS, RECORD, VALUES};
+use plain_card::bytes::{
+    FEATURES, HEADER, HELD, HOLDING, IN_USE, MODE, OBJECTS, QUEUES, RECORD, VALUES,
+};
 use plain_card::frame::u16_at;
 use plain_card::holding::ROOM;
 use plain_card::opcode::SUPPORTED;
@@ -18,6 +20,8 @@ pub const FAULTS: &[Fault] = &[
     fault("sound: ids from G + S not looked at", Plant::Repair(ids)),
     fault("sound: get objects not counted", Plant::Repair(gets)),
     fault("sound: queue count not looked at", Plant::Repair(queues)),
+    fault("is sound: a queue count of 0", Plant::IsSound(no_queues)),
+    fault("is sound: count of the last member unread", Plant::IsSound(last_count)),
     fault("sound: member's features not compared", Plant::Repair(features)),
     fault("sound: length held not looked at", Plant::Repair(held)),
     fault("sound: queue sizes not looked at", Plant::Repair(queue_sizes)),
@@ -40,7 +44,7 @@ pub const FAULTS: &[Fault] = &[
 ];
 
 fn list_bits(card: &mut Vec<u8>) {
-    if let Some(list) = card.get_mut(20..28) {
+    if let Some(list) = card.get_mut(IN_USE..IN_USE + 8) {
         for (byte, supported) in list.iter_mut().zip(SUPPORTED.to_le_bytes()) {
             *byte &= supported;
         }
@@ -65,14 +69,14 @@ fn object_byte(card: &mut Vec<u8>) {
 }
 
 fn ids(card: &mut Vec<u8>) {
-    if let [_, _, gets @ 0..=8, sets @ 0..=8, ..] = card[..] {
+    if let [_, gets @ 0..=8, sets @ 0..=8, ..] = card[..] {
         let valid = usize::from(gets + sets);
         records(card).for_each(|record| record[OBJECTS + valid..HELD].fill(0));
     }
 }
 
 fn gets(card: &mut Vec<u8>) {
-    let limit = usize::from(card.get(2).copied().unwrap_or(0));
+    let limit = usize::from(card.get(1).copied().unwrap_or(0));
     for record in records(card) {
         record[OBJECTS..HELD]
             .iter_mut()
@@ -83,7 +87,7 @@ fn gets(card: &mut Vec<u8>) {
 }
 
 fn sets(card: &mut Vec<u8>) {
-    let limit = usize::from(card.get(3).copied().unwrap_or(0));
+    let limit = usize::from(card.get(2).copied().unwrap_or(0));
     for record in records(card) {
         record[OBJECTS..HELD]
             .iter_mut()
@@ -93,24 +97,31 @@ fn sets(card: &mut Vec<u8>) {
     }
 }
 
+/// All of a record but its number of queues becomes zero.
+fn clear(record: &mut [u8]) {
+    let queues = record[QUEUES];
+    record.fill(0);
+    record[QUEUES] = queues.clamp(1, 4);
+}
+
 /// Every record becomes a fresh one.
 fn setup_alone(card: &mut Vec<u8>) {
-    records(card).for_each(|record| record.fill(0));
+    records(card).for_each(clear);
     features(card);
     list_bits(card);
 }
 
 fn last_features(card: &mut Vec<u8>) {
-    let Some(features) = card.get(4..20).map(<[u8]>::to_vec) else { return };
+    let Some(features) = card.get(FEATURES..FEATURES + 16).map(<[u8]>::to_vec) else { return };
     if let Some(record) = records(card).nth(15) {
         record[VALUES..VALUES + 16].copy_from_slice(&features);
     }
 }
 
 fn past_8(card: &mut Vec<u8>) {
-    let Some(features) = card.get(4..20).map(<[u8]>::to_vec) else { return };
+    let Some(features) = card.get(FEATURES..FEATURES + 16).map(<[u8]>::to_vec) else { return };
     for record in records(card).skip(8) {
-        record.fill(0);
+        clear(record);
         record[VALUES..VALUES + 16].copy_from_slice(&features);
     }
 }
@@ -178,13 +189,24 @@ fn queues_beyond(card: &mut Vec<u8>) {
 }
 
 fn queues(card: &mut Vec<u8>) {
-    if let Some(queues) = card.get_mut(1) {
-        *queues = (*queues).clamp(1, 4);
+    records(card).for_each(|record| record[QUEUES] = record[QUEUES].clamp(1, 4));
+}
+
+/// Zero queues count as one.
+fn no_queues(card: &mut Vec<u8>) {
+    records(card).for_each(|record| record[QUEUES] = record[QUEUES].max(1));
+}
+
+/// The number of queues of the last member is that of the first.
+fn last_count(card: &mut Vec<u8>) {
+    let Some(count) = card.get(HEADER + QUEUES).copied() else { return };
+    if let Some(record) = records(card).last() {
+        record[QUEUES] = count;
     }
 }
 
 fn features(card: &mut Vec<u8>) {
-    if let Some(features) = card.get(4..20).map(<[u8]>::to_vec) {
+    if let Some(features) = card.get(FEATURES..FEATURES + 16).map(<[u8]>::to_vec) {
         records(card).for_each(|record| record[VALUES..VALUES + 16].copy_from_slice(&features));
     }
 }

@@ -81,9 +81,17 @@ pub fn given<'a>(card: &Card, request: &'a [u8]) -> Option<Vec<&'a [u8]>> {
     (set && reply == [0; 8]).then_some(parts)
 }
 
-/// The part that a header in the request names.
-pub fn named(card: &Card, part: &[u8]) -> Option<Part> {
-    Header::read(&part[..HEADER]).part(card.setup.queues)
+/// The part that a header names on a member with `queues` queues.
+pub fn named(queues: u8, part: &[u8]) -> Option<Part> {
+    Header::read(&part[..HEADER]).part(queues)
+}
+
+/// The number of queues of the member that a request names, if the card has it.
+pub fn queues(card: &Card, request: &[u8]) -> u8 {
+    framed(card, request).map_or(0, |(frame, opcode)| match opcode.names_member() {
+        true => card.member(frame.member).queues,
+        false => 0,
+    })
 }
 
 /// Changes each part, or asked header, of a request.

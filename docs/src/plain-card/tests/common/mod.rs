@@ -28,8 +28,8 @@ pub fn fresh() -> Card {
     card(2, 1, 1, 1)
 }
 
-pub fn card(members: u64, queues: u64, gets: u64, sets: u64) -> Card {
-    Card::new(Setup::new(members, queues, gets, sets, [0; 16]).unwrap())
+pub fn card(members: u64, queues: u8, gets: u64, sets: u64) -> Card {
+    Card::new(&Setup::alike(members, queues, gets, sets, [0; 16]).unwrap())
 }
 
 /// A card with all commands in use.
