@@ -48,6 +48,9 @@ impl Setup {
             sets: u8::try_from(sets).ok()?,
             features,
         };
+        if queues.len() != usize::from(common.members) {
+            return None;
+        }
         let setup = Setup { common, queues: queues.to_vec() };
         setup.in_range().then_some(setup)
     }
