@@ -85,6 +85,7 @@ fn sound(header: &[u8; HEADER], records: &[u8]) -> bool {
 
 /// Whether a record with a mark is that of a stopped member without objects and
 /// holding place.
+#[cold]
 fn let_go(record: &[u8]) -> bool {
     record[MARK] == 1
         && record[MODE] == 1

@@ -223,8 +223,10 @@ fn setup_makes_a_fresh_card_or_zeros() {
     let mut card = vec![PATTERN; HEADER + 2 * RECORD];
     assert_eq!(exported::setup(&mut card, 2, &[1, 1], 1, 1, &[0; 16]), 0);
     assert_eq!(card, bytes::write(&fresh()));
+    /// N, queues, G, S, and the lengths of features and card.
+    type Numbers<'a> = (u64, &'a [u8], u64, u64, usize, usize);
     let two = HEADER + 2 * RECORD;
-    let refused: [(u64, &[u8], u64, u64, usize, usize); 13] = [
+    let refused: [Numbers; 13] = [
         (0, &[], 1, 1, 16, HEADER),
         (17, &[1; 17], 1, 1, 16, HEADER + 17 * RECORD),
         (258, &[1; 2], 1, 1, 16, two),

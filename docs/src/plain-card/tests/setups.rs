@@ -89,7 +89,7 @@ fn the_reader_of_version_1_refuses_version_2_before_all_else() {
         assert_eq!(read_v1(&[0x20 | low]), Err(Unread::Version2));
         assert_eq!(read_v1(&[0x20 | low, 0xff, 0xff]), Err(Unread::Version2));
     }
-    assert_eq!(read_v1(&vec![0x2f; 100]), Err(Unread::Version2));
+    assert_eq!(read_v1(&[0x2f; 100]), Err(Unread::Version2));
     // Without bytes there is no version.
     assert_eq!(read_v1(&[]), Err(Unread::Refused));
     // The new reader never gives that name.
