@@ -1,12 +1,11 @@
 //! Demand 3, tried on random pairs of sequences.
 //!
-//! Two sound cards differ in member m's record at most, and not in its mark and its
-//! number of queues. A
-//! wipe of m that answers 0, or a reset of the whole card, is its reset. Up to
-//! that the two sequences are the same but for calls that name m, which hand
-//! backs and wipes do not; from the reset on they are the same. The calls before
-//! the reset that do not name m must give the same replies, and from the reset on
-//! all calls the same replies and the same card.
+//! Two sound cards differ in member m's record at most, and not in its mark and
+//! its number of queues. A wipe of m that answers 0, or a reset of the whole card,
+//! is its reset. Up to that the two sequences are the same but for calls that name
+//! m, which hand backs and wipes do not; from the reset on they are the same. The
+//! calls before the reset that do not name m must give the same replies, and from
+//! the reset on all calls the same replies and the same card.
 
 use std::fmt;
 
@@ -57,9 +56,12 @@ impl Trial for Pair {
         let generation = draw::generation(random);
         let reset = match random.chance(75) {
             true => {
-                if !cards[0].member(member).marked {
-                    before.push(Turn::both(Call::HandBack(member), &mut cards));
+                hand_back(&mut before, &mut cards, member);
+                for _ in 0..random.below(12) {
+                    before.push(Turn::draw(random, &mut cards, member, favoured));
                 }
+                // One of these may have been a reset.
+                hand_back(&mut before, &mut cards, member);
                 Call::Wipe { member, generation }
             }
             false => Call::ResetCard(generation),
@@ -122,13 +124,16 @@ impl Pair {
     }
 }
 
-impl Turn {
-    /// A call that both sequences have.
-    fn both(call: Call, cards: &mut [Card; 2]) -> Turn {
+/// Hands the member back in both sequences, if it is not.
+fn hand_back(before: &mut Vec<Turn>, cards: &mut [Card; 2], member: u64) {
+    if !cards[0].member(member).marked {
+        let call = Call::HandBack(member);
         cards.iter_mut().for_each(|card| apply(card, &call));
-        Turn { call, left: true, right: true }
+        before.push(Turn { call, left: true, right: true });
     }
+}
 
+impl Turn {
     /// A call drawn on one of the cards. One that names m goes to that card
     /// alone, any other to both.
     fn draw(random: &mut Random, cards: &mut [Card; 2], member: u64, favoured: Favoured) -> Turn {
@@ -179,5 +184,20 @@ mod tests {
             }
         }
         assert_eq!(tried, [[true; 16]; 2]);
+    }
+
+    #[test]
+    fn stores_of_one_side_stand_between_hand_back_and_wipe() {
+        let between = |pair: &Pair| {
+            let handed_back = Call::HandBack(pair.member);
+            let at = pair.before.iter().rposition(|turn| turn.call == handed_back);
+            let rest = &pair.before[at.map_or(0, |at| at + 1)..];
+            let store = |turn: &Turn| matches!(turn.call, Call::Store { .. });
+            at.is_some() && rest.iter().any(|turn| store(turn) && turn.left != turn.right)
+        };
+        let pairs = (0..2_000).map(|index| Pair::draw(&mut Random::new(1, index)));
+        let wiped = pairs.filter(|pair| matches!(pair.reset, Call::Wipe { .. }));
+        let stored = wiped.filter(between).count();
+        assert!(stored > 200, "{stored}");
     }
 }
