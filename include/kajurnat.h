@@ -112,19 +112,19 @@ enum {
     KAJURNAT_BAD_SETUP = 4,
     KAJURNAT_BAD_QUEUE_SIZE = 5, /* a size that no ring has; see Parts */
     KAJURNAT_OUT_OF_ORDER = 6,   /* of the two halves of a member's reset */
-    KAJURNAT_NOT_SOUND = 9 /* the buffer is not a sound card; no status */
+    KAJURNAT_NOT_SOUND = 9       /* the buffer is not a sound card; no status */
 };
 
 /*
  * A setup may be kept as bytes that outlive a release, packed most significant
  * bit first:
  *
- *   version 4 bits, members - 1 in 4, queues - 1 in 2, gets in 4, sets in 4, six
- *   zero bits, then the 16 bytes of features
+ *   version 4 bits, members - 1 in 4, queues - 1 in 2, gets in 4, sets in 4,
+ *   six zero bits, then the 16 bytes of features
  *
  * This is version 1, for members of as many queues each. Version 2 has zero in
- * place of queues - 1, and behind the 24 bits 2 bits for each member, from member
- * 1, its number of queues less one, and zero bits to a whole byte.
+ * place of queues - 1, and behind the 24 bits 2 bits for each member, from
+ * member 1, its number of queues less one, and zero bits to a whole byte.
  */
 
 /* The answers of the readers of packed setups. */
@@ -393,9 +393,9 @@ uint8_t kajurnat_setup_from(uint8_t *card, size_t card_len,
  * all members have as many queues, else version 2. The bytes of the buffer past
  * it keep their values.
  *
- * Returns 0, with nothing written, if kajurnat_setup() would refuse the numbers,
- * queues or features, or the buffer is too short. KAJURNAT_SETUP_BYTES_MAX is
- * always enough.
+ * Returns 0, with nothing written, if kajurnat_setup() would refuse the
+ * numbers, queues or features, or the buffer is too short.
+ * KAJURNAT_SETUP_BYTES_MAX is always enough.
  */
 size_t kajurnat_setup_write(uint8_t *setup, size_t setup_len, uint64_t members,
                             const uint8_t *queues, size_t queues_len,
@@ -436,11 +436,12 @@ size_t kajurnat_command(uint8_t *card, size_t card_len, const uint8_t *request,
                         size_t request_len, uint8_t *reply, size_t reply_len);
 
 /*
- * The reset of a member has two halves, so that the data path has time to let go
- * of its guest. The first: the objects and the holding place of the member are
- * ended, and it is stopped and marked. Its parts and its configuration stay. Until
- * it is wiped every command and every restore for it is refused with EAGAIN and
- * TRYAGAIN, and a message gets the bus outcome; kajurnat_store() still works.
+ * The reset of a member has two halves, so that the data path has time to let
+ * go of its guest. The first: the objects and the holding place of the member
+ * are ended, and it is stopped and marked. Its parts and its configuration
+ * stay. Until it is wiped every command and every restore for it is refused
+ * with EAGAIN and TRYAGAIN, and a message gets the bus outcome;
+ * kajurnat_store() still works.
  *
  * Returns KAJURNAT_DONE, or the first that applies of KAJURNAT_NOT_SOUND,
  * KAJURNAT_NO_SUCH_MEMBER and KAJURNAT_OUT_OF_ORDER: it is marked.
@@ -571,10 +572,10 @@ uint32_t kajurnat_restore_drop(uint8_t *card, size_t card_len,
  *
  * A response has the generation after the message and the offset that was
  * asked. Length 0 without data is the response where nothing is read or
- * written: if offset + length is over KAJURNAT_CONFIG_BYTES, the generation of a
- * set request is not the member's, or length 0 is asked. A set request that is
- * applied moves the generation by one, from 4294967295 to 0, and its data comes
- * back.
+ * written: if offset + length is over KAJURNAT_CONFIG_BYTES, the generation of
+ * a set request is not the member's, or length 0 is asked. A set request that
+ * is applied moves the generation by one, from 4294967295 to 0, and its data
+ * comes back.
  */
 enum {
     KAJURNAT_CONFIG_BYTES = 12,

@@ -1,8 +1,8 @@
 /*
- * What kajurnat.h says of commands, tried from C: the worked examples, a refusal
- * for each row of the header's order that also meets later rows, requests of
- * other lengths than are built, the builders and the reader, NULL with length 0,
- * soundness and version.
+ * What kajurnat.h says of commands, tried from C: the worked examples, a
+ * refusal for each row of the header's order that also meets later rows,
+ * requests of other lengths than are built, the builders and the reader, NULL
+ * with length 0, soundness and version.
  */
 #include "card.h"
 
@@ -284,7 +284,8 @@ static void try_lengths(void)
 
 int main(int count, char **arguments)
 {
-    take_no_arguments(count, arguments, "tries what kajurnat.h says of commands");
+    take_no_arguments(count, arguments,
+                      "tries what kajurnat.h says of commands");
     expect(kajurnat_version() == KAJURNAT_VERSION, "the version");
     expect(kajurnat_card_bytes(MEMBERS) == sizeof card &&
                kajurnat_card_bytes(0) == 0 && kajurnat_card_bytes(17) == 0,

@@ -74,8 +74,8 @@ static void try_restore(void)
            "restore: the numbers of an answer");
 }
 
-/* The selectors and lengths of the PCI common fields, queue sizes, the two halves
- * of a reset, and the reset of the card. */
+/* The selectors and lengths of the PCI common fields, queue sizes, the two
+ * halves of a reset, and the reset of the card. */
 static void try_stores(void)
 {
     static const struct {
