@@ -15,9 +15,9 @@ use Rattle.theory.proofs.Bytes.{put-front, drop-after}
 use Rattle.setups.specs.declared.Setup.{Setup}
 use Rattle.setups.specs.declared.ReadAnswer.the-variants.{Done, Version2, Refused}
 use Rattle.setups.specs.Bits.{bitsAt}
-use Rattle.setups.specs.Setup.{mostMembers, featuresSize, inRanges, all, isCount, inNumbers, InNumbers, noCounts, sixteen}
+use Rattle.setups.specs.Setup.{mostMembers, featuresSize, inRanges, all, isCount, inNumbers, noCounts, sixteen}
 use Rattle.setups.specs.Reading.{versionIn, membersIn, countsFrom, setupAt, headRight, isVersion1, isVersion2, readAs, refusedAs, takeVersion1, takeVersion2, readVersion1, readSetup}
-use Rattle.setups.specs.Writing.{packedSetup, placed, written}
+use Rattle.setups.specs.Writing.{packedSetup, placed, written, InNumbers}
 use Rattle.setups.specs.Claims.{ReadsBack, InRange, Claims}
 use Rattle.setups.proofs.Ranges.{numbers-in}
 use Rattle.setups.proofs.Fields.{bits-below}

@@ -10,7 +10,8 @@ use lib.ListN.{length, getD, drop, drop-of-length-le}
 use lib.Seq.{drop-cons}
 use Rattle.theory.specs.Logic.{_and_}
 use Rattle.theory.proofs.Tests.{true-and, false-and, both, within-low, within-high}
-use Rattle.setups.specs.Setup.{mostMembers, inRanges, all, isCount, inNumbers, InNumbers}
+use Rattle.setups.specs.Setup.{mostMembers, inRanges, all, isCount, inNumbers}
+use Rattle.setups.specs.Writing.{InNumbers}
 
 -- the numbers before i passed, and the rest decides
 module _ (f : ℕ → Bool) (l : List ℕ) (i : ℕ) (w : all f l ≡ all f (drop i l)) where

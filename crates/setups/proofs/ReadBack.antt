@@ -15,9 +15,9 @@ use Rattle.theory.proofs.Tests.{by-cases, and-i, both, within-low}
 use Rattle.theory.proofs.Ladder.{is-le, pass}
 use Rattle.setups.specs.declared.ReadAnswer.the-variants.{Version2}
 use Rattle.setups.specs.Bits.{bitsAt, Field, field, widths, packed}
-use Rattle.setups.specs.Setup.{featuresSize, all, isCount, InNumbers, setupWith}
+use Rattle.setups.specs.Setup.{featuresSize, all, isCount, setupWith}
 use Rattle.setups.specs.Reading.{countBytes, padding, countsFrom, setupAt, headRight, isVersion1, isVersion2, readAs, refusedAs, takeVersion1, takeVersion2, readVersion1, readSetup}
-use Rattle.setups.specs.Writing.{headFields, countField, countFields, firstCount, areEqual, fieldsOf, packedSetup}
+use Rattle.setups.specs.Writing.{headFields, countField, countFields, firstCount, areEqual, fieldsOf, packedSetup, InNumbers}
 use Rattle.setups.proofs.Ranges.{count-less}
 use Rattle.setups.proofs.Fields.{length-big, Fit, Reads, packed-reads}
 use Rattle.setups.proofs.Writing.{widths-head, widths-version-2, first-count}

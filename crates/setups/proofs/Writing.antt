@@ -20,9 +20,9 @@ use Rattle.theory.proofs.Bytes.{put-nil, put-cons, put-append, put-comm}
 use Rattle.theory.proofs.Ladder.{pass, stop, said-true, is-le, is-gt}
 use Rattle.setups.specs.declared.Front.{Front}
 use Rattle.setups.specs.Bits.{Field, field, widths, joined, bigEndian, packed}
-use Rattle.setups.specs.Setup.{featuresSize, all, isCount, inNumbers, InNumbers}
+use Rattle.setups.specs.Setup.{featuresSize, all, isCount, inNumbers}
 use Rattle.setups.specs.Reading.{countBytes, padding}
-use Rattle.setups.specs.Writing.{headFields, countField, countFields, firstCount, areEqual, fieldsOf, frontOf, packedSetup, placed, written}
+use Rattle.setups.specs.Writing.{headFields, countField, countFields, firstCount, areEqual, fieldsOf, frontOf, packedSetup, placed, written, InNumbers}
 use Rattle.setups.proofs.Ranges.{all-at, numbers-in}
 use Rattle.setups.proofs.Fields.{widths-append, joined-append, length-big}
 

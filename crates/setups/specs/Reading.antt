@@ -14,7 +14,7 @@ use Rattle.setups.specs.Setup.{featuresSize, noCounts, setupWith}
 
 -- ---- the fields ----
 
--- version 4 bits, N-1 in 4, Q-1 in 2, G in 4, S in 4, six zero bits
+-- version 4 bits, N-1 in 4, Q-1 in 2 (zero in version 2), G in 4, S in 4, six zero bits
 abbrev pub versionIn : List ℕ → ℕ
 versionIn l = bitsAt 0 4 l
 
@@ -33,17 +33,18 @@ setsIn l = bitsAt 14 4 l
 abbrev pub zerosIn : List ℕ → ℕ
 zerosIn l = bitsAt 18 6 l
 
--- in version 2 then N fields of 2 bits and zero bits to a whole byte
+-- the bytes of these 24 bits
 abbrev pub headSize : ℕ
 headSize = 3
 
+-- then in version 2 n fields of 2 bits, and so many zero bits to a whole byte
 abbrev pub countBytes : ℕ → ℕ
 countBytes n = (n + 3) / 4
 
 abbrev pub padding : ℕ → ℕ
 padding n = 8 * countBytes n - 2 * n
 
--- n queue counts, each less one in 2 bits, from a position on and so many bits apart
+-- n queue counts, each less one in 2 bits, from a position on, `step` bits apart
 unfoldable pub countsFrom : List ℕ → ℕ → ℕ → ℕ → List ℕ
 countsFrom l at step zero = []
 countsFrom l at step (suc n) = (bitsAt at 2 l + 1) ∷ countsFrom l (at + step) step n
@@ -55,11 +56,11 @@ setupAt l at step =
 
 -- ---- what is taken ----
 
--- G and S are in range, which N and Q always are
+-- the six bits are zero, and G and S in range, as N and Q always are
 unfoldable pub headRight : List ℕ → Bool
 headRight l = eqb (zerosIn l) 0 and leb (getsIn l) 8 and leb (setsIn l) 8
 
--- version 1: 19 bytes
+-- version 1, 19 bytes
 unfoldable pub isVersion1 : List ℕ → Bool
 isVersion1 l = eqb (versionIn l) 1 and eqb (length l) (headSize + featuresSize) and headRight l
 
@@ -89,7 +90,7 @@ noSetup = record { members = 0; queues = noCounts; gets = 0; sets = 0; features 
 abbrev pub refusedAs : ReadAnswer → ReadOutcome
 refusedAs a = record { answer = a; setup = noSetup }
 
--- in version 1 the one count of position 8 is every member's
+-- in version 1 the count at position 8 is every member's; in version 2 the counts stand from position 24 on
 unfoldable pub takeVersion1 : List ℕ → ReadOutcome
 takeVersion1 l = unless isVersion1 l answer refusedAs Refused then readAs (setupAt l 8 0)
 

@@ -1,9 +1,8 @@
 -- A setup (01's term) whose members may differ in their queue counts, and its ranges: SPEC 2.1 and 02, request 9. Assumes
 -- nothing.
-use mathlib.Core.Path.{_≡_}
 use mathlib.Core.Bool.{Bool, true}
 use mathlib.Core.List.{List, [], _∷_}
-use Prim.Native.Nat.{ℕ, _≤_}
+use Prim.Native.Nat.{ℕ}
 use lib.Dec.{leb, eqb}
 use lib.ListN.{length, replicate}
 use Rattle.theory.specs.Logic.{_and_, within}
@@ -32,15 +31,6 @@ isCount q = within 1 4 q
 -- the numbers of a setup, with one queue count for each member
 unfoldable pub inNumbers : ℕ → List ℕ → ℕ → ℕ → Bool
 inNumbers members queues gets sets = inRanges members gets sets and eqb (length queues) members and all isCount queues
-
--- the same as facts, which the code that packs them asks
-pub record InNumbers (members : ℕ) (queues : List ℕ) (gets sets : ℕ) : Type 0 where
-  pub some : 1 ≤ members
-  pub few : members ≤ mostMembers
-  pub each : length queues ≡ members
-  pub counts : all isCount queues ≡ true
-  pub fewGets : gets ≤ 8
-  pub fewSets : sets ≤ 8
 
 -- counts in the sixteen places of a setup; those of members past N are 0
 unfoldable pub noCounts : List ℕ

@@ -7,9 +7,9 @@ ghost use lib.ListN.{length};
 ghost use Rattle.theory.specs.Logic.{within};
 ghost use Rattle.theory.specs.Bytes.{put};
 ghost use Rattle.setups.specs.Bits.{bit, bitsAt, joined, bigEndian};
-ghost use Rattle.setups.specs.Setup.{featuresSize, inRanges, all, isCount, inNumbers, InNumbers, sixteen};
+ghost use Rattle.setups.specs.Setup.{featuresSize, inRanges, all, isCount, inNumbers, sixteen};
 ghost use Rattle.setups.specs.Reading.{countsFrom, padding, setupAt, headRight, isVersion1, isVersion2, readNumber, refusedAs, takeVersion1, takeVersion2, readVersion1, readSetup};
-ghost use Rattle.setups.specs.Writing.{headFields, countField, fieldsOf, HeadFits, frontOf, written};
+ghost use Rattle.setups.specs.Writing.{headFields, countField, fieldsOf, HeadFits, frontOf, written, InNumbers};
 
 pub const MOST_MEMBERS: usize = 16;
 
