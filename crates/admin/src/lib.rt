@@ -56,13 +56,7 @@ fn change_member(card: &mut [u8], m: u64, op: ChangeOp, request: &[u8], reply: &
 {
     let s = card::setup_of(card);
     let before = card::load_member(card, m);
-    let outcome = changes::change(
-        before,
-        op,
-        s.gets,
-        s.sets,
-        from(request, frame::GIVEN_AT),
-    );
+    let outcome = changes::change(before, op, s.gets, s.sets, from(request, frame::GIVEN_AT));
     let answer = outcome.answer;
     let after = outcome.member;
     let n = reply::write_answer(answer, reply);

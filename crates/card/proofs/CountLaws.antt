@@ -5,18 +5,22 @@ use mathlib.Core.Logic.{_≢_}
 use mathlib.Core.Bool.{true}
 use mathlib.Core.List.{List, _∷_}
 use Prim.Native.Nat.{ℕ, zero, suc, _+_, _-_, _≤_, _<_}
+use native.Mathlib.Nat.{add-zero}
 use native.Mathlib.Omega.{arith}
 use borrow.Author.Tests.{eqb-true, eqb-false, eq-eqb}
 use lib.Dec.{eqb}
-use lib.ListN.{length, take, length-take}
-use lib.Seq.{getD-take}
-use Rattle.theory.proofs.Tests.{by-cases, and-i, inside}
+use lib.ListN.{length, getD, take, length-take}
+use lib.Seq.{getD-take, ext-getD}
+use Rattle.theory.proofs.Tests.{by-cases, both, and-i, inside}
 use Rattle.member.specs.declared.Member.{Member}
 use Rattle.member.specs.Record.{queuesAt, memberSize, memberOf, memberBytes}
+use Rattle.member.specs.Member.{featuresSize, freshOf}
+use Rattle.member.proofs.Record.{fresh-shaped, member-back}
 use Rattle.setups.specs.Setup.{all, isCount, inNumbers}
-use Rattle.card.specs.Layout.{memberBytesAt, configurationAt, recordSize, cardSize, setupOf, withInUse, isMember, recordAt, HasRecord, recordBytes, withRecordBytes, memberIn, withMember, countsFrom, countsOf}
+use Rattle.card.specs.declared.Setup.{Setup}
+use Rattle.card.specs.Layout.{memberBytesAt, configurationAt, recordSize, cardSize, setupOf, withInUse, isMember, recordAt, HasRecord, recordBytes, withRecordBytes, memberIn, withMember, countsFrom, countsOf, freshCard}
 use Rattle.card.specs.Sound.{soundSetup}
-use Rattle.card.proofs.LayoutLaws.{bytes-other, bytes-behind, bytes-with-use, member-other}
+use Rattle.card.proofs.LayoutLaws.{bytes-other, bytes-behind, bytes-with-use, member-other, setup-fresh, member-bytes-fresh}
 use Rattle.card.proofs.MarkLaws.{byte-put}
 use Rattle.card.proofs.SoundLaws.{Sound, numbers-sound, sound-member-in}
 
@@ -79,6 +83,30 @@ counts-step c m n i h =
     let e : n - i ≡ suc (n - (i + 1)) = omega arith in
     let k : m + 1 ≡ suc m = omega arith in
     rw (e, k)
+
+pub counts-at : (c : List ℕ) (m n i : ℕ) → i < n → getD (countsFrom c m n) i 0 ≡ memberIn c (m + i) .queues
+unfolding countsFrom
+counts-at c m zero i h = absurd (omega arith)
+counts-at c m (suc n) zero h = rw add-zero
+counts-at c m (suc n) (suc i) h = let k : m + suc i ≡ suc m + i = omega arith in rw k (counts-at c (suc m) n i (omega arith))
+
+-- those of a fresh card are the ones that it was given
+module _ (s : Setup) (qs : List ℕ) (g : ℕ) (e : length (s .features) ≡ featuresSize) where
+  pub count-fresh : (m : ℕ) → 1 ≤ m → m ≤ length qs → memberIn (freshCard s qs g) m .queues ≡ getD qs (m - 1) 0
+  unfolding memberIn freshOf
+  count-fresh m l h =
+      ap (λ (x : Member). x .queues) (ap memberOf (member-bytes-fresh s qs g e m l h) ∙ member-back _ (fresh-shaped (getD qs (m - 1) 0) (s .features) e))
+
+  pub counts-fresh : inNumbers (s .members) qs (s .gets) (s .sets) ≡ true → countsOf (freshCard s qs g) ≡ qs
+  unfolding countsOf inNumbers
+  counts-fresh t =
+      let n : length qs ≡ s .members = eqb-true _ _ (both _ _ (both _ _ t .0) .1) in
+      let c = freshCard s qs g in
+      rw (setup-fresh s qs g e)
+      (ext-getD 0 _ qs (counts-long c 1 (s .members) ∙ sym n) λ i h.
+      let b : i < s .members = rw counts-long at h in
+      let k : 1 + i - 1 ≡ i = omega arith in
+      counts-at c 1 (s .members) i b ∙ count-fresh (1 + i) (omega arith) (omega arith) ∙ rw k)
 
 -- those of a sound card are good
 module _ (c : List ℕ) (s : Sound c) where

@@ -82,19 +82,19 @@ module _ (c r s : List ℕ) where
     query-read : Same (Read m (QueryObject id))
     unfolding Same perform queryOf
     query-read =
-        ap (effect _ c) (query-same (setupOf c .queues) (askedList r) (askedList s) (memberIn c m .values) (lookupOf (memberIn c m) id))
+        ap (effect _ c) (query-same (memberIn c m .queues) (askedList r) (askedList s) (memberIn c m .values) (lookupOf (memberIn c m) id))
 
     metadata-read : (what : Metadata) → Same (Read m (GetMetadata id what))
     unfolding Same perform throughGet
     metadata-read what =
-        ap (effect _ c) (through-same (setupOf c .queues) (askedList r) (askedList s) (memberIn c m .values) (lookupOf (memberIn c m) id)
-        (metadataOf (setupOf c .queues) what) (metadata-same (setupOf c .queues) (askedList r) (askedList s) (memberIn c m .values) what))
+        ap (effect _ c) (through-same (memberIn c m .queues) (askedList r) (askedList s) (memberIn c m .values) (lookupOf (memberIn c m) id)
+        (metadataOf (memberIn c m .queues) what) (metadata-same (memberIn c m .queues) (askedList r) (askedList s) (memberIn c m .values) what))
 
     all-read : Same (Read m (GetAll id))
     unfolding Same perform throughGet
     all-read =
-        ap (effect _ c) (through-same (setupOf c .queues) (askedList r) (askedList s) (memberIn c m .values) (lookupOf (memberIn c m) id)
-        body.All (all-same (setupOf c .queues) (askedList r) (askedList s) (memberIn c m .values)))
+        ap (effect _ c) (through-same (memberIn c m .queues) (askedList r) (askedList s) (memberIn c m .values) (lookupOf (memberIn c m) id)
+        body.All (all-same (memberIn c m .queues) (askedList r) (askedList s) (memberIn c m .values)))
 
     selected-read : askedList s ≡ askedList r → Same (Read m (GetSelected id))
     unfolding Same perform

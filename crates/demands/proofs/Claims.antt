@@ -20,6 +20,10 @@ use Rattle.demands.proofs.HoldingKept.{holding-kept}
 use Rattle.demands.proofs.ConfigurationKept.{configuration-kept}
 use Rattle.demands.proofs.Messages.{responded, nothing-applied, only-configuration, message-examples-hold}
 use Rattle.demands.proofs.Halves.{two-halves, marked-refused, halves-examples-hold}
+use Rattle.demands.proofs.QueuesKept.{set-up-from-packed, queues-kept}
+use Rattle.demands.proofs.QueueCounts.{count-examples-hold}
+use Rattle.setups.proofs.Claims as packed
+use Rattle.setups.proofs.Examples.{setups-written, setups-read}
 use Rattle.staging.proofs.SetsParts.{finish-is-parts-set}
 use Rattle.staging.proofs.Cut.{holds-joined, cut-anywhere}
 
@@ -58,4 +62,10 @@ claims = record {
   twoHalves = two-halves;
   markedRefused = marked-refused;
   halvesExamples = halves-examples-hold;
+  packedSetups = packed.claims;
+  setupsWritten = setups-written;
+  setupsRead = setups-read;
+  setUpFromPacked = set-up-from-packed;
+  queuesKept = queues-kept;
+  countExamples = count-examples-hold;
 }

@@ -2,7 +2,7 @@
 use mathlib.Core.Path.{_≡_, refl, ap}
 use mathlib.Core.Logic.{_≢_}
 use mathlib.Core.Bool.{true, false}
-use mathlib.Core.List.{List, []}
+use mathlib.Core.List.{List, [], _∷_}
 use Prim.Native.Nat.{ℕ, _+_, _≤_, _<_}
 use native.Mathlib.Omega.{arith}
 use lib.Dec.{leb→le}
@@ -37,12 +37,12 @@ refused-command : refused (step exampleCard (send (request 0x0a 1 1 [])) .1) ≡
 unfolding model
 refused-command = refl
 
-setup-done : setUp (replicate (cardSize 2) 0) 2 1 1 1 (replicate 16 0) .0 ≡ Done
+setup-done : setUp (replicate (cardSize 2) 0) 2 (1 ∷ 1 ∷ []) 1 1 (replicate 16 0) .0 ≡ Done
 unfolding model
 setup-done = refl
 
 -- a card of no members
-setup-refused : setUp (replicate (cardSize 2) 0) 0 1 1 1 (replicate 16 0) .0 ≢ Done
+setup-refused : setUp (replicate (cardSize 2) 0) 0 [] 1 1 (replicate 16 0) .0 ≢ Done
 unfolding model
 setup-refused e = let z : _≡_ {A = ℕ} 4 0 = ap eventNumber e in omega arith
 
@@ -57,7 +57,7 @@ names-member : names 1 (setMode 1 1) ≡ true
 unfolding model
 names-member = refl
 
-changes-member : getD (step used (setMode 1 1) .0) 28 0 ≢ getD used 28 0
+changes-member : getD (step used (setMode 1 1) .0) 27 0 ≢ getD used 27 0
 unfolding model
 changes-member = omega arith
 

@@ -21,7 +21,7 @@ use Rattle.message.proofs.Cases.{speaks-one}
 use Rattle.demands.specs.Claims.{Commutation, CommandsCommute}
 use Rattle.demands.proofs.Refusals.{unsound-stays}
 use Rattle.demands.proofs.Named.{leaves-none, named-leaves}
-use Rattle.demands.proofs.Mask.{mask, mask-none}
+use Rattle.demands.proofs.Mask.{mask, is-whole, mask-none}
 use Rattle.demands.proofs.Isolation.{masking}
 
 -- a call names one member at most
@@ -61,7 +61,7 @@ module _ (m k : ℕ) (m-low : 1 ≤ m) (k-low : 1 ≤ k) (apart : m ≢ k) where
       let setups : setupOf a ≡ setupOf b = sym (setup-with-record a m _ 0) ∙ ap setupOf e ∙ setup-with-record b m _ 0 in
       by-cases (isMember a m)
       (λ h. sym (rebuilt a sa h) ∙ rw (e, same) (rebuilt b sb (rw setups at h)))
-      (λ h. sym (mask-none m m-low a sa h) ∙ e ∙ mask-none m m-low b sb (rw setups at h))
+      (λ h. sym (mask-none m m-low a (is-whole m m-low a sa) h) ∙ e ∙ mask-none m m-low b (is-whole m m-low b sb) (rw setups at h))
 
 -- ---- any two numbers ----
 

@@ -15,11 +15,12 @@ use Rattle.protocol.specs.declared.Answer.{Answer}
 use Rattle.protocol.specs.declared.EventAnswer.{EventAnswer}
 use Rattle.protocol.specs.declared.EventAnswer.the-variants.{Done}
 use Rattle.protocol.specs.Answers.{isDone, eventNumber}
-use Rattle.card.specs.Layout.{setupOf}
+use Rattle.card.specs.Layout.{setupOf, countsOf}
 use Rattle.card.specs.Sound.{isSound, soundSetup}
 use Rattle.card.proofs.LayoutLaws.{members-read, setup-fresh}
+use Rattle.card.proofs.CountLaws.{counts-fresh}
 use Rattle.card.proofs.SoundLaws.{sound-of, is-sound, sound-fresh-card}
-use Rattle.events.specs.Events.{setupWith, setUp}
+use Rattle.events.specs.Events.{setupWith, setUp, refusedSetup}
 use Rattle.reply.specs.Reply.{finalOf, replyOf, written}
 use Rattle.reply.proofs.Reply.{head-long, final-room, reply-refused, reply-done}
 use Rattle.admin.specs.Command.{askIn, perform, respond, delivered, commandOf}
@@ -60,15 +61,15 @@ delivers c r b =
 -- ---- setup ----
 
 pub sets-up : SetsUp
-unfolding setUp soundSetup
+unfolding setUp refusedSetup
 sets-up = record {
   done = λ b n q g s f.
-      unless-cases (λ (y : EventAnswer × List ℕ). y .0 ≡ Done → (isSound (y .1) ≡ true) × (setupOf (y .1) ≡ setupWith n q g s f)) _ _ _
+      unless-cases (λ (y : EventAnswer × List ℕ). y .0 ≡ Done → (isSound (y .1) ≡ true) × (setupOf (y .1) ≡ setupWith n g s f) × (countsOf (y .1) ≡ q)) _ _ _
       (λ t e. absurd (omega (arith, ap eventNumber e)))
       (λ t e.
       let p = both _ _ (both _ _ t .0) in
       let l = eqb-true _ _ (p .1) in
-      (is-sound _ (sound-fresh-card (setupWith n q g s f) 0 (p .0) l), setup-fresh (setupWith n q g s f) 0 l));
+      (is-sound _ (sound-fresh-card (setupWith n g s f) q 0 (p .0) l), setup-fresh (setupWith n g s f) q 0 l, counts-fresh (setupWith n g s f) q 0 l (p .0)));
   refused = λ b n q g s f.
       unless-cases (λ (y : EventAnswer × List ℕ). y .0 ≢ Done → y .1 ≡ replicate (length b) 0) _ _ _
       (λ t e. refl) (λ t e. absurd (e refl));

@@ -15,11 +15,13 @@ use Rattle.protocol.specs.declared.EventAnswer.{EventAnswer}
 use Rattle.protocol.specs.declared.EventAnswer.the-variants.{Done}
 use Rattle.protocol.specs.Answers.{eventNumber}
 use Rattle.protocol.specs.Opcodes.{namesMember}
+use Rattle.member.specs.declared.Member.{Member}
+use Rattle.member.proofs.Record.{Shaped, fresh-shaped}
 use Rattle.member.specs.Record.{memberSize, holdingSize, memberBytes}
 use Rattle.member.specs.Member.{handedBack}
-use Rattle.card.specs.Layout.{memberBytesAt, holdingAt, setupOf, inUseOf, isMember, memberIn, withMember, isMarked, withHolding, noBytes, withFresh}
+use Rattle.card.specs.Layout.{memberBytesAt, holdingAt, setupOf, inUseOf, isMember, memberIn, withMember, isMarked, withHolding, noBytes, withFresh, withRecord}
 use Rattle.card.specs.Sound.{isSound}
-use Rattle.card.proofs.LayoutLaws.{features-long, fresh-shaped, setup-with-member, setup-with-holding, record-over}
+use Rattle.card.proofs.LayoutLaws.{features-long, record-over}
 use Rattle.card.proofs.SoundLaws.{sound-of, sound-long}
 use Rattle.events.specs.Events.{withHandedBack, handBack as handBackOf, wipe as wipeOf, resetMember}
 use Rattle.events.proofs.Cases.{on-sound}
@@ -36,7 +38,7 @@ use Rattle.message.proofs.Cases.{answer-marked}
 use Rattle.demands.specs.Calls.{command, handBack, wipe, answered, ofEvent, ofRestore, ofMessage, step, names}
 use Rattle.demands.specs.Claims.{DoesReset, TwoHalves, Between, MarkedRefused}
 use Rattle.demands.specs.Halves.{halvesExamples, HalvesExamplesHold}
-use Rattle.demands.proofs.Mask.{back-marked}
+use Rattle.demands.proofs.Mask.{back-setup, back-marked, back-queues}
 use Rattle.demands.proofs.Sound.{stays-sound}
 use Rattle.demands.proofs.Model.{model}
 
@@ -57,21 +59,21 @@ module _ (c : List ℕ) (m g : ℕ) (s : isSound c ≡ true) (h : isMember c m �
   back-sound : isSound (withHandedBack c m) ≡ true
   back-sound = rw back-card at (stays-sound c (handBack m) s)
 
-  back-setup : setupOf (withHandedBack c m) ≡ setupOf c
-  unfolding withHandedBack
-  back-setup = rw (setup-with-holding, setup-with-member)
-
   -- whatever the first half leaves in the record, the second covers
-  back-covered : withFresh (withHandedBack c m) m f g ≡ withFresh c m f g
+  covered : (x : Member) → Shaped x → withRecord (withHandedBack c m) m x g ≡ withRecord c m x g
   unfolding withHandedBack withMember withHolding
+  covered x z =
+      record-over _ m x g z holdingAt holdingSize noBytes (omega arith)
+      ∙ record-over c m x g z memberBytesAt memberSize (memberBytes (handedBack (memberIn c m))) (omega arith)
+
+  back-covered : withFresh (withHandedBack c m) m f g ≡ withFresh c m f g
   back-covered =
-      let z = fresh-shaped f (features-long c (omega (arith, sound-long c (sound-of c s)))) in
-      record-over _ m _ g z holdingAt holdingSize noBytes (omega arith)
-      ∙ record-over c m _ g z memberBytesAt memberSize (memberBytes (handedBack (memberIn c m))) (omega arith)
+      rw (back-queues m c (sound-of c s .long) h)
+      (covered _ (fresh-shaped _ f (features-long c (omega (arith, sound-long c (sound-of c s))))))
 
   wipe-is : wipeOf (withHandedBack c m) m g ≡ (Done, withFresh c m f g)
   unfolding wipeOf unless_answer_then_
-  wipe-is = rw (on-sound (withHandedBack c m) m _ back-sound, back-setup, h, back-marked m c (sound-of c s .long) h, back-covered)
+  wipe-is = rw (on-sound (withHandedBack c m) m _ back-sound, back-setup m c, h, back-marked m c (sound-of c s .long) h, back-covered)
 
   reset-is : resetMember c m g ≡ (Done, withFresh c m f g)
   unfolding resetMember unless_answer_then_

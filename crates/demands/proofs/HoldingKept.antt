@@ -31,10 +31,10 @@ use Rattle.demands.specs.Calls.{step}
 use Rattle.demands.specs.Claims.{SameHolding, HoldingKept}
 
 -- no change of a member touches what is held
-change-held : (queues gets sets : ℕ) (list : List ℕ) (op : ChangeOp) (m : Member) → changeOf queues gets sets list op m .member .held ≡ m .held
+change-held : (gets sets : ℕ) (list : List ℕ) (op : ChangeOp) (m : Member) → changeOf gets sets list op m .member .held ≡ m .held
 unfolding withObject
-change-held queues gets sets list op m =
-    change-cases queues gets sets m (λ x. x .member .held ≡ m .held) (λ a e. refl) list op
+change-held gets sets list op m =
+    change-cases gets sets m (λ x. x .member .held ≡ m .held) (λ a e. refl) list op
     (λ id slot p e. refl) (λ id. refl) (λ mode. refl) (λ e. refl)
 
 -- m is any member of the card
@@ -81,14 +81,14 @@ module _ (c : List ℕ) (m : ℕ) (h : isMember c m ≡ true) where
   perform-kept s r (Change k op) f =
       let i = named-here c r k (f .0) in
       let x = sound-member-in c s k i in
-      member-kept s k i _ (change-sound (setupOf c .queues) _ _ _ op (memberIn c k) _ (f .1) (named-unmarked c r k (f .0)) x)
-      (change-held (setupOf c .queues) (setupOf c .gets) (setupOf c .sets) _ op (memberIn c k))
+      member-kept s k i _ (change-sound _ _ _ op (memberIn c k) _ (f .1) (named-unmarked c r k (f .0)) x)
+      (change-held (setupOf c .gets) (setupOf c .sets) _ op (memberIn c k))
 
   store-kept : Sound c → (k t s : ℕ) (value : List ℕ) → isMember c k ≡ true → SameHolding c (storeIn c k t s value .1) m
   unfolding storeIn
   store-kept s k t n value i =
       if-done-cases (λ (y : EventAnswer × List ℕ). SameHolding c (y .1) m) _ _ c (λ d. kept)
-      (λ d. member-kept s k i _ (sound-part _ _ _ _ _ (sound-member-in c s k i) t n value (done-allowed _ t n value d)) refl)
+      (λ d. member-kept s k i _ (sound-part _ _ _ _ (sound-member-in c s k i) t n value (done-allowed _ t n value d)) refl)
 
 pub holding-kept : HoldingKept
 unfolding step store

@@ -117,9 +117,9 @@ unfolding Kept
 found-kept m Nothing f a h = (refl, refl)
 found-kept m (Live k) f a h = h k
 
-set-kept : (queues gets sets id : ℕ) (list : List ℕ) (m : Member) → Kept m (changeOf queues gets sets list (SetParts id) m .member)
+set-kept : (gets sets id : ℕ) (list : List ℕ) (m : Member) → Kept m (changeOf gets sets list (SetParts id) m .member)
 unfolding setPartsOf Kept
-set-kept queues gets sets id list m = found-kept m (lookupOf m id) _ _ λ k.
+set-kept gets sets id list m = found-kept m (lookupOf m id) _ _ λ k.
     unless-cases (λ (y : Changed). Kept m (y .member)) _ _ _ (λ t. (refl, refl)) λ t.
     unless-cases (λ (y : Changed). Kept m (y .member)) _ _ _ (λ t. (refl, refl)) λ t.
     unless-cases (λ (y : Changed). Kept m (y .member)) _ _ _ (λ t. (refl, refl)) λ t. (refl, refl)
@@ -138,8 +138,8 @@ module _ (c : List ℕ) (s : Sound c) (r : List ℕ) where
   put-kept id n b =
       let h = named-here c r m n in
       let x = sound-member-in c s m h in
-      let y = change-sound (setupOf c .queues) _ _ (givenList r) (SetParts id) (memberIn c m) _ b (named-unmarked c r m n) x in
-      rw (member-same c m _ (sound-has c s m h) (y .shaped)) (set-kept (setupOf c .queues) (setupOf c .gets) (setupOf c .sets) id (givenList r) (memberIn c m))
+      let y = change-sound _ _ (givenList r) (SetParts id) (memberIn c m) _ b (named-unmarked c r m n) x in
+      rw (member-same c m _ (sound-has c s m h) (y .shaped)) (set-kept (setupOf c .gets) (setupOf c .sets) id (givenList r) (memberIn c m))
 
   asked-kept : opcodeOf r ≡ 0x10 → FactsIn c r (askIn c r) → StaysAs (perform c r (askIn c r) .card)
   unfolding fieldsOf setIn perform if_then_else_ Kept

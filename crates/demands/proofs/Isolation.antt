@@ -13,20 +13,20 @@ use Rattle.theory.proofs.Tests.{by-cases, within-low}
 use Rattle.theory.proofs.Unwinding.{Masking, isolated-by-mask}
 use Rattle.protocol.specs.Answers.{eventNumber}
 use Rattle.member.specs.Member.{freshOf}
-use Rattle.member.proofs.Record.{Shaped}
-use Rattle.card.specs.Layout.{cardSize, setupOf, isMember, isMarked, withFresh}
+use Rattle.member.proofs.Record.{Shaped, fresh-shaped}
+use Rattle.card.specs.Layout.{cardSize, setupOf, isMember, memberIn, isMarked, withFresh}
 use Rattle.card.specs.Sound.{isSound}
-use Rattle.card.proofs.LayoutLaws.{features-long, fresh-shaped, same-setup, setup-with-record, record-eq}
+use Rattle.card.proofs.LayoutLaws.{features-long, same-setup, setup-with-record, record-eq}
 use Rattle.card.proofs.SoundLaws.{sound-of, sound-has}
 use Rattle.events.specs.Events.{handBack as handBackOf, wipe as wipeOf, resetCard, store}
 use Rattle.events.proofs.Cases.{on-sound}
 use Rattle.demands.specs.Calls.{Call, command, handBack, wipe, cardReset, cardStore, restoreBegin, restoreFeed, restoreFinish, restoreDrop, message, Reply, written, answered, responded, step, names, Resets, ofWipe, ofCard}
 use Rattle.demands.specs.Claims.{DifferAtMost, Isolation}
 use Rattle.demands.proofs.Sound.{stays-sound}
-use Rattle.demands.proofs.Named.{named-leaves}
+use Rattle.demands.proofs.Named.{SameKept, named-leaves}
 use Rattle.demands.proofs.MessageMask.{message-alike}
 use Rattle.demands.proofs.RestoreMask.{begin-alike, feed-alike, finish-alike, drop-alike}
-use Rattle.demands.proofs.Mask.{mask, blank-shaped, mask-leaves, mask-mask, mask-again, mask-record, is-whole, masked-sound, masked-mark, mask-none, respond-answers, store-answers, back-answers}
+use Rattle.demands.proofs.Mask.{mask, blank-same, blank-shaped, mask-leaves, mask-mask, mask-again, mask-record, is-whole, masked-sound, masked-mark, masked-count, masked-counts, mask-none, respond-answers, store-answers, back-answers}
 
 -- the number that an event answers
 numberOf : Reply → ℕ
@@ -44,15 +44,15 @@ module _ (m : ℕ) (low : 1 ≤ m) (c : List ℕ) (e : isSound c ≡ true) where
   sound = masked-sound m low c e
 
   -- an event for one member
-  fresh-member : Shaped (freshOf (setupOf c .features))
-  fresh-member = fresh-shaped _ (features-long c (omega (arith, whole)))
+  fresh-member : (q : ℕ) → Shaped (freshOf q (setupOf c .features))
+  fresh-member q = fresh-shaped q _ (features-long c (omega (arith, whole)))
 
   wipe-answers : (k g : ℕ) → isMember c k ≡ true
       → mask m (withFresh (mask m c) k (setupOf c .features) g) ≡ mask m (withFresh c k (setupOf c .features) g)
   wipe-answers k g t =
-      by-cases (eqb k m)
-      (λ q. rw (eqb-true k m q) (ap (mask m) (mask-again m c whole _ g fresh-member)))
-      (λ q. mask-record m low c whole k _ g (within-low _ _ k t) (eqb-false k m q))
+      rw (masked-count m low c e k (within-low _ _ k t)) (by-cases (eqb k m)
+      (λ q. rw (eqb-true k m q) (ap (mask m) (mask-again m low c whole _ g (fresh-member _))))
+      (λ q. mask-record m low c whole k _ g (within-low _ _ k t) (eqb-false k m q)))
 
   -- a call that does not name m answers from the masked card alike, and leaves the same masked card
   answers : (x : Call) → names m x ≡ false
@@ -62,22 +62,22 @@ module _ (m : ℕ) (low : 1 ≤ m) (c : List ℕ) (e : isSound c ≡ true) where
   answers (handBack k) n =
       rw (on-sound c k _ e, on-sound (mask m c) k _ sound, setup-with-record, masked-mark m low c e k) (by-cases (isMember c k)
       (λ t. rw t (by-cases (isMarked c k)
-      (λ u. rw u (refl, mask-mask m c whole))
+      (λ u. rw u (refl, mask-mask m low c whole))
       (λ u. rw u (refl, back-answers m low c e k t))))
-      (λ t. rw t (refl, mask-mask m c whole)))
+      (λ t. rw t (refl, mask-mask m low c whole)))
   answers (wipe k g) n =
       rw (on-sound c k _ e, on-sound (mask m c) k _ sound, setup-with-record, masked-mark m low c e k) (by-cases (isMember c k)
       (λ t. rw t (by-cases (isMarked c k)
       (λ u. rw u (refl, wipe-answers k g t))
-      (λ u. rw u (refl, mask-mask m c whole))))
-      (λ t. rw t (refl, mask-mask m c whole)))
-  answers (cardReset g) n = rw (e, sound, setup-with-record) (refl, refl)
+      (λ u. rw u (refl, mask-mask m low c whole))))
+      (λ t. rw t (refl, mask-mask m low c whole)))
+  answers (cardReset g) n = rw (e, sound, setup-with-record, masked-counts m low c e) (refl, refl)
   answers (cardStore k t s value) n =
       rw (on-sound c k _ e, on-sound (mask m c) k _ sound, setup-with-record) (by-cases (isMember c k)
       (λ h.
       let z = store-answers m low c whole k (within-low _ _ k h) (eqb-false k m n) t _ value in
       rw h (ap (λ a. answered (eventNumber a)) (z .0), z .1))
-      (λ h. rw h (refl, mask-mask m c whole)))
+      (λ h. rw h (refl, mask-mask m low c whole)))
   answers (restoreBegin k) n = let z = begin-alike m low c e k (eqb-false k m n) in (ap answered (z .says), z .cards)
   answers (restoreFeed k x) n = let z = feed-alike m low c e k (eqb-false k m n) x in (ap answered (z .says), z .cards)
   answers (restoreFinish k id) n = let z = finish-alike m low c e k (eqb-false k m n) id in (ap answered (z .says), z .cards)
@@ -97,9 +97,9 @@ module _ (m : ℕ) (low : 1 ≤ m) (c : List ℕ) (e : isSound c ≡ true) where
       by-cases (isMember c m)
       (λ t.
       let u = marked-too generation t q in
-      rw (on-sound c m _ e, on-sound (mask m c) m _ sound, setup-with-record, masked-mark m low c e m, mask-again m c whole _ generation fresh-member, t, u))
-      (λ t. ap (λ d. step d (wipe m generation)) (mask-none m low c e t))
-  wiped _ _ q ofCard = rw (e, sound, setup-with-record)
+      rw (on-sound c m _ e, on-sound (mask m c) m _ sound, setup-with-record, masked-mark m low c e m, masked-count m low c e m low, mask-again m low c whole _ generation (fresh-member (memberIn c m .queues)), t, u))
+      (λ t. ap (λ d. step d (wipe m generation)) (mask-none m low c whole t))
+  wiped _ _ q ofCard = rw (e, sound, setup-with-record, masked-counts m low c e)
 
 -- no reset names m
 resets-unnamed : (m : ℕ) (x : Call) (y : Reply) → Resets m x y → names m x ≡ false
@@ -110,7 +110,7 @@ resets-unnamed m _ _ ofCard = refl
 pub masking : (m : ℕ) → 1 ≤ m → Masking step (names m) (Resets m) (λ c. isSound c ≡ true) (mask m)
 masking m low = record {
   stays = stays-sound;
-  hides = λ c x e n. mask-leaves m c (whole m low c e) _ (named-leaves m c x n);
+  hides = λ c x e n. mask-leaves m low c (whole m low c e) _ (named-leaves m c x n);
   answers = λ c x e. answers m low c e x;
   shown = resets-unnamed m;
   wiped = λ c x e. wiped m low c e x _ refl;
@@ -118,17 +118,19 @@ masking m low = record {
 
 -- ---- the theorem ----
 
--- cards that differ in m's record at most, and not in its mark, have the same mask
-same-mask : (m : ℕ) (c d : List ℕ) → isSound c ≡ true → isSound d ≡ true → isMember c m ≡ true → DifferAtMost m c d → isMarked c m ≡ isMarked d m
+-- cards that differ in m's record at most, and not in its mark and its queue count, have the same mask
+same-mask : (m : ℕ) (c d : List ℕ) → isSound c ≡ true → isSound d ≡ true → isMember c m ≡ true → DifferAtMost m c d → SameKept m c d
     → mask m c ≡ mask m d
 same-mask m c d e f h b k =
     let g = same-setup c d m (b .before) in
-    let s = blank-shaped m c (is-whole m (within-low _ _ m h) c e) in
-    rw (← g, ← k)
+    let low = within-low _ _ m h in
+    let s = blank-shaped m low c (is-whole m low c e) in
+    rw (blank-same m c d (sym g) k)
     (record-eq c m _ 0 s (sound-has c (sound-of c e) m h)
     ∙ (rw (b .before, b .after))
     ∙ sym (record-eq d m _ 0 s (sound-has d (sound-of d f) m (rw g at h))))
 
 pub isolation : Isolation
-isolation c₁ c₂ e₁ e₂ m h d k =
-    isolated-by-mask (masking m (within-low _ _ m h)) c₁ c₂ e₁ e₂ (same-mask m c₁ c₂ e₁ e₂ h d k)
+isolation c₁ c₂ e₁ e₂ m h d k q =
+    isolated-by-mask (masking m (within-low _ _ m h)) c₁ c₂ e₁ e₂
+    (same-mask m c₁ c₂ e₁ e₂ h d (record { mark = sym k; count = sym q }))

@@ -1,5 +1,5 @@
 -- The hypotheses of isolation can be met: two cards and two sequences that do differ, and the claim at them. Assumes nothing.
-use mathlib.Core.Path.{_≡_, refl}
+use mathlib.Core.Path.{_≡_, refl, sym, _∙_}
 use mathlib.Core.Logic.{_≢_}
 use mathlib.Core.Bool.{true}
 use mathlib.Core.List.{List, [], _∷_, _++_}
@@ -9,7 +9,7 @@ use lib.ListN.{length, getD, take, drop, replicate}
 use Rattle.theory.specs.Bytes.{same}
 use Rattle.theory.proofs.Tests.{same-true}
 use Rattle.theory.specs.Machine.{trace, run, seen, visible}
-use Rattle.card.specs.Layout.{recordSize, recordAt, isMember, isMarked}
+use Rattle.card.specs.Layout.{recordSize, recordAt, isMember, memberIn, isMarked}
 use Rattle.card.specs.Sound.{isSound}
 use Rattle.demands.specs.Calls.{Call, handBack, wipe, cardStore, answered, step, names, ofWipe}
 use Rattle.host.specs.Request.{getAll}
@@ -69,6 +69,14 @@ same-mark : isMarked card₁ 1 ≡ isMarked card₂ 1
 unfolding example
 same-mark = refl
 
+queues₁ : memberIn card₁ 1 .queues ≡ 1
+unfolding example
+queues₁ = refl
+
+queues₂ : memberIn card₂ 1 .queues ≡ 1
+unfolding example
+queues₂ = refl
+
 wipe-answers : step (run step card₁ calls₁) (wipe 1 7) .1 ≡ answered 0
 unfolding example
 wipe-answers = refl
@@ -79,7 +87,7 @@ same-struck-out = refl
 
 -- ---- what differs, what is seen, and the claim at them ----
 
-cards-differ : getD card₁ 28 0 ≢ getD card₂ 28 0
+cards-differ : getD card₁ 27 0 ≢ getD card₂ 27 0
 unfolding example
 cards-differ = omega arith
 
@@ -95,5 +103,5 @@ sees-five = refl
 isolated : seen (names 1) (length calls₁) (trace step card₁ (calls₁ ++ wipe 1 7 ∷ later))
     ≡ seen (names 1) (length calls₂) (trace step card₂ (calls₂ ++ wipe 1 7 ∷ later))
 isolated =
-    isolation card₁ card₂ sound₁ sound₂ 1 member-here same-but-member same-mark
+    isolation card₁ card₂ sound₁ sound₂ 1 member-here same-but-member same-mark (queues₁ ∙ sym queues₂)
     calls₁ calls₂ same-struck-out (wipe 1 7) (rw wipe-answers ofWipe) later

@@ -2,6 +2,8 @@ pub mod Model
 pub mod Examples
 pub mod LengthExamples
 pub mod QueueSizes
+pub mod QueuesKept
+pub mod QueueCounts
 pub mod WrongPrograms
 pub mod WrongProgramsExample
 pub mod Taken

@@ -1,4 +1,4 @@
--- The mask of isolation blanks the record of member m, but for its mark. What calls do to the masked card. Assumes nothing.
+-- The mask of isolation blanks the record of member m, but for its mark and its queue count. What calls do to the masked card. Assumes nothing.
 use mathlib.Core.Path.{_≡_, refl, ap, sym, _∙_}
 use mathlib.Core.Logic.{_≢_}
 use mathlib.Core.Bool.{Bool, true, false}
@@ -8,80 +8,115 @@ use native.Mathlib.Omega.{arith}
 use lib.Dec.{leb, eqb}
 use lib.ListN.{length}
 use borrow.Author.Tests.{eqb-true, eqb-false, leb-true}
-use Rattle.theory.specs.Logic.{if_then_else_, unless_answer_then_, _and_}
+use Rattle.theory.specs.Logic.{if_then_else_, unless_answer_then_, _and_, within}
 use Rattle.theory.proofs.Tests.{by-cases, if-cases, and-true, within-low, within-high, outside}
 use Rattle.protocol.specs.Answers.{isDone, isEventDone}
 use Rattle.values.specs.Apply.{storable}
 use Rattle.member.specs.declared.Member.{Member}
 use Rattle.member.specs.Record.{memberSize, holdingSize, memberBytes}
 use Rattle.member.specs.Member.{featuresSize, freshOf, handedBack}
-use Rattle.member.proofs.Record.{Shaped}
+use Rattle.member.proofs.Record.{Shaped, fresh-shaped}
 use Rattle.member.proofs.Sound.{SoundMember, sound-fresh, sound-handed-back}
-use Rattle.card.specs.Layout.{memberBytesAt, holdingAt, recordSize, cardSize, setupOf, withInUse, isMember, withRecordBytes, memberIn, withMember, isMarked, withHolding, noBytes, recordOf, withRecord}
+use Rattle.card.specs.Layout.{memberBytesAt, holdingAt, recordSize, cardSize, setupOf, withInUse, isMember, withRecordBytes, memberIn, withMember, countsOf, isMarked, withHolding, noBytes, recordOf, withRecord}
 use Rattle.card.specs.Sound.{isSound}
-use Rattle.card.proofs.LayoutLaws.{has-record, features-long, setup-with-bytes, length-with-use, setup-with-use, length-with-member, setup-with-member, length-with-holding, setup-with-holding, record-bytes, length-with-record, setup-with-record, use-with-record, record-other, record-swap, record-use, record-none, record-over, record-again}
+use Rattle.card.proofs.LayoutLaws.{has-record, features-long, setup-with-bytes, length-with-use, setup-with-use, length-with-member, setup-with-member, length-with-holding, setup-with-holding, record-bytes, length-with-record, setup-with-record, use-with-record, record-other, record-swap, record-use, record-none, record-over, record-again, member-with-record}
 use Rattle.card.proofs.MarkLaws.{marked-is, mark-alike, mark-put, mark-other, mark-behind, mark-with-use, mark-with-record}
-use Rattle.card.proofs.SoundLaws.{sound-of, is-sound, sound-with-record}
+use Rattle.card.proofs.CountLaws.{count-put, count-other, count-behind, count-with-use, counts-same}
+use Rattle.card.proofs.SoundLaws.{sound-of, is-sound, sound-member-in, sound-with-record}
 use Rattle.events.specs.Events.{ifDone, withHandedBack, storeIn}
 use Rattle.frame.specs.declared.Ask.{Ask}
 use Rattle.frame.specs.declared.Ask.the-variants.{Refused, QueryList, UseList, Read, Change}
 use Rattle.admin.specs.Command.{askIn, Effect, perform, respond}
 use Rattle.demands.specs.Calls.{command, names}
 use Rattle.admin.proofs.Respond.{NamedIn, FactsIn, asked-of, lastAnswer, ended, respond-none, respond-is}
-use Rattle.demands.proofs.Named.{Leaves, unchanged, changed, leaves-whole, names-is}
+use Rattle.demands.proofs.Named.{SameKept, Leaves, unchanged, changed, leaves-whole, names-is}
 
 -- what it puts there: a fresh member, handed back where m is marked
-unfoldable pub blankOf : List ℕ → Bool → Member
-blankOf f marked = if marked then handedBack (freshOf f) else freshOf f
+unfoldable pub blankOf : ℕ → List ℕ → Bool → Member
+blankOf queues f marked = if marked then handedBack (freshOf queues f) else freshOf queues f
+
+unfoldable pub blankIn : ℕ → List ℕ → Member
+blankIn m c = blankOf (memberIn c m .queues) (setupOf c .features) (isMarked c m)
 
 abbrev pub mask : ℕ → List ℕ → List ℕ
-mask m c = withRecord c m (blankOf (setupOf c .features) (isMarked c m)) 0
+mask m c = withRecord c m (blankIn m c) 0
 
-blank-sound : (queues gets sets : ℕ) (f : List ℕ) (b : Bool) → length f ≡ featuresSize → SoundMember queues gets sets f (blankOf f b)
-unfolding blankOf
-blank-sound queues gets sets f b e =
-    let s = sound-fresh queues gets sets f e in
-    if-cases (SoundMember queues gets sets f) b _ _ (λ t. sound-handed-back queues gets sets f (freshOf f) s) (λ t. s)
+module _ (queues : ℕ) (f : List ℕ) (b : Bool) where
+  blank-sound : (gets sets : ℕ) → within 1 4 queues ≡ true → length f ≡ featuresSize → SoundMember gets sets f (blankOf queues f b)
+  unfolding blankOf
+  blank-sound gets sets k e =
+      let s = sound-fresh gets sets f queues k e in
+      if-cases (SoundMember gets sets f) b _ _ (λ t. sound-handed-back gets sets f _ s) (λ t. s)
 
-blank-marked : (f : List ℕ) (b : Bool) → blankOf f b .marked ≡ b
-unfolding blankOf freshOf if_then_else_
-blank-marked f true = refl
-blank-marked f false = refl
+  blank-shape : length f ≡ featuresSize → Shaped (blankOf queues f b)
+  unfolding blankOf freshOf
+  blank-shape e =
+      let s = fresh-shaped queues f e in
+      if-cases Shaped b _ _ (λ t. record { ids = s .ids; low = s .low; long = s .long }) (λ t. s)
+
+  blank-marked : blankOf queues f b .marked ≡ b
+  unfolding blankOf freshOf if_then_else_
+  blank-marked = by-cases b (λ t. rw t) (λ t. rw t)
+
+  blank-queues : blankOf queues f b .queues ≡ queues
+  unfolding blankOf freshOf if_then_else_
+  blank-queues = by-cases b (λ t. rw t) (λ t. rw t)
+
+-- a card with the same setup that keeps m's mark and count
+pub blank-same : (m : ℕ) (c d : List ℕ) → setupOf d ≡ setupOf c → SameKept m c d → blankIn m d ≡ blankIn m c
+unfolding blankIn
+blank-same m c d e k = rw (e, k .mark, k .count)
 
 -- ---- the mask ----
 
-module _ (m : ℕ) (c : List ℕ) (whole : length c ≡ cardSize (setupOf c .members)) where
-  abbrev blank : Member
-  blank = blankOf (setupOf c .features) (isMarked c m)
+module _ (m : ℕ) (low : 1 ≤ m) (c : List ℕ) (whole : length c ≡ cardSize (setupOf c .members)) where
+  pub blank-shaped : Shaped (blankIn m c)
+  unfolding blankIn
+  blank-shaped = blank-shape _ _ (isMarked c m) (features-long c (omega arith))
 
-  pub blank-shaped : Shaped blank
-  blank-shaped = blank-sound 0 0 0 _ (isMarked c m) (features-long c (omega arith)) .shaped
+  -- where there is no member m nothing is masked
+  pub mask-none : isMember c m ≡ false → mask m c ≡ c
+  mask-none t =
+      let h : setupOf c .members < m = outside 1 (setupOf c .members) m t (λ z. absurd (omega arith)) (λ z. z) in
+      record-none c m _ 0 whole h
 
-  -- it keeps the mark
+  -- it keeps the mark and the count
   mask-mark : isMarked (mask m c) m ≡ isMarked c m
-  mask-mark = mark-with-record c m blank 0 blank-shaped whole (blank-marked _ (isMarked c m))
+  unfolding blankIn
+  mask-mark = mark-with-record c m (blankIn m c) 0 blank-shaped whole (blank-marked _ _ (isMarked c m))
+
+  pub mask-count : memberIn (mask m c) m .queues ≡ memberIn c m .queues
+  unfolding blankIn
+  mask-count = by-cases (isMember c m)
+      (λ t. ap (λ (y : Member). y .queues) (member-with-record c m _ 0 blank-shaped (has-record c m whole low (within-high _ _ m t)))
+      ∙ blank-queues _ _ (isMarked c m))
+      (λ t. ap (λ d. memberIn d m .queues) (mask-none t))
+
+  mask-kept : SameKept m c (mask m c)
+  mask-kept = record { mark = mask-mark; count = mask-count }
 
   -- whatever else stands in m's record is masked
-  mask-over : (at n : ℕ) (x : List ℕ) → at + n ≤ recordSize → isMarked (withRecordBytes c m at n x) m ≡ isMarked c m
-      → mask m (withRecordBytes c m at n x) ≡ mask m c
-  mask-over at n x i q = rw (setup-with-bytes, q) (record-over c m blank 0 blank-shaped at n x i)
+  mask-over : (at n : ℕ) (x : List ℕ) → at + n ≤ recordSize → SameKept m c (withRecordBytes c m at n x) → mask m (withRecordBytes c m at n x) ≡ mask m c
+  mask-over at n x i q = rw (blank-same m c _ (setup-with-bytes c m at n x) q) (record-over c m _ 0 blank-shaped at n x i)
 
   pub mask-again : (x : Member) (g : ℕ) → Shaped x → withRecord (mask m c) m x g ≡ withRecord c m x g
-  mask-again x g s = record-again c m x g s blank 0
+  mask-again x g s = record-again c m x g s _ 0
 
   pub mask-mask : mask m (mask m c) ≡ mask m c
-  mask-mask = rw (setup-with-record, mask-mark) (mask-again blank 0 blank-shaped)
+  mask-mask = rw (blank-same m c (mask m c) (setup-with-record c m _ 0) mask-kept) (mask-again _ 0 blank-shaped)
 
-pub mask-leaves : (m : ℕ) (c : List ℕ) → length c ≡ cardSize (setupOf c .members) → (d : List ℕ) → Leaves m c d → mask m d ≡ mask m c
-mask-leaves m c whole _ unchanged = refl
-mask-leaves m c whole _ (changed {d} l h at n x i q) = mask-over m d (leaves-whole m c d l whole) at n x i q ∙ mask-leaves m c whole d l
+pub mask-leaves : (m : ℕ) → 1 ≤ m → (c : List ℕ) → length c ≡ cardSize (setupOf c .members) → (d : List ℕ) → Leaves m c d → mask m d ≡ mask m c
+mask-leaves m low c whole _ unchanged = refl
+mask-leaves m low c whole _ (changed {d} l h at n x i q) = mask-over m low d (leaves-whole m c d l whole) at n x i q ∙ mask-leaves m low c whole d l
 
 -- what is changed elsewhere is changed in the masked card alike
 module _ (m : ℕ) (low : 1 ≤ m) (c : List ℕ) where
   pub mask-swap : (k at n : ℕ) (x : List ℕ) → at + n ≤ recordSize → 1 ≤ k → k ≢ m
       → withRecordBytes (mask m c) k at n x ≡ mask m (withRecordBytes c k at n x)
   mask-swap k at n x i l e =
-      record-swap c m _ 0 k at n x low i l e ∙ rw (setup-with-bytes, mark-other c k at n x i l m low (λ q. e (sym q)))
+      let o : m ≢ k = λ q. e (sym q) in
+      let s : SameKept m c (withRecordBytes c k at n x) = record { mark = mark-other c k at n x i l m low o; count = count-other c k at n x i l m low o } in
+      record-swap c m _ 0 k at n x low i l e ∙ rw (blank-same m c _ (setup-with-bytes c k at n x) s)
 
   pub swap-member : (k : ℕ) (x : Member) → 1 ≤ k → k ≢ m → withMember (mask m c) k x ≡ mask m (withMember c k x)
   unfolding withMember
@@ -94,17 +129,18 @@ module _ (m : ℕ) (low : 1 ≤ m) (c : List ℕ) where
   module _ (whole : length c ≡ cardSize (setupOf c .members)) where
     pub mask-member : (k : ℕ) (x : Member) → 1 ≤ k → k ≢ m → mask m (withMember (mask m c) k x) ≡ mask m (withMember c k x)
     mask-member k x l e =
-        ap (mask m) (swap-member k x l e) ∙ mask-mask m (withMember c k x) (rw (length-with-member, setup-with-member) whole)
+        ap (mask m) (swap-member k x l e) ∙ mask-mask m low (withMember c k x) (rw (length-with-member, setup-with-member) whole)
 
     pub mask-record : (k : ℕ) (x : Member) (g : ℕ) → 1 ≤ k → k ≢ m → mask m (withRecord (mask m c) k x g) ≡ mask m (withRecord c k x g)
     mask-record k x g l e =
         ap (mask m) (rw (record-bytes (mask m c) k x g, record-bytes c k x g) (mask-swap k 0 recordSize (recordOf x g) (omega arith) l e))
-        ∙ mask-mask m (withRecord c k x g) (rw (length-with-record, setup-with-record) whole)
+        ∙ mask-mask m low (withRecord c k x g) (rw (length-with-record, setup-with-record) whole)
 
     mask-use : (u : ℕ) → mask m (withInUse (mask m c) u) ≡ mask m (withInUse c u)
     mask-use u =
-        ap (mask m) (record-use c m _ 0 u ∙ rw (setup-with-use, mark-with-use))
-        ∙ mask-mask m (withInUse c u) (rw (length-with-use, setup-with-use) whole)
+        let s : SameKept m c (withInUse c u) = record { mark = mark-with-use c u m; count = count-with-use c u m } in
+        ap (mask m) (record-use c m _ 0 u ∙ rw (blank-same m c (withInUse c u) (setup-with-use c u) s))
+        ∙ mask-mask m low (withInUse c u) (rw (length-with-use, setup-with-use) whole)
 
 -- ---- the masked card of a sound one ----
 
@@ -113,27 +149,32 @@ module _ (m : ℕ) (low : 1 ≤ m) (c : List ℕ) (e : isSound c ≡ true) where
   is-whole = sound-of c e .long
 
   pub masked-sound : isSound (mask m c) ≡ true
-  masked-sound =
-      is-sound _ (sound-with-record c m _ 0 (sound-of c e) low (blank-sound _ _ _ _ (isMarked c m) (features-long c (omega (arith, is-whole)))))
+  unfolding blankIn
+  masked-sound = by-cases (isMember c m)
+      (λ t. is-sound _ (sound-with-record c m _ 0 (sound-of c e) low
+      (blank-sound _ _ (isMarked c m) _ _ (sound-member-in c (sound-of c e) m t .count) (features-long c (omega (arith, is-whole))))))
+      (λ t. rw (mask-none m low c is-whole t) e)
 
   -- every member is marked as it was
   pub masked-mark : (k : ℕ) → isMarked (mask m c) k ≡ isMarked c k
   masked-mark k = by-cases (eqb k m)
-      (λ q. rw (eqb-true k m q) (mask-mark m c is-whole))
+      (λ q. rw (eqb-true k m q) (mask-mark m low c is-whole))
       (λ q. mark-alike c _ k (setup-with-record c m _ 0)
       (λ t. ap (λ (x : Member). x .marked) (record-other c m _ 0 k low (within-low _ _ k t) (eqb-false k m q))))
+
+  -- and has as many queues
+  pub masked-count : (k : ℕ) → 1 ≤ k → memberIn (mask m c) k .queues ≡ memberIn c k .queues
+  masked-count k l = by-cases (eqb k m)
+      (λ q. rw (eqb-true k m q) (mask-count m low c is-whole))
+      (λ q. ap (λ (x : Member). x .queues) (record-other c m _ 0 k low l (eqb-false k m q)))
+
+  pub masked-counts : countsOf (mask m c) ≡ countsOf c
+  masked-counts = counts-same c _ (setup-with-record c m _ 0) (λ k t. masked-count k (within-low _ _ k t))
 
   -- a request asks the same of it
   masked-ask : (r : List ℕ) → askIn (mask m c) r ≡ askIn c r
   unfolding askIn
   masked-ask r = rw (setup-with-record, use-with-record, masked-mark)
-
-  -- where there is no member m nothing is masked
-  pub mask-none : isMember c m ≡ false → mask m c ≡ c
-  mask-none t =
-      let s = sound-of c e in
-      let h : setupOf c .members < m = outside 1 (setupOf c .members) m t (λ z. absurd (omega arith)) (λ z. z) in
-      record-none c m _ 0 (s .long) h
 
 -- ---- a command that does not name m ----
 
@@ -158,11 +199,11 @@ module _ (m : ℕ) (low : 1 ≤ m) (c : List ℕ) (s : isSound c ≡ true) (r : 
 
     perform-alike : (a : Ask) → FactsIn c r a → Alike m (perform (mask m c) r a) (perform c r a)
     unfolding perform
-    perform-alike (Refused a) f = record { outcomes = refl; results = refl; cards = mask-mask m c whole }
-    perform-alike QueryList f = record { outcomes = refl; results = refl; cards = mask-mask m c whole }
+    perform-alike (Refused a) f = record { outcomes = refl; results = refl; cards = mask-mask m low c whole }
+    perform-alike QueryList f = record { outcomes = refl; results = refl; cards = mask-mask m low c whole }
     perform-alike (UseList u) f = record { outcomes = refl; results = refl; cards = mask-use m low c whole u }
     perform-alike (Read k op) f =
-        rw (setup-with-record, unmasked k (f .0)) (record { outcomes = refl; results = refl; cards = mask-mask m c whole })
+        rw (unmasked k (f .0)) (record { outcomes = refl; results = refl; cards = mask-mask m low c whole })
     perform-alike (Change k op) f =
         rw (setup-with-record, unmasked k (f .0))
         (record { outcomes = refl; results = refl; cards = mask-member m low c whole k _ (f .0 .low) (another k (f .0)) })
@@ -173,7 +214,7 @@ module _ (m : ℕ) (low : 1 ≤ m) (c : List ℕ) (s : isSound c ≡ true) (r : 
   unfolding if_then_else_
   ended-alike e f h =
       rw (h .outcomes, h .results)
-      (refl, by-cases (isDone (lastAnswer room f)) (λ t. rw t (h .cards)) (λ t. rw t (mask-mask m c whole)))
+      (refl, by-cases (isDone (lastAnswer room f)) (λ t. rw t (h .cards)) (λ t. rw t (mask-mask m low c whole)))
 
   pub respond-answers : names m (command r room) ≡ false
       → (respond (mask m c) r room .1 ≡ respond c r room .1) × (mask m (respond (mask m c) r room .0) ≡ mask m (respond c r room .0))
@@ -187,7 +228,7 @@ module _ (m : ℕ) (low : 1 ≤ m) (c : List ℕ) (s : isSound c ≡ true) (r : 
       (λ t.
       let g : leb 8 room and isSound (mask m c) ≡ false = rw (z, and-true) t in
       let f : leb 8 room and isSound c ≡ false = rw (s, and-true) t in
-      rw (respond-none (mask m c) r room g, respond-none c r room f) (refl, mask-mask m c whole))
+      rw (respond-none (mask m c) r room g, respond-none c r room f) (refl, mask-mask m low c whole))
 
 -- ---- card events for another member ----
 
@@ -197,20 +238,24 @@ module _ (m : ℕ) (low : 1 ≤ m) (c : List ℕ) (whole : length c ≡ cardSize
       × (mask m (storeIn (mask m c) k t s value .1) ≡ mask m (storeIn c k t s value .1))
   unfolding storeIn ifDone unless_answer_then_
   store-answers t s value =
-      rw (setup-with-record, record-other c m _ 0 k low l n)
-      (by-cases (isEventDone (storable (setupOf c .queues) t s value))
+      rw (record-other c m _ 0 k low l n)
+      (by-cases (isEventDone (storable (memberIn c k .queues) t s value))
       (λ d. rw d (refl, mask-member m low c whole k _ l n))
-      (λ d. rw d (refl, mask-mask m c whole)))
+      (λ d. rw d (refl, mask-mask m low c whole)))
 
   pub back-other : mask m (withHandedBack (mask m c) k) ≡ mask m (withHandedBack c k)
   unfolding withHandedBack
   back-other =
       let x = handedBack (memberIn c k) in
       ap (mask m) (rw (record-other c m _ 0 k low l n, swap-member m low c k x l n) (swap-holding m low (withMember c k x) k noBytes l n))
-      ∙ mask-mask m (withHolding (withMember c k x) k noBytes)
+      ∙ mask-mask m low (withHolding (withMember c k x) k noBytes)
       (rw (length-with-holding, length-with-member, setup-with-holding, setup-with-member) whole)
 
 -- ---- a hand back of m itself ----
+
+pub back-setup : (m : ℕ) (c : List ℕ) → setupOf (withHandedBack c m) ≡ setupOf c
+unfolding withHandedBack
+back-setup m c = rw (setup-with-holding, setup-with-member)
 
 pub back-marked : (m : ℕ) (c : List ℕ) → length c ≡ cardSize (setupOf c .members) → isMember c m ≡ true → isMarked (withHandedBack c m) m ≡ true
 unfolding withHandedBack withHolding
@@ -220,13 +265,27 @@ back-marked m c whole h =
     mark-behind (withMember c m x) m holdingAt holdingSize noBytes (omega arith) (r .low) (omega arith) m
     ∙ marked-is (withMember c m x) m (rw setup-with-member h) ∙ mark-put c m x r
 
+pub back-queues : (m : ℕ) (c : List ℕ) → length c ≡ cardSize (setupOf c .members) → isMember c m ≡ true
+    → memberIn (withHandedBack c m) m .queues ≡ memberIn c m .queues
+unfolding withHandedBack withHolding
+back-queues m c whole h =
+    let x = handedBack (memberIn c m) in
+    let r = has-record c m whole (within-low _ _ m h) (within-high _ _ m h) in
+    count-behind (withMember c m x) m holdingAt holdingSize noBytes (omega arith) (r .low) m (r .low) (omega arith) ∙ count-put c m x r
+
+back-blank : (m : ℕ) (c : List ℕ) → length c ≡ cardSize (setupOf c .members) → isMember c m ≡ true
+    → blankIn m (withHandedBack c m) ≡ blankOf (memberIn c m .queues) (setupOf c .features) true
+unfolding blankIn
+back-blank m c whole h =
+    let e : setupOf (withHandedBack c m) ≡ setupOf c = back-setup m c in rw (e, back-queues m c whole h, back-marked m c whole h)
+
 back-own : (m : ℕ) (c : List ℕ) → length c ≡ cardSize (setupOf c .members) → isMember c m ≡ true
-    → mask m (withHandedBack c m) ≡ withRecord c m (blankOf (setupOf c .features) true) 0
+    → mask m (withHandedBack c m) ≡ withRecord c m (blankOf (memberIn c m .queues) (setupOf c .features) true) 0
 unfolding withHandedBack withMember withHolding
 back-own m c whole h =
     let x = handedBack (memberIn c m) in
-    let s = blank-sound 0 0 0 (setupOf c .features) true (features-long c (omega arith)) .shaped in
-    rw (back-marked m c whole h, setup-with-bytes, setup-with-bytes)
+    let s = blank-shape (memberIn c m .queues) (setupOf c .features) true (features-long c (omega arith)) in
+    rw (back-blank m c whole h)
     (record-over _ m _ 0 s holdingAt holdingSize noBytes (omega arith) ∙ record-over c m _ 0 s memberBytesAt memberSize (memberBytes x) (omega arith))
 
 pub back-answers : (m : ℕ) (low : 1 ≤ m) (c : List ℕ) → isSound c ≡ true → (k : ℕ) → isMember c k ≡ true
@@ -236,9 +295,9 @@ back-answers m low c e k h =
     by-cases (eqb k m)
     (λ q.
     let here : isMember c m ≡ true = rw (eqb-true k m q) at h in
-    let s = blank-sound 0 0 0 (setupOf c .features) true (features-long c (omega arith)) .shaped in
+    let s = blank-shape (memberIn c m .queues) (setupOf c .features) true (features-long c (omega arith)) in
     rw (eqb-true k m q)
     (back-own m (mask m c) (rw (length-with-record, setup-with-record) whole) (rw setup-with-record here)
-    ∙ rw setup-with-record (mask-again m c whole _ 0 s)
+    ∙ rw (setup-with-record, mask-count m low c whole) (mask-again m low c whole _ 0 s)
     ∙ sym (back-own m c whole here)))
     (λ q. back-other m low c whole k (within-low _ _ k h) (eqb-false k m q))

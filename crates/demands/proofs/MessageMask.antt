@@ -43,27 +43,27 @@ module _ (m : ℕ) (low : 1 ≤ m) (c : List ℕ) (whole : length c ≡ cardSize
     unfolding withConfiguration
     mask-configuration y g =
         ap (mask m) (mask-swap m low c k configurationAt (configurationSize + generationSize) _ (omega arith) l o)
-        ∙ mask-mask m (withRecordBytes c k configurationAt _ _) (rw (length-with-bytes, setup-with-bytes) whole)
+        ∙ mask-mask m low (withRecordBytes c k configurationAt _ _) (rw (length-with-bytes, setup-with-bytes) whole)
 
   act-alike : (x : List ℕ) (a : Access) → Facts (setupOf c .members) x a → speaksFor m a ≡ false → Alike m (actOf (mask m c) x a) (actOf c x a)
   unfolding actOf appliedTo speaksFor unless_answer_then_
-  act-alike x Nothing f n = record { says = refl; cards = mask-mask m c whole }
+  act-alike x Nothing f n = record { says = refl; cards = mask-mask m low c whole }
   act-alike x (Read k offset j) f n =
       let o = eqb-false k m n in
-      rw (configuration-unmasked k (f .low) o, generation-unmasked k (f .low) o) (record { says = refl; cards = mask-mask m c whole })
+      rw (configuration-unmasked k (f .low) o, generation-unmasked k (f .low) o) (record { says = refl; cards = mask-mask m low c whole })
   act-alike x (Write k sent offset j) f n =
       let o = eqb-false k m n in
       rw (configuration-unmasked k (f .0 .low) o, generation-unmasked k (f .0 .low) o)
       (by-cases (isApplied (generationIn c k) sent offset j)
       (λ t. rw t (record { says = refl; cards = mask-configuration k (f .0 .low) o _ _ }))
-      (λ t. rw t (record { says = refl; cards = mask-mask m c whole })))
+      (λ t. rw t (record { says = refl; cards = mask-mask m low c whole })))
 
   fitting-alike : (room : ℕ) (y z : List ℕ × List ℕ) → Alike m y z → Alike m (fitting (mask m c) room y) (fitting c room z)
   unfolding fitting unless_answer_then_
   fitting-alike room y z h =
       by-cases (leb (length (z .1)) room)
       (λ t. let u : leb (length (y .1)) room ≡ true = rw (h .says) t in rw (u, t) h)
-      (λ t. let u : leb (length (y .1)) room ≡ false = rw (h .says) t in rw (u, t) (record { says = refl; cards = mask-mask m c whole }))
+      (λ t. let u : leb (length (y .1)) room ≡ false = rw (h .says) t in rw (u, t) (record { says = refl; cards = mask-mask m low c whole }))
 
 -- a message asks the same of the masked card
 masked-access : (m : ℕ) (low : 1 ≤ m) (c : List ℕ) → isSound c ≡ true → (x : List ℕ) → accessIn (mask m c) x ≡ accessIn c x

@@ -1,5 +1,5 @@
--- What a call that names m can leave: the card, or the card with other bytes in m's record and the same mark. On any card,
--- sound or not.
+-- What a call that names m can leave: the card, or the card with other bytes in m's record, the same mark and the same queue
+-- count. On any card, sound or not.
 -- Integrity, isolation and commutation start from here. Assumes nothing.
 use mathlib.Core.Path.{_≡_, refl, sym, _∙_}
 use mathlib.Core.Bool.{Bool, true, false}
@@ -16,11 +16,12 @@ use Rattle.protocol.specs.Opcodes.{namesMember}
 use Rattle.member.specs.declared.Member.{Member}
 use Rattle.member.specs.Record.{memberSize, holdingSize, memberBytes}
 use Rattle.member.specs.Member.{withHeld}
-use Rattle.changes.proofs.Kept.{change-marked}
+use Rattle.changes.proofs.Kept.{change-marked, change-queues}
 use Rattle.card.specs.Layout.{memberBytesAt, configurationAt, configurationSize, generationSize, holdingAt, recordSize, cardSize, setupOf, isMember, HasRecord, withRecordBytes, memberIn, withMember, isMarked, withConfiguration, withHolding, noBytes}
 use Rattle.card.specs.Sound.{isSound}
 use Rattle.card.proofs.LayoutLaws.{length-with-bytes, setup-with-bytes}
 use Rattle.card.proofs.MarkLaws.{mark-with-member, mark-behind}
+use Rattle.card.proofs.CountLaws.{count-with-member, count-behind}
 use Rattle.card.proofs.SoundLaws.{Sound, sound-of, sound-has, member-small}
 use Rattle.events.specs.Events.{storeIn, store}
 use Rattle.events.proofs.Cases.{if-done-cases, on-member-cases}
@@ -46,22 +47,34 @@ use Rattle.message.proofs.Cases.{speaks-one, card-cases as message-cases}
 pub never : {P : Type 0} → false ≡ true → P
 never e = let z : _≡_ {A = ℕ} 0 1 = cc in absurd (omega arith)
 
+-- what a call for m keeps of m
+pub record SameKept (m : ℕ) (c d : List ℕ) : Type 0 where
+  pub mark : isMarked d m ≡ isMarked c m
+  pub count : memberIn d m .queues ≡ memberIn c m .queues
+
 pub data Leaves (m : ℕ) (c : List ℕ) : List ℕ → Type 0 where
   unchanged : Leaves m c c
   changed : {d : List ℕ} → Leaves m c d → isMember c m ≡ true → (at n : ℕ) (x : List ℕ) → at + n ≤ recordSize
-      → isMarked (withRecordBytes d m at n x) m ≡ isMarked d m → Leaves m c (withRecordBytes d m at n x)
+      → SameKept m d (withRecordBytes d m at n x) → Leaves m c (withRecordBytes d m at n x)
 
 module _ (m : ℕ) (c d : List ℕ) (l : Leaves m c d) (h : isMember c m ≡ true) (r : HasRecord d m) where
   -- another member, or another holding place
-  leaves-member : (x : Member) → x .marked ≡ memberIn d m .marked → Leaves m c (withMember d m x)
+  leaves-member : (x : Member) → x .marked ≡ memberIn d m .marked → x .queues ≡ memberIn d m .queues → Leaves m c (withMember d m x)
   unfolding withMember
-  leaves-member x q = changed l h memberBytesAt memberSize (memberBytes x) (omega arith) (mark-with-member d m x r q m)
+  leaves-member x q p =
+      changed l h memberBytesAt memberSize (memberBytes x) (omega arith)
+      (record { mark = mark-with-member d m x r q m; count = count-with-member d m x r p m (r .low) })
+
+  -- bytes behind a member's
+  kept-behind : (e : List ℕ) (at n : ℕ) (x : List ℕ) → at + n ≤ recordSize → configurationAt ≤ at → SameKept m e (withRecordBytes e m at n x)
+  kept-behind e at n x i b =
+      record { mark = mark-behind e m at n x i (r .low) b m; count = count-behind e m at n x i (r .low) m (r .low) b }
 
   leaves-held : (n : ℕ) (x : List ℕ) → Leaves m c (withHeldBytes d m n x)
   unfolding withHeldBytes withHolding
   leaves-held n x =
-      changed (leaves-member (withHeld (memberIn d m) n) refl) h holdingAt holdingSize x (omega arith)
-      (mark-behind _ m holdingAt holdingSize x (omega arith) (r .low) (omega arith) m)
+      changed (leaves-member (withHeld (memberIn d m) n) refl refl) h holdingAt holdingSize x (omega arith)
+      (kept-behind _ holdingAt holdingSize x (omega arith) (omega arith))
 
   leaves-gone : Leaves m c (withoutHeld d m)
   unfolding withoutHeld
@@ -71,7 +84,7 @@ module _ (m : ℕ) (c d : List ℕ) (l : Leaves m c d) (h : isMember c m ≡ tru
   unfolding withConfiguration
   leaves-configuration x g =
       changed l h configurationAt (configurationSize + generationSize) _ (omega arith)
-      (mark-behind d m configurationAt (configurationSize + generationSize) _ (omega arith) (r .low) (omega arith) m)
+      (kept-behind d configurationAt (configurationSize + generationSize) _ (omega arith) (omega arith))
 
 pub leaves-long : (m : ℕ) (c d : List ℕ) → Leaves m c d → length d ≡ length c
 leaves-long m c _ unchanged = refl
@@ -117,7 +130,8 @@ module _ (m : ℕ) (c r : List ℕ) (room : ℕ) (e : names m (command r room) �
       let q = eqb-true k m (sym (names-is m r room _ _ k (f .0)) ∙ e) in
       let h = named-here c r k (f .0) in
       rw (← q) (leaves-member k c c unchanged h (sound-has c s k h) _
-      (change-marked (setupOf c .queues) (setupOf c .gets) (setupOf c .sets) _ op (memberIn c k)))
+      (change-marked (setupOf c .gets) (setupOf c .sets) _ op (memberIn c k))
+      (change-queues (setupOf c .gets) (setupOf c .sets) _ op (memberIn c k)))
 
   pub respond-leaves : Leaves m c (respond c r room .0)
   respond-leaves = card-cases c r room (Leaves m c) unchanged (λ s. perform-leaves (sound-of c s) _ (asked-of c r))
@@ -172,12 +186,12 @@ named-leaves m c (cardReset g) e = never e
 named-leaves m c (cardStore k t s value) e =
     rw (eqb-true k m e)
     (on-member-cases c m _ (EventLeaves m c) (λ a d. unchanged) λ i h.
-    if-done-cases (EventLeaves m c) _ _ c (λ d. unchanged) (λ d. leaves-member m c c unchanged h (has c m i h) _ refl))
+    if-done-cases (EventLeaves m c) _ _ c (λ d. unchanged) (λ d. leaves-member m c c unchanged h (has c m i h) _ refl refl))
 named-leaves m c (restoreBegin k) e =
     rw (eqb-true k m e)
     (restore-cases c m _ (RestoreLeaves m c) (λ a. unchanged) λ p.
     unless-cases (RestoreLeaves m c) _ _ _ (λ t. unchanged)
-    (λ t. leaves-member m c c unchanged (p .member) (has c m (p .sound) (p .member)) _ refl))
+    (λ t. leaves-member m c c unchanged (p .member) (has c m (p .sound) (p .member)) _ refl refl))
 named-leaves m c (restoreFeed k x) e =
     rw (eqb-true k m e)
     (on-open-cases c m _ (RestoreLeaves m c) (λ a. unchanged) λ p.

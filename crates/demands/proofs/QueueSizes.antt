@@ -4,7 +4,7 @@ use mathlib.Core.Bool.{true}
 use Prim.Native.Nat.{ℕ, zero, suc, _≤_}
 use native.Mathlib.Omega.{arith}
 use borrow.Author.Tests.{eqb-true}
-use Rattle.theory.proofs.Tests.{both, either}
+use Rattle.theory.proofs.Tests.{both, either, within-high}
 use Rattle.inventory.specs.Queue.{powerBelow, ringSize, queueAllowed}
 use Rattle.inventory.proofs.Queue.{each-allowed}
 use Rattle.card.proofs.SoundLaws.{sound-of, sound-member-in}
@@ -25,7 +25,7 @@ pub rings-only : RingsOnly
 unfolding queueAllowed
 rings-only c e m h k l =
     let s = sound-of c e in
-    is-ring _ _ (each-allowed _ _ (sound-member-in c s m h .allowed) k l (omega (arith, s .numbers .fewQueues)))
+    is-ring _ _ (each-allowed _ _ (sound-member-in c s m h .allowed) k l (omega (arith, within-high 1 4 _ (sound-member-in c s m h .count))))
 
 pub queue-examples-hold : QueueExamplesHold
 unfolding model queueExamples

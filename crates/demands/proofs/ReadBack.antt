@@ -9,7 +9,7 @@ use borrow.Author.Tests.{eq-eqb, le-leb, leb-true, ltb-true}
 use lib.Dec.{leb, ltb, eqb}
 use lib.ListN.{length, drop, getD, length-append}
 use Rattle.theory.specs.Logic.{if_then_else_, unless_answer_then_, _and_, _or_}
-use Rattle.theory.proofs.Tests.{by-cases, if-cases, unless-cases, both, inside}
+use Rattle.theory.proofs.Tests.{by-cases, if-cases, unless-cases, both, inside, within-high}
 use Rattle.wire.specs.Le.{bytes, number}
 use Rattle.wire.proofs.Le.{le-bytes}
 use Rattle.protocol.specs.declared.Answer.{Answer}
@@ -35,7 +35,7 @@ use Rattle.member.specs.declared.Member.{Member}
 use Rattle.member.specs.Objects.{lookupOf}
 use Rattle.reads.specs.declared.Reading.{Reading}
 use Rattle.reads.specs.Reads.{refuseRead, succeedRead, queryOf, throughGet, selectedOf, readOf}
-use Rattle.card.specs.Layout.{setupOf, inUseOf, isMember}
+use Rattle.card.specs.Layout.{setupOf, inUseOf, isMember, memberIn}
 use Rattle.card.proofs.SoundLaws.{Sound, sound-of, sound-member-in}
 use Rattle.frame.specs.declared.Ask.{Ask}
 use Rattle.frame.specs.declared.Ask.the-variants.{Refused, QueryList, UseList, Read, Change}
@@ -134,15 +134,15 @@ request-asks members ids inUse marked x list what w t =
 
 -- ---- the result has the form of what is asked ----
 
-module _ (queues : ℕ) (list values : List ℕ) (few : queues < 5) (long : length values ≡ valuesSize) where
+module _ (list : List ℕ) (m : Member) (few : m .queues < 5) (long : length (m .values) ≡ valuesSize) where
   -- a success has a result of this form
   record Fits (form : ResultForm) (x : Reading) : Type 0 where
-    fits : isDone (x .answer) ≡ true → resultFits form (resultOf queues list values (x .body)) ≡ true
+    fits : isDone (x .answer) ≡ true → resultFits form (resultOf (m .queues) list (m .values) (x .body)) ≡ true
 
   refused-fits : (form : ResultForm) (a : Answer) → isDone a ≡ false → Fits form (refuseRead a)
   refused-fits form a n = record { fits = λ d. cc }
 
-  success-fits : (form : ResultForm) (b : Body) → resultFits form (resultOf queues list values b) ≡ true → Fits form (succeedRead b)
+  success-fits : (form : ResultForm) (b : Body) → resultFits form (resultOf (m .queues) list (m .values) b) ≡ true → Fits form (succeedRead b)
   success-fits form b e = record { fits = λ d. e }
 
   on-found : (form : ResultForm) (x : Found) (f : ObjectKind → Reading) → ((k : ObjectKind) → Fits form (f k))
@@ -150,9 +150,9 @@ module _ (queues : ℕ) (list values : List ℕ) (few : queues < 5) (long : leng
   on-found form (Live k) f h = h k
   on-found form Nothing f h = refused-fits form NotLive refl
 
-  through-get : (form : ResultForm) (id : ℕ) (m : Member) (x : Reading) → Fits form x → Fits form (throughGet id m x)
+  through-get : (form : ResultForm) (id : ℕ) (x : Reading) → Fits form x → Fits form (throughGet id m x)
   unfolding throughGet
-  through-get form id m x h =
+  through-get form id x h =
       on-found form (lookupOf m id) (λ k. unless isGet k answer refuseRead WrongKind then x)
       (λ k. unless-cases (Fits form) _ _ _ (λ e. refused-fits form WrongKind refl) (λ e. h))
 
@@ -161,26 +161,26 @@ module _ (queues : ℕ) (list values : List ℕ) (few : queues < 5) (long : leng
   unfolding numberBytes bytes number
   count-read n x h = le-bytes 4 n h
 
-  list-fits : resultFits Counted (numberBytes (partCount queues) ++ headersOf queues) ≡ true
+  list-fits : resultFits Counted (numberBytes (partCount (m .queues)) ++ headersOf (m .queues)) ≡ true
   unfolding resultFits countFits
   list-fits =
-      rw (count-read (partCount queues) (headersOf queues) (omega arith), length-append, number-long, headers-length queues few)
-      (eq-eqb (8 + headerSize * partCount queues) (8 + headerSize * partCount queues) refl)
+      rw (count-read (partCount (m .queues)) (headersOf (m .queues)) (omega arith), length-append, number-long, headers-length (m .queues) few)
+      (eq-eqb (8 + headerSize * partCount (m .queues)) (8 + headerSize * partCount (m .queues)) refl)
 
-  reading-fits : (m : Member) (op : ReadOp) → Fits (readForm op) (readOf queues list op m)
+  reading-fits : (op : ReadOp) → Fits (readForm op) (readOf list op m)
   unfolding queryOf selectedOf resultOf resultFits
-  reading-fits m (QueryObject id) =
+  reading-fits (QueryObject id) =
       on-found (Exactly 8) (lookupOf m id) (λ k. succeedRead (body.Kind k)) (λ k. success-fits (Exactly 8) (body.Kind k) refl)
-  reading-fits m (GetMetadata id Size) =
-      through-get (Exactly 8) id m _ (success-fits (Exactly 8) (body.Number (partsSize queues)) (rw number-long))
-  reading-fits m (GetMetadata id Count) =
-      through-get (Exactly 8) id m _ (success-fits (Exactly 8) (body.Number (partCount queues)) (rw number-long))
-  reading-fits m (GetMetadata id HeaderList) = through-get Counted id m _ (success-fits Counted body.Headers list-fits)
-  reading-fits m (GetSelected id) =
-      through-get WholeParts id m _
+  reading-fits (GetMetadata id Size) =
+      through-get (Exactly 8) id _ (success-fits (Exactly 8) (body.Number (partsSize (m .queues))) (rw number-long))
+  reading-fits (GetMetadata id Count) =
+      through-get (Exactly 8) id _ (success-fits (Exactly 8) (body.Number (partCount (m .queues))) (rw number-long))
+  reading-fits (GetMetadata id HeaderList) = through-get Counted id _ (success-fits Counted body.Headers list-fits)
+  reading-fits (GetSelected id) =
+      through-get WholeParts id _
       (unless-cases (Fits WholeParts) _ _ _ (λ e. refused-fits WholeParts BadList refl)
-      (λ e. success-fits WholeParts body.Selected (written-whole Asked queues list values long)))
-  reading-fits m (GetAll id) = through-get WholeParts id m _ (success-fits WholeParts body.All (written-whole All queues [] values long))
+      (λ e. success-fits WholeParts body.Selected (written-whole Asked (m .queues) list (m .values) long)))
+  reading-fits (GetAll id) = through-get WholeParts id _ (success-fits WholeParts body.All (written-whole All (m .queues) [] (m .values) long))
 
 effect-fits : (c r : List ℕ) → Sound c → (form : ResultForm) (a : Ask) → FactsIn c r a
     → Asks form a → isDone (perform c r a .outcome) ≡ true → resultFits form (perform c r a .result) ≡ true
@@ -189,9 +189,9 @@ effect-fits c r x form (Refused a) f h d = cc
 effect-fits c r x form QueryList f h d = rw h
 effect-fits c r x form (UseList mask) f h d = rw h
 effect-fits c r x form (Read m op) f h d =
-    let n = x .numbers in
     let here : isMember c m ≡ true = inside _ _ _ (f .0 .low) (f .0 .high) in
-    rw h (reading-fits (setupOf c .queues) _ _ (omega arith) (sound-member-in c x m here .shaped .long) _ op .fits d)
+    let y = sound-member-in c x m here in
+    rw h (reading-fits _ (memberIn c m) (omega (arith, within-high 1 4 _ (y .count))) (y .shaped .long) op .fits d)
 effect-fits c r x form (Change m op) f h d = rw h
 
 -- ---- the reply ----

@@ -55,7 +55,7 @@ module _ (m : ℕ) (low : 1 ≤ m) (k : ℕ) (l : 1 ≤ k) (o : k ≢ m) where
     mask-held n x =
         let y = withHeld (memberIn c k) n in
         ap (mask m) (rw (member-unmasked c, swap-member m low c k y l o) (swap-holding m low (withMember c k y) k x l o))
-        ∙ mask-mask m (withHolding (withMember c k y) k x)
+        ∙ mask-mask m low (withHolding (withMember c k y) k x)
         (rw (length-with-holding, length-with-member, setup-with-holding, setup-with-member) whole)
 
     mask-gone : mask m (withoutHeld (mask m c) k) ≡ mask m (withoutHeld c k)
@@ -72,7 +72,7 @@ module _ (m : ℕ) (low : 1 ≤ m) (c : List ℕ) (e : isSound c ≡ true) (k : 
   masked = masked-sound m low c e
 
   unchanged : (n : ℕ) → Alike m (n, mask m c) (n, c)
-  unchanged n = record { says = refl; cards = mask-mask m c whole }
+  unchanged n = record { says = refl; cards = mask-mask m low c whole }
 
   on-member-alike : (x y : ℕ × List ℕ) → (isMember c k ≡ true → Alike m x y) → Alike m (onMember (mask m c) k x) (onMember c k y)
   unfolding unless_answer_then_

@@ -9,7 +9,7 @@ use lib.ListN.{length, take, drop}
 use borrow.Author.Tests.{le-leb, lt-ltb}
 use Rattle.theory.specs.Logic.{if_then_else_, unless_answer_then_, _and_, _or_}
 use Rattle.theory.specs.Bytes.{bytesAt}
-use Rattle.theory.proofs.Tests.{or-true, within-low}
+use Rattle.theory.proofs.Tests.{or-true, within-low, within-high}
 use Rattle.wire.specs.Le.{bytes}
 use Rattle.protocol.specs.declared.Answer.the-variants.{Done}
 use Rattle.protocol.specs.declared.Mode.the-variants.{Stopped}
@@ -81,7 +81,7 @@ module _ (c : List ℕ) (m : ℕ) (x : Reached c m) where
 
   -- an id of a live object is valid
   valid : (i : ℕ) (k : ObjectKind) → lookupOf (memberIn c m) i ≡ Live k → i < setupOf c .gets + setupOf c .sets
-  valid i k e = live-below _ _ _ _ (memberIn c m) i k member e
+  valid i k e = live-below _ _ _ (memberIn c m) i k member e
 
   small : (i : ℕ) → i < setupOf c .gets + setupOf c .sets → i < 256 ^ 4
   small i h = omega (arith, ids)
@@ -92,7 +92,7 @@ module _ (c : List ℕ) (m : ℕ) (x : Reached c m) where
 
   -- nor is the member marked
   unmarked : (i : ℕ) (k : ObjectKind) → lookupOf (memberIn c m) i ≡ Live k → isMarked c m ≡ false
-  unmarked i k e = marked-is c m (x .here) ∙ live-unmarked _ _ _ _ (memberIn c m) i k member e
+  unmarked i k e = marked-is c m (x .here) ∙ live-unmarked _ _ _ (memberIn c m) i k member e
 
   -- the request of a full capture is taken
   get-taken : (i : ℕ) → lookupOf (memberIn c m) i ≡ Live Get → bit (inUseOf c) 0x0f ≡ true → askIn c (getAll m i) ≡ Read m (GetAll i)
@@ -109,19 +109,19 @@ module _ (c : List ℕ) (m : ℕ) (x : Reached c m) where
 
   -- a full capture through a live get object
   get-performs : (i : ℕ) → lookupOf (memberIn c m) i ≡ Live Get → bit (inUseOf c) 0x0f ≡ true
-      → perform c (getAll m i) (askIn c (getAll m i)) ≡ effect Done c (captureOf (setupOf c .queues) (memberIn c m .values))
+      → perform c (getAll m i) (askIn c (getAll m i)) ≡ effect Done c (captureOf (memberIn c m .queues) (memberIn c m .values))
   unfolding perform throughGet resultOf unless_answer_then_
   get-performs i e u = rw (get-taken i e u, e)
 
   capture-is : (i room : ℕ) → lookupOf (memberIn c m) i ≡ Live Get → bit (inUseOf c) 0x0f ≡ true
-      → 8 + length (captureOf (setupOf c .queues) (memberIn c m .values)) ≤ room
-      → capture c m i room ≡ headOf Done ++ captureOf (setupOf c .queues) (memberIn c m .values)
+      → 8 + length (captureOf (memberIn c m .queues) (memberIn c m .values)) ≤ room
+      → capture c m i room ≡ headOf Done ++ captureOf (memberIn c m .queues) (memberIn c m .values)
   capture-is i room e u h = respond-done c (getAll m i) room _ (x .sound) (get-performs i e u) h
 
   -- an accepted list through a live set object, where the member is stopped
   set-done : (j : ℕ) (list : List ℕ) → lookupOf (memberIn c m) j ≡ Live Set → bit (inUseOf c) 0x10 ≡ true
-      → memberIn c m .mode ≡ Stopped → causeOf (setupOf c .queues) (featuresIn (memberIn c m)) list ≡ Accepted
-      → partsSetOf c m j list ≡ (Done, withMember c m (withValues (memberIn c m) (applied (setupOf c .queues) (partsOf Parts list) (memberIn c m .values))))
+      → memberIn c m .mode ≡ Stopped → causeOf (memberIn c m .queues) (featuresIn (memberIn c m)) list ≡ Accepted
+      → partsSetOf c m j list ≡ (Done, withMember c m (withValues (memberIn c m) (applied (memberIn c m .queues) (partsOf Parts list) (memberIn c m .values))))
   unfolding partsSetOf setPartsOf if_then_else_ unless_answer_then_
   set-done j list e u k a = rw (u, lt-ltb j _ (valid j Set e), e, k, a)
 
@@ -146,7 +146,7 @@ module _ (c : List ℕ) (m i : ℕ) (d : List ℕ) (k j l : ℕ) (x : Restorable
   target = record { sound = x .soundTarget; here = x .targetMember }
 
   abbrev q : ℕ
-  q = setupOf d .queues
+  q = memberIn d k .queues
 
   abbrev v : List ℕ
   v = memberIn c m .values
@@ -155,7 +155,7 @@ module _ (c : List ℕ) (m i : ℕ) (d : List ℕ) (k j l : ℕ) (x : Restorable
   w = memberIn d k .values
 
   few-queues : q < 5
-  few-queues = omega (arith, facts d k target .numbers .fewQueues)
+  few-queues = omega (arith, within-high 1 4 _ (member d k target .count))
 
   long-source : length v ≡ valuesSize
   long-source = member c m source .shaped .long
@@ -164,7 +164,7 @@ module _ (c : List ℕ) (m i : ℕ) (d : List ℕ) (k j l : ℕ) (x : Restorable
   long-target = member d k target .shaped .long
 
   allowed-source : queuesAllowed q v ≡ true
-  allowed-source = rw (x .sameSetup) at (member c m source .allowed)
+  allowed-source = rw (x .sameQueues) at (member c m source .allowed)
 
   -- both have the setup's device features
   features-same : bytesAt 0 16 v ≡ bytesAt 0 16 w
@@ -185,7 +185,7 @@ module _ (c : List ℕ) (m i : ℕ) (d : List ℕ) (k j l : ℕ) (x : Restorable
   captured-is : (r : ℕ) → 8 + partsSize q ≤ r → capture c m i r ≡ headOf Done ++ list
   unfolding list
   captured-is r h =
-      rw (x .sameSetup) at (capture-is c m source i r (x .sourceGet) (x .captureInUse) (rw (x .sameSetup, list-long) h))
+      rw (x .sameQueues) at (capture-is c m source i r (x .sourceGet) (x .captureInUse) (rw (x .sameQueues, list-long) h))
 
   restored : Member
   restored = withValues (memberIn d k) (applied q (partsOf Parts list) w)
@@ -206,7 +206,7 @@ module _ (c : List ℕ) (m i : ℕ) (d : List ℕ) (k j l : ℕ) (x : Restorable
   restored-in : SoundIn d restored
   unfolding restored
   restored-in =
-      sound-applied _ _ _ _ (memberIn d k) (member d k target) (partsOf Parts list)
+      sound-applied _ _ _ (memberIn d k) (member d k target) (partsOf Parts list)
       (accepted-allowed q (featuresIn (memberIn d k)) _ w (ap isAccepted list-accepted) long-target (member d k target .allowed))
 
   reached-after : Reached after k
@@ -220,9 +220,9 @@ module _ (c : List ℕ) (m i : ℕ) (d : List ℕ) (k j l : ℕ) (x : Restorable
   unfolding after
   member-after = member-same d k restored (sound-has d (facts d k target) k (x .targetMember)) (restored-in .shaped)
 
-  values-after : captureOf (setupOf after .queues) (memberIn after k .values) ≡ list
+  values-after : captureOf (memberIn after k .queues) (memberIn after k .values) ≡ list
   unfolding after restored list
-  values-after = rw (member-after, setup-with-member) (capture-restored q v few-queues long-source w long-target features-same)
+  values-after = rw member-after (capture-restored q v few-queues long-source w long-target features-same)
 
   recaptured-is : (r : ℕ) → 8 + partsSize q ≤ r → capture after k l r ≡ headOf Done ++ list
   unfolding after restored lookupOf
@@ -231,16 +231,16 @@ module _ (c : List ℕ) (m i : ℕ) (d : List ℕ) (k j l : ℕ) (x : Restorable
       (capture-is after k reached-after l r (rw member-after (x .targetGet)) (rw use-with-member (x .recaptureInUse))
       (rw (values-after, list-long) h))
 
-  trip : (r₁ r₂ r₃ : ℕ) → 8 + partsSize (setupOf c .queues) ≤ r₁ → 8 ≤ r₂ → 8 + partsSize (setupOf c .queues) ≤ r₃
+  trip : (r₁ r₂ r₃ : ℕ) → 8 + partsSize (memberIn c m .queues) ≤ r₁ → 8 ≤ r₂ → 8 + partsSize (memberIn c m .queues) ≤ r₃
       → RestoredSame c m i d k j l r₁ r₂ r₃
   trip r₁ r₂ r₃ h₁ h₂ h₃ =
-      let g₁ : 8 + partsSize q ≤ r₁ = rw (x .sameSetup) at h₁ in
-      let g₃ : 8 + partsSize q ≤ r₃ = rw (x .sameSetup) at h₃ in
+      let g₁ : 8 + partsSize q ≤ r₁ = rw (x .sameQueues) at h₁ in
+      let g₃ : 8 + partsSize q ≤ r₃ = rw (x .sameQueues) at h₃ in
       let e = captured-is r₁ g₁ in
       let f = restored-is r₁ r₂ g₁ h₂ in
       record {
         captured = rw e (head-only list);
-        full = rw (e, x .sameSetup) (long-reply list ∙ rw list-long);
+        full = rw (e, x .sameQueues) (long-reply list ∙ rw list-long);
         accepted = ap (λ (y : List ℕ × List ℕ). y .1) f;
         same = ap (λ (y : List ℕ × List ℕ). capture (y .0) k l r₃) f ∙ recaptured-is r₃ g₃ ∙ sym e;
       }

@@ -35,9 +35,9 @@ example : Unit {0}
 unfolding model reading source target
 example = tt
 
--- N=2, Q=1, G=1, S=1, features all zero
+-- N=2, G=1, S=1, features all zero
 abbrev setup : Setup
-setup = record { members = 2; queues = 1; gets = 1; sets = 1; features = replicate 16 0 }
+setup = record { members = 2; gets = 1; sets = 1; features = replicate 16 0 }
 
 -- ---- each hypothesis ----
 
@@ -56,6 +56,10 @@ setup-source = refl
 setup-target : setupOf target ≡ setup
 unfolding example
 setup-target = refl
+
+same-queues : memberIn source 1 .queues ≡ memberIn target 1 .queues
+unfolding example
+same-queues = refl
 
 source-member : isMember source 1 ≡ true
 unfolding example
@@ -98,6 +102,7 @@ restorable = record {
   soundSource = sound-source;
   soundTarget = sound-target;
   sameSetup = setup-source ∙ sym setup-target;
+  sameQueues = same-queues;
   sourceMember = source-member;
   targetMember = target-member;
   sourceGet = source-get;

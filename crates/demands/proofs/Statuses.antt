@@ -172,7 +172,7 @@ module _ (c r : List ℕ) (room : ℕ) where
   d = dataOf r
 
   abbrev q : ℕ
-  q = setupOf c .queues
+  q = memberNamed c r .queues
 
   abbrev ids : ℕ
   ids = setupOf c .gets + setupOf c .sets
@@ -241,10 +241,7 @@ module _ (c r : List ℕ) (room : ℕ) where
   through-get f g h = object (objectNamed c r) f λ k e. test (isGet k) (g k e) (h k e)
 
   -- the lengths of what metadata and parts get give are those of a sound card
-  module _ (s : Sound c) where
-    few : q < 5
-    few = omega (arith, s .numbers .fewQueues)
-
+  module _ (few : q < 5) where
     metadata : Agree c r room 0x0e
     unfolding ladders
     metadata =
@@ -283,17 +280,17 @@ module _ (c r : List ℕ) (room : ℕ) where
           test (leb (typeByte d) 1) (λ e. other-type e (omega tests) (omega tests)) λ e.
           type-up-to-1 (typeByte d) e selected get-all
 
-    by-opcode : (op : ℕ) → supported op ≡ true → namesMember op and not (isMember c (targetOf r)) ≡ false → Agree c r room op
-    unfolding namesMember
-    by-opcode op u n =
-        either (ltb op 2) (namesMember op) (sym (supported-is op) ∙ u)
-        (λ e. among (Agree c r room) 0x00 2 (query-list, (list-use, tt)) op (omega arith) (omega tests))
-        (λ e.
-        let here = not-false _ (sym (true-and _) ∙ rw e at n) in
-        let long = sound-member-in c s _ here .shaped .long in
-        among (Agree c r room) 0x0a 8
-        (create, (modify, (query, (destroy, (metadata, (parts-get long, (parts-set, (mode-set, tt)))))))) op
-        (within-low _ _ _ e) (omega (tests, within-high _ _ _ e)))
+  by-opcode : Sound c → (op : ℕ) → supported op ≡ true → namesMember op and not (isMember c (targetOf r)) ≡ false → Agree c r room op
+  unfolding namesMember
+  by-opcode s op u n =
+      either (ltb op 2) (namesMember op) (sym (supported-is op) ∙ u)
+      (λ e. among (Agree c r room) 0x00 2 (query-list, (list-use, tt)) op (omega arith) (omega tests))
+      (λ e.
+      let y = sound-member-in c s _ (not-false _ (sym (true-and _) ∙ rw e at n)) in
+      let few : q < 5 = omega (arith, within-high 1 4 _ (y .count)) in
+      among (Agree c r room) 0x0a 8
+      (create, (modify, (query, (destroy, (metadata few, (parts-get few (y .shaped .long), (parts-set, (mode-set, tt)))))))) op
+      (within-low _ _ _ e) (omega (tests, within-high _ _ _ e)))
 
 -- ---- steps 2 to 5 ----
 

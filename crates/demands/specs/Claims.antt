@@ -1,5 +1,5 @@
 -- WHAT IS CLAIMED OF THE CARD, by demand, SPEC 9, and by request, SPEC 13. Each claim is over the definitions that the
--- contracts of the exported functions cite: setUp, commandOf (a command with its buffer; respond is the same without it),
+-- contracts of the exported functions cite: setUp, setUpFrom, commandOf (a command with its buffer; respond is the same without it),
 -- handBack, wipe, resetCard, store, beginOf, feedOf, finishOf, dropOf and messageOf (of which answerOf is the same without
 -- the buffer). The record Claims at the end lists all of them, and ../proofs/Claims.antt proves it. A claim with hypotheses
 -- says which example meets them; where no file is named it is in ../proofs/ClaimsExample.antt. Assumes nothing.
@@ -13,12 +13,15 @@ use Rattle.theory.specs.Machine.{trace, run, seen, visible, Swappable}
 use Rattle.protocol.specs.declared.Answer.the-variants.{Marked}
 use Rattle.protocol.specs.declared.EventAnswer.the-variants.{Done}
 use Rattle.protocol.specs.Opcodes.{opcodeRow, fixedSize}
-use Rattle.card.specs.Layout.{inUseAt, recordSize, setupOf, inUseOf, isMember, recordAt, memberIn, isMarked, holdingIn}
+use Rattle.card.specs.Layout.{inUseAt, recordSize, setupOf, inUseOf, isMember, recordAt, memberIn, countsOf, isMarked, holdingIn}
 use Rattle.card.specs.Sound.{isSound}
 use Rattle.frame.specs.Frame.{opcodeOf, targetOf}
 use Rattle.frame.specs.Ask.{usable}
 use Rattle.reply.specs.Reply.{headOf}
-use Rattle.events.specs.Events.{setupWith, setUp, resetMember}
+use Rattle.events.specs.Events.{setupWith, setUp, setUpFrom, resetMember}
+use Rattle.setups.specs.Writing.{written as packedIn}
+use Rattle.setups.specs.Claims.{Claims as PackedSetups}
+use Rattle.setups.specs.Examples.{SetupsWritten, SetupsRead}
 use Rattle.admin.specs.Command.{respond, commandOf}
 use Rattle.staging.specs.Staging.{dropOf}
 use Rattle.staging.specs.Claims.{FinishIsPartsSet, HoldsJoined, CutAnywhere}
@@ -27,6 +30,7 @@ use Rattle.demands.specs.Statuses.{Statuses}
 use Rattle.demands.specs.Examples.{ExamplesHold}
 use Rattle.demands.specs.Lengths.{LengthExamplesHold}
 use Rattle.demands.specs.QueueSizes.{RingsOnly, QueueExamplesHold}
+use Rattle.demands.specs.QueueCounts.{CountExamplesHold}
 use Rattle.demands.specs.Halves.{HalvesExamplesHold}
 use Rattle.demands.specs.WrongPrograms.{WrongProgramsRejected}
 use Rattle.demands.specs.RoundTrip.{RoundTrip}
@@ -77,12 +81,14 @@ afterRefusal c (message x room) = c
 abbrev pub RefusalsChangeNothing : Type 0
 RefusalsChangeNothing = (c : List ℕ) (x : Call) → refused (step c x .1) ≡ true → step c x .0 ≡ afterRefusal c x
 
--- Setup, done, gives a sound card of this setup; refused, it makes every byte of the buffer zero, and zeros are not sound:
+-- Setup, done, gives a sound card of this setup, with this queue count for each member; refused, it makes every byte of the buffer zero, and zeros are not sound:
 -- SPEC 7.2. Examples: setup-done, setup-refused
 pub record SetsUp : Type 0 where
-  pub done : (b : List ℕ) (n q g s : ℕ) (f : List ℕ) → setUp b n q g s f .0 ≡ Done
-      → (isSound (setUp b n q g s f .1) ≡ true) × (setupOf (setUp b n q g s f .1) ≡ setupWith n q g s f)
-  pub refused : (b : List ℕ) (n q g s : ℕ) (f : List ℕ) → setUp b n q g s f .0 ≢ Done
+  pub done : (b : List ℕ) (n : ℕ) (q : List ℕ) (g s : ℕ) (f : List ℕ) → setUp b n q g s f .0 ≡ Done
+      → (isSound (setUp b n q g s f .1) ≡ true)
+      × (setupOf (setUp b n q g s f .1) ≡ setupWith n g s f)
+      × (countsOf (setUp b n q g s f .1) ≡ q)
+  pub refused : (b : List ℕ) (n : ℕ) (q : List ℕ) (g s : ℕ) (f : List ℕ) → setUp b n q g s f .0 ≢ Done
       → setUp b n q g s f .1 ≡ replicate (length b) 0
   pub zeros : (n : ℕ) → isSound (replicate n 0) ≡ false
 
@@ -104,7 +110,7 @@ pub record SameOutside (at size : ℕ) (c d : List ℕ) : Type 0 where
 abbrev pub DifferAtMost : ℕ → List ℕ → List ℕ → Type 0
 DifferAtMost m c d = SameOutside (recordAt m) recordSize c d
 
--- Two sound cards differ in member m's record at most, and m's mark is the same in both. Two sequences of calls, p₁ then r
+-- Two sound cards differ in member m's record at most, and m's mark and its queue count are the same in both. Two sequences of calls, p₁ then r
 -- then t on the one and p₂ then r then t on the other: r resets m, by its reply on the first card, t is any, and p₁ and p₂
 -- are the same once every call that names m is struck out of both. No hand back and no wipe is. Then the replies, one by one, to all calls before r that do not name m are the same on both cards, and so are
 -- the reply to r and to every call after it, and the whole card after r and after each later call. Example:
@@ -112,7 +118,8 @@ DifferAtMost m c d = SameOutside (recordAt m) recordSize c d
 abbrev pub Isolation : Type 0
 Isolation =
     (c₁ c₂ : List ℕ) → isSound c₁ ≡ true → isSound c₂ ≡ true
-    → (m : ℕ) → isMember c₁ m ≡ true → DifferAtMost m c₁ c₂ → isMarked c₁ m ≡ isMarked c₂ m
+    → (m : ℕ) → isMember c₁ m ≡ true → DifferAtMost m c₁ c₂
+    → isMarked c₁ m ≡ isMarked c₂ m → memberIn c₁ m .queues ≡ memberIn c₂ m .queues
     → (p₁ p₂ : List Call) → visible (names m) p₁ ≡ visible (names m) p₂
     → (r : Call) → Resets m r (step (run step c₁ p₁) r .1) → (t : List Call)
     → seen (names m) (length p₁) (trace step c₁ (p₁ ++ r ∷ t)) ≡ seen (names m) (length p₂) (trace step c₂ (p₂ ++ r ∷ t))
@@ -230,6 +237,25 @@ pub record Between (c : List ℕ) (m : ℕ) : Type 0 where
 abbrev pub MarkedRefused : Type 0
 MarkedRefused = (c : List ℕ) (m : ℕ) → isSound c ≡ true → isMember c m ≡ true → isMarked c m ≡ true → Between c m
 
+-- ---- REQUEST 9, SPEC 13.9: setups that outlive a release ----
+
+-- What is written reads back the same, a refusal writes nothing, what is read is in range: setups/specs/Claims.antt, and the
+-- worked examples of setups/specs/Examples.antt.
+
+-- A setup that is written and then set up gives the card that setup gives for it, byte for byte: n bytes were written at the
+-- front of a buffer, which is b now. Example: ../proofs/QueueCounts.antt
+abbrev pub SetUpFromPacked : Type 0
+SetUpFromPacked =
+    (c buffer : List ℕ) (members : ℕ) (queues : List ℕ) (gets sets : ℕ) (features : List ℕ) (n : ℕ) (b : List ℕ)
+    → _≡_ {A = ℕ × List ℕ} (n, b) (packedIn buffer members queues gets sets features) → (n ≡ 0 → ⊥)
+    → setUpFrom c (take n b) ≡ setUp c members queues gets sets features
+
+-- No call changes a queue count, the resets included. Example: ../proofs/QueueCounts.antt
+abbrev pub QueuesKept : Type 0
+QueuesKept = (c : List ℕ) (m : ℕ) → isMember c m ≡ true → (x : Call) → memberIn (step c x .0) m .queues ≡ memberIn c m .queues
+
+-- The worked examples Q1 to Q4: QueueCounts.antt
+
 -- ---- all of them ----
 
 pub record Claims : Type 1 where
@@ -277,3 +303,10 @@ pub record Claims : Type 1 where
   pub twoHalves : TwoHalves
   pub markedRefused : MarkedRefused
   pub halvesExamples : HalvesExamplesHold
+  -- request 9
+  pub packedSetups : PackedSetups
+  pub setupsWritten : SetupsWritten
+  pub setupsRead : SetupsRead
+  pub setUpFromPacked : SetUpFromPacked
+  pub queuesKept : QueuesKept
+  pub countExamples : CountExamplesHold

@@ -15,7 +15,7 @@ use Rattle.host.specs.Request.{request, requestOf, getAll, setParts}
 
 -- two members; one queue, one get object and one set object for each; features all zero
 unfoldable pub exampleCard : List ℕ
-exampleCard = setUp (replicate (cardSize 2) 0) 2 1 1 1 (replicate 16 0) .1
+exampleCard = setUp (replicate (cardSize 2) 0) 2 (1 ∷ 1 ∷ []) 1 1 (replicate 16 0) .1
 
 -- ---- calls ----
 

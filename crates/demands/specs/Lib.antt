@@ -3,6 +3,7 @@ pub mod Statuses
 pub mod Examples
 pub mod Lengths
 pub mod QueueSizes
+pub mod QueueCounts
 pub mod WrongPrograms
 pub mod RoundTrip
 pub mod Host

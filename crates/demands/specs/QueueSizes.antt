@@ -22,7 +22,7 @@ pub data Ring (size enabled : ℕ) : Type 0 where
 -- value, and its enabled field two from byte 4 on. Every call keeps that: StaysSound. Example: sound-card
 abbrev pub RingsOnly : Type 0
 RingsOnly =
-    (c : List ℕ) → isSound c ≡ true → (m : ℕ) → isMember c m ≡ true → (k : ℕ) → k < setupOf c .queues
+    (c : List ℕ) → isSound c ≡ true → (m : ℕ) → isMember c m ≡ true → (k : ℕ) → k < memberIn c m .queues
     → Ring (number 0 2 (queueValue k (memberIn c m .values))) (number 4 2 (queueValue k (memberIn c m .values)))
 
 -- ---- worked examples ----

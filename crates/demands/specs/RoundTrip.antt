@@ -18,13 +18,14 @@ use Rattle.reply.specs.Reply.{headOf}
 use Rattle.admin.specs.Command.{respond}
 use Rattle.host.specs.Request.{getAll, setParts}
 
--- Member m of a sound card c is captured through a live get object i. Member k of a sound card d with the same setup is
--- stopped and has a live set object j and a live get object l. (d may be c and k may be m.) Parts get, 0x0f, is in use
--- on both cards, and parts set, 0x10, where the capture is set.
+-- Member m of a sound card c is captured through a live get object i. Member k of a sound card d with the same setup has as
+-- many queues (02, request 9), is stopped and has a live set object j and a live get object l. (d may be c and k may be m.)
+-- Parts get, 0x0f, is in use on both cards, and parts set, 0x10, where the capture is set.
 pub record Restorable (c : List ℕ) (m i : ℕ) (d : List ℕ) (k j l : ℕ) : Type 0 where
   pub soundSource : isSound c ≡ true
   pub soundTarget : isSound d ≡ true
   pub sameSetup : setupOf c ≡ setupOf d
+  pub sameQueues : memberIn c m .queues ≡ memberIn d k .queues
   pub sourceMember : isMember c m ≡ true
   pub targetMember : isMember d k ≡ true
   pub sourceGet : lookupOf (memberIn c m) i ≡ Live Get
@@ -47,12 +48,12 @@ restore d k j reply r = respond d (setParts k j (drop 8 reply)) r
 -- target gives the same bytes.
 pub record RestoredSame (c : List ℕ) (m i : ℕ) (d : List ℕ) (k j l r₁ r₂ r₃ : ℕ) : Type 0 where
   pub captured : take 8 (capture c m i r₁) ≡ headOf Done
-  pub full : length (capture c m i r₁) ≡ 8 + partsSize (setupOf c .queues)
+  pub full : length (capture c m i r₁) ≡ 8 + partsSize (memberIn c m .queues)
   pub accepted : restore d k j (capture c m i r₁) r₂ .1 ≡ headOf Done
   pub same : capture (restore d k j (capture c m i r₁) r₂ .0) k l r₃ ≡ capture c m i r₁
 
 abbrev pub RoundTrip : Type 0
 RoundTrip =
     (c : List ℕ) (m i : ℕ) (d : List ℕ) (k j l : ℕ) → Restorable c m i d k j l
-    → (r₁ r₂ r₃ : ℕ) → 8 + partsSize (setupOf c .queues) ≤ r₁ → 8 ≤ r₂ → 8 + partsSize (setupOf c .queues) ≤ r₃
+    → (r₁ r₂ r₃ : ℕ) → 8 + partsSize (memberIn c m .queues) ≤ r₁ → 8 ≤ r₂ → 8 + partsSize (memberIn c m .queues) ≤ r₃
     → RestoredSame c m i d k j l r₁ r₂ r₃

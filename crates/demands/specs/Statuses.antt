@@ -110,8 +110,8 @@ badField ids op d =
 -- step 10, a bad list, SPEC 5.5 and 5.6; an asked list whose last header is incomplete is one
 unfoldable pub badList : List ℕ → List ℕ → ℕ → Bool
 badList c r op =
-    (eqb op 0x0f and eqb (typeByte (dataOf r)) 0 and not (askedOf (setupOf c .queues) (askedList r)))
-    or (eqb op 0x10 and not (isAccepted (causeOf (setupOf c .queues) (featuresIn (memberNamed c r)) (givenList r))))
+    (eqb op 0x0f and eqb (typeByte (dataOf r)) 0 and not (askedOf (memberNamed c r .queues) (askedList r)))
+    or (eqb op 0x10 and not (isAccepted (causeOf (memberNamed c r .queues) (featuresIn (memberNamed c r)) (givenList r))))
 
 -- the parts that a list asks for, each a header of 16 bytes and its value
 unfoldable pub askedSize : ℕ → List ℕ → ℕ
@@ -122,9 +122,9 @@ askedSize queues list =
 unfoldable pub resultSize : List ℕ → List ℕ → ℕ → ℕ
 resultSize c r op =
     if eqb op 0x00 or eqb op 0x0c then 8 else
-    if eqb op 0x0e then (if eqb (typeByte (dataOf r)) 2 then 8 + 16 * partCount (setupOf c .queues) else 8) else
-    if eqb op 0x0f and eqb (typeByte (dataOf r)) 1 then partsSize (setupOf c .queues) else
-    if eqb op 0x0f then askedSize (setupOf c .queues) (askedList r) else
+    if eqb op 0x0e then (if eqb (typeByte (dataOf r)) 2 then 8 + 16 * partCount (memberNamed c r .queues) else 8) else
+    if eqb op 0x0f and eqb (typeByte (dataOf r)) 1 then partsSize (memberNamed c r .queues) else
+    if eqb op 0x0f then askedSize (memberNamed c r .queues) (askedList r) else
     0
 
 -- ---- the table; room is the reply buffer's length ----

@@ -147,13 +147,7 @@ fn set_held(card: &[u8], m: u64, x: Member, id: u32, k: usize) -> Changed
         };
     }
     let list = first(card::holding(card, m), k);
-    changes::change(
-        x,
-        ChangeOp::SetParts(id as usize),
-        s.gets,
-        s.sets,
-        list,
-    )
+    changes::change(x, ChangeOp::SetParts(id as usize), s.gets, s.sets, list)
 }
 
 // One parts set of the bytes held, through the set object of this id; then the holding place ends, whatever the answer.
