@@ -29,7 +29,8 @@ use Rattle.setups.specs.declared.Setup as setups
 use Rattle.setups.specs.declared.ReadOutcome.{ReadOutcome}
 use Rattle.setups.specs.declared.ReadAnswer.{ReadAnswer}
 use Rattle.setups.specs.declared.ReadAnswer.the-variants as reading
-use Rattle.setups.specs.Setup.{mostMembers, inRanges, inNumbers, InNumbers}
+use Rattle.setups.specs.Setup.{mostMembers, inRanges, inNumbers}
+use Rattle.setups.specs.Writing.{InNumbers}
 use Rattle.setups.specs.Reading.{readNumber, readSetup}
 use Rattle.setups.proofs.Ranges.{numbers-in}
 use Rattle.setups.proofs.Claims.{claims}
