@@ -6,9 +6,9 @@ use transcript::Request;
 // A card of four members with two queues each.
 const MEMBERS: u64 = 4;
 
-const QUEUES: u64 = 2;
+const QUEUES: [u8; 4] = [2, 2, 2, 2];
 
-const CARD: usize = 5088;
+const CARD: usize = 5091;
 // A full capture: the reply's head and all parts.
 const CAPTURE: usize = 309;
 
@@ -253,7 +253,7 @@ fn check(name: &[u8], holds: bool) {
 }
 
 fn setup(card: &mut [u8]) {
-    kajurnat::kajurnat_setup(card, MEMBERS, QUEUES, 1, 1, &VERSION_1);
+    kajurnat::kajurnat_setup(card, MEMBERS, &QUEUES, 1, 1, &VERSION_1);
 }
 
 fn get_all(card: &mut [u8], member: u64, reply: &mut [u8]) {

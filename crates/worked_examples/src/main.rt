@@ -32,7 +32,7 @@ fn send(request: Request, card: &mut [u8]) {
 }
 
 fn fresh(card: &mut [u8]) {
-    kajurnat::kajurnat_setup(card, 2, 1, 1, 1, &[0u8; 16]);
+    kajurnat::kajurnat_setup(card, 2, &[1u8; 2], 1, 1, &[0u8; 16]);
 }
 
 // The examples are of objects of member 1 alone.
@@ -319,7 +319,7 @@ fn lists(card: &mut [u8]) {
 }
 
 fn main() {
-    let mut card = [0u8; 2558];
+    let mut card = [0u8; 2559];
     fresh(&mut card);
     before_use(&mut card);
     send(Request::list_use(transcript::ALL), &mut card);
