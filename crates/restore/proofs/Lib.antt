@@ -1,3 +1,5 @@
 pub mod Rows
-pub mod RoundTrip
 pub mod WholeParts
+pub mod PartValues
+pub mod Applied
+pub mod RoundTrip

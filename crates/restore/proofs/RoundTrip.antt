@@ -1,5 +1,5 @@
--- A full capture of queues with allowed values is accepted by a member with as many and the same device features; once it is set there, a capture
--- there gives the same bytes: demand 2, on the values. Assumes nothing.
+-- A full capture of queues with allowed values is accepted by a member with as many and the same device features, and has the
+-- value of each row; once it is set there, a capture there gives the same bytes: demand 2, on the values. Assumes nothing.
 use mathlib.Core.Path.{_≡_, refl, ap, sym, _∙_}
 use mathlib.Core.Bool.{Bool, true, false}
 use mathlib.Core.List.{List, []}
@@ -9,27 +9,25 @@ use borrow.Author.Tests.{eq-eqb, eqb-true, ltb-true, ltb-false}
 use lib.Dec.{eqb, ltb}
 use lib.ListN.{length}
 use Rattle.theory.specs.Logic.{unless_answer_then_, _and_}
-use Rattle.theory.specs.Bytes.{bytesAt, put}
+use Rattle.theory.specs.Bytes.{bytesAt}
 use Rattle.theory.proofs.Tests.{by-cases, both, and-false, and-i, true-or, or-true, or-i, eq-same}
-use Rattle.theory.proofs.Bytes.{bytesAt-before, bytesAt-put-as, length-bytesAt}
+use Rattle.theory.proofs.Bytes.{length-bytesAt}
 use Rattle.inventory.specs.Inventory.{rowAt, rowCount, deviceFeatures, featuresSize, present, offsetOf, valuesSize, placeOf}
 use Rattle.inventory.specs.Queue.{queuesAllowed}
 use Rattle.inventory.proofs.Queue.{row-allowed}
-use Rattle.inventory.proofs.Rules.{row-within, rows-apart, features-row, row-zero, offset-zero}
+use Rattle.inventory.proofs.Rules.{row-within, features-row, row-zero, offset-zero}
 use Rattle.inventory.proofs.Find.{own-place, rows-distinct}
 use Rattle.inventory.specs.declared.Place.the-variants.{At}
 use Rattle.parts.specs.declared.ListForm.the-variants.{Parts}
 use Rattle.parts.specs.List.{Part, PartList, partsOf, whole, among}
 use Rattle.rules.specs.declared.Cause.the-variants.{Accepted}
 use Rattle.rules.specs.Rules.{known, knownOrSkipped, lengthRight, sizeRight, featuresSame, every, repeated, causeIn, causeOf}
-use Rattle.values.specs.Apply.{stored, applied}
-use Rattle.values.proofs.Kept.{stored-at, stored-length, applied-features}
+use Rattle.values.specs.Apply.{applied}
+use Rattle.values.proofs.Kept.{applied-length}
 use Rattle.capture.specs.Capture.{All, partItem, partsWritten, captureOf}
 use Rattle.restore.proofs.Rows.{rowPart, rowParts, capture-parts, by-rows, items-same, item-same}
-
--- the bytes of row i's value
-abbrev valueOf : List ℕ → ℕ → List ℕ
-valueOf v i = bytesAt (offsetOf i) (rowAt i .size) v
+use Rattle.restore.proofs.PartValues.{Accepts, value-here, value-on}
+use Rattle.restore.proofs.Applied.{valueOf, rowValue, by-value, applied-absent, applied-at}
 
 abbrev featuresOf : List ℕ → List ℕ
 featuresOf v = bytesAt 0 featuresSize v
@@ -86,14 +84,11 @@ module _ (q : ℕ) (v : List ℕ) (few : q < 5) (long : length v ≡ valuesSize)
     before : (m : ℕ) → m < i → among (rowAt m .partType) (rowAt m .selector) ps ≡ false
     once : repeated q ps ≡ false
 
-  other-row : (i m : ℕ) → i < rowCount → m < i
+  other-row : (i m : ℕ) → i < rowCount → m < rowCount → (i ≡ m → ⊥)
       → eqb (rowAt i .partType) (rowAt m .partType) and eqb (rowAt i .selector) (rowAt m .selector) ≡ false
-  other-row i m h l =
+  other-row i m h l n =
       by-cases _
-      (λ e.
-      let b = both _ _ e in
-      let z = rows-distinct i m h (omega arith) (eqb-true _ _ (b .0)) (eqb-true _ _ (b .1)) in
-      absurd (omega arith))
+      (λ e. let b = both _ _ e in absurd (n (rows-distinct i m h l (eqb-true _ _ (b .0)) (eqb-true _ _ (b .1)))))
       (λ e. e)
 
   once-rows : Once 0 (rowParts q v rowCount 0)
@@ -102,7 +97,7 @@ module _ (q : ℕ) (v : List ℕ) (few : q < 5) (long : length v ≡ valuesSize)
       by-rows q v Once (record { before = λ m l. refl; once = refl })
       (λ i ps h y o.
       record {
-        before = λ m l. or-i _ _ (other-row i m h l) (o .before m (omega arith));
+        before = λ m l. or-i _ _ (other-row i m h (omega arith) (λ e. omega arith)) (o .before m (omega arith));
         once = or-i _ _ (rw (o .before i (omega arith)) (and-false _)) (o .once);
       })
       (λ i ps h y o. record { before = λ m l. o .before m (omega arith); once = o .once })
@@ -123,74 +118,58 @@ module _ (q : ℕ) (v : List ℕ) (few : q < 5) (long : length v ≡ valuesSize)
         once-rows .once,
       )
 
-  -- ---- what the parts set ----
+  -- ---- what is in it ----
 
-  -- row i's part, set in w: it is there, and the rows before are as they were
-  module _ (i : ℕ) (h : i < rowCount) (y : present q (rowAt i) ≡ true) (later : 0 < i) (w : List ℕ) where
-    abbrev after : List ℕ
-    after = stored q (rowAt i .partType) (rowAt i .selector) (valueOf v i) w
+  -- the value of each row that the member has
+  pub capture-value : (i : ℕ) → i < rowCount → present q (rowAt i) ≡ true → (y : List ℕ)
+      → rowValue i (partsOf Parts (captureOf q v)) y ≡ valueOf v i
+  capture-value i h p y =
+      rw (capture-parts q v long)
+      (by-rows q v (λ k ps. k ≤ i → rowValue i ps y ≡ valueOf v i)
+      (λ l. absurd (omega arith))
+      (λ k ps m z ih l.
+      by-cases (ltb k i)
+      (λ t.
+      let less = ltb-true k i t in
+      value-on _ _ (rowPart v k) ps y (other-row k i m h (λ e. omega arith)) ∙ ih (omega arith))
+      (λ t.
+      let same : k ≡ i = omega (arith, ltb-false k i t) in
+      rw (← same) (value-here _ _ (rowPart v k) ps y refl refl)))
+      (λ k ps m z ih l.
+      by-cases (ltb k i)
+      (λ t. ih (omega (arith, ltb-true k i t)))
+      (λ t.
+      let same : k ≡ i = omega (arith, ltb-false k i t) in
+      let clash : true ≡ false = sym p ∙ rw same at z in
+      cc))
+      rowCount 0 refl (omega arith))
 
-    after-is : after ≡ put (offsetOf i) (valueOf v i) w
-    after-is = stored-at q _ _ (valueOf v i) w i (place i h y) later (value-long i h)
-
-    after-here : length w ≡ valuesSize → valueOf after i ≡ valueOf v i
-    after-here e =
-        rw after-is
-        (bytesAt-put-as (offsetOf i) (rowAt i .size) (valueOf v i) w (value-long i h) (omega (arith, row-within i h)))
-
-    after-before : (j : ℕ) → j < i → valueOf after j ≡ valueOf w j
-    after-before j l =
-        rw after-is
-        (bytesAt-before (offsetOf j) (rowAt j .size) (offsetOf i) (valueOf v i) w (rows-apart j (omega arith) i h l))
-
-  -- the parts ps of the rows from the i-th on set the values of these rows, but for the first, to those of v
-  record Restores (i : ℕ) (ps : PartList) : Type 0 where
-    kept : (w : List ℕ) (j : ℕ) → j < i → valueOf (applied q ps w) j ≡ valueOf w j
-    restored : (w : List ℕ) → length w ≡ valuesSize → (j : ℕ) → i ≤ j → 0 < j → j < rowCount → present q (rowAt j) ≡ true
-        → valueOf (applied q ps w) j ≡ valueOf v j
-
-  restores-rows : Restores 0 (rowParts q v rowCount 0)
-  unfolding applied
-  restores-rows =
-      by-rows q v Restores
-      (record { kept = λ w j l. refl; restored = λ w e j l m n p. absurd (omega arith) })
-      (λ i ps h y r.
-      record {
-        kept = λ w j l. let z : 0 < i = omega arith in r .kept _ j (omega arith) ∙ after-before i h y z w j l;
-        restored = λ w e j l m n p.
-            by-cases (ltb i j)
-            (λ t. r .restored _ (stored-length q _ _ (valueOf v i) w ∙ e) j (omega (arith, ltb-true i j t)) m n p)
-            (λ t.
-            let same : i ≡ j = omega (arith, ltb-false i j t) in
-            let z : 0 < i = omega arith in
-            rw (← same) (r .kept _ i (omega arith) ∙ after-here i h y z w e));
-      })
-      (λ i ps h y r.
-      record {
-        kept = λ w j l. r .kept w j (omega arith);
-        restored = λ w e j l m n p.
-            by-cases (ltb i j)
-            (λ t. r .restored w e j (omega (arith, ltb-true i j t)) m n p)
-            (λ t.
-            let same : i ≡ j = omega (arith, ltb-false i j t) in
-            let clash : true ≡ false = sym (rw (← same) at p) ∙ y in
-            cc);
-      })
-      rowCount 0 refl
-
-  -- ---- a capture of the member in which it is set is the same ----
+  -- ---- set in a member with the same device features ----
 
   module _ (w : List ℕ) (e : length w ≡ valuesSize) (f : bytesAt 0 featuresSize v ≡ bytesAt 0 featuresSize w) where
-    value-restored : (j : ℕ) → j < rowCount → present q (rowAt j) ≡ true → valueOf (applied q (rowParts q v rowCount 0) w) j ≡ valueOf v j
-    value-restored j h p =
-        by-cases (ltb 0 j)
-        (λ t. restores-rows .restored w e j (omega arith) (ltb-true 0 j t) h p)
-        (λ t.
-        let z : j ≡ 0 = omega (arith, ltb-false 0 j t) in
-        features-value j _ z ∙ applied-features q _ w ∙ sym f ∙ sym (features-value j v z))
+    abbrev after : List ℕ
+    after = applied q (partsOf Parts (captureOf q v)) w
 
-    pub captured : captureOf q (applied q (partsOf Parts (captureOf q v)) w) ≡ captureOf q v
-    unfolding partsWritten
-    captured =
+    accepts : Accepts q (featuresOf w) (partsOf Parts (captureOf q v))
+    accepts =
         rw (capture-parts q v long)
-        (items-same _ (partItem All q [] v) rowCount rowCount 0 refl (λ j h. item-same q _ v j (value-restored j h)))
+        (record {
+          sized = every-rows (lengthRight q) row-long;
+          valued = every-rows (featuresSame (featuresOf w)) (λ i h y. row-features i h y (featuresOf w) f);
+          once = once-rows .once;
+        })
+
+    value-set : (i : ℕ) → i < rowCount → present q (rowAt i) ≡ true → valueOf after i ≡ valueOf v i
+    value-set i h p =
+        applied-at q i few h p _ w e accepts ∙ capture-value i h p (valueOf w i)
+
+    -- a capture of that member is the same
+    pub captured : captureOf q after ≡ captureOf q v
+    unfolding partsWritten
+    captured = items-same _ (partItem All q [] v) rowCount rowCount 0 refl (λ j h. item-same q _ v j (value-set j h))
+
+    -- and so are its values, if those of the queues that it has not got are
+    pub capture-set : ((i : ℕ) → i < rowCount → present q (rowAt i) ≡ false → valueOf v i ≡ valueOf w i) → after ≡ v
+    capture-set g =
+        by-value after v (applied-length q _ w ∙ e) long
+        (λ i h. by-cases (present q (rowAt i)) (value-set i h) (λ n. applied-absent q i h n _ w ∙ sym (g i h n)))

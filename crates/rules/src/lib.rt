@@ -39,7 +39,7 @@ pub enum Cause {
 // ---- the rules of one part ----
 
 // Whether a member with so many queues has got this part.
-fn is_known(queues: u8, t: u16, selector: u64) -> bool
+pub fn is_known(queues: u8, t: u16, selector: u64) -> bool
     ensures { λ r. ⌜ r ≡ known queues t selector ⌝ }
 {
     if let Place::At(_) = inventory::place_of(queues, t, selector) {

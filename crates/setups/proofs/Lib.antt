@@ -3,5 +3,7 @@ pub mod Fields
 pub mod Reading
 pub mod Writing
 pub mod ReadBack
+pub mod InRange
+pub mod Member
 pub mod Claims
 pub mod Examples

@@ -6,9 +6,11 @@ use Prim.Native.Nat.{ℕ}
 use lib.ListN.{length, take, drop}
 use Rattle.theory.specs.Logic.{if_then_else_}
 use Rattle.setups.specs.declared.Setup.{Setup}
+use Rattle.setups.specs.declared.MemberSetup.{MemberSetup}
 use Rattle.setups.specs.declared.ReadAnswer.the-variants.{Done, Version2}
-use Rattle.setups.specs.Setup.{featuresSize, inNumbers, setupWith}
+use Rattle.setups.specs.Setup.{featuresSize, isCount, inNumbers, setupWith}
 use Rattle.setups.specs.Reading.{readAs, refusedAs, readVersion1, readSetup}
+use Rattle.setups.specs.Member.{memberSetup}
 use Rattle.setups.specs.Writing.{areEqual, written}
 
 -- n bytes of a setup were written at the front of a buffer, which is b now: they read back the same, where the counts are
@@ -24,6 +26,11 @@ pub record InRange (s : Setup) : Type 0 where
   pub numbers : inNumbers (s .members) (take (s .members) (s .queues)) (s .gets) (s .sets) ≡ true
   pub features : length (s .features) ≡ featuresSize
 
+-- what a setup says of a member
+pub record MemberInRange (s : MemberSetup) : Type 0 where
+  pub count : isCount (s .queues) ≡ true
+  pub features : length (s .features) ≡ featuresSize
+
 pub record Claims : Type 0 where
   pub readsBack : (buffer : List ℕ) (members : ℕ) (queues : List ℕ) (gets sets : ℕ) (features : List ℕ) (n : ℕ) (b : List ℕ)
       → _≡_ {A = ℕ × List ℕ} (n, b) (written buffer members queues gets sets features) → (n ≡ 0 → ⊥)
@@ -36,3 +43,4 @@ pub record Claims : Type 0 where
   -- the new reader never refuses version 2 by name
   pub neverNamed : (l : List ℕ) → readSetup l .answer ≡ Version2 → ⊥
   pub inRange : (l : List ℕ) → readSetup l .answer ≡ Done → InRange (readSetup l .setup)
+  pub memberInRange : (l : List ℕ) (m : ℕ) → memberSetup l m .known ≡ true → MemberInRange (memberSetup l m)

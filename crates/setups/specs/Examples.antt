@@ -1,12 +1,15 @@
 -- WORKED EXAMPLES of packed setups: the setup of 01, one of version 2, and each refusal. Assumes nothing.
 use mathlib.Core.Path.{_≡_}
+use mathlib.Core.Bool.{true}
 use mathlib.Core.List.{List, [], _∷_, _++_, map}
 use Prim.Native.Nat.{ℕ}
 use lib.ListN.{replicate}
 use Rattle.setups.specs.declared.ReadAnswer.the-variants.{Version2, Refused}
 use Rattle.setups.specs.declared.ReadOutcome.{ReadOutcome}
+use Rattle.setups.specs.declared.MemberSetup.{MemberSetup}
 use Rattle.setups.specs.Setup.{setupWith}
 use Rattle.setups.specs.Reading.{readAs, refusedAs, readVersion1, readSetup}
+use Rattle.setups.specs.Member.{noMember, memberSetup}
 use Rattle.setups.specs.Writing.{written}
 
 abbrev pub zeros : List ℕ
@@ -114,3 +117,27 @@ abbrev pub SetupsRead : Type 0
 SetupsRead =
     map {B = ReadOutcome × ReadOutcome} (λ (r : Read). (readSetup (r .bytes), readVersion1 (r .bytes))) setupsRead
     ≡ map (λ (r : Read). (r .both, r .version1)) setupsRead
+
+-- ---- one member ----
+
+pub record Asked : Type 0 where
+  pub bytes : List ℕ
+  pub member : ℕ
+  pub says : MemberSetup
+
+abbrev pub asks : List ℕ → ℕ → MemberSetup → Asked
+asks l m s = record { bytes = l; member = m; says = s }
+
+unfoldable pub membersAsked : List Asked
+membersAsked =
+    asks bench 2 (record { known = true; queues = 1; features = zeros })
+    ∷ asks five 3 (record { known = true; queues = 3; features = features })
+    -- no member 0 or 6, and 2³² + 1 is not 1; a bad setup has none
+    ∷ asks five 0 noMember
+    ∷ asks five 6 noMember
+    ∷ asks five 4294967297 noMember
+    ∷ asks (bench ++ (0 ∷ [])) 1 noMember
+    ∷ []
+
+abbrev pub MembersAsked : Type 0
+MembersAsked = map (λ (a : Asked). memberSetup (a .bytes) (a .member)) membersAsked ≡ map (λ (a : Asked). a .says) membersAsked

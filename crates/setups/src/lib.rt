@@ -9,6 +9,7 @@ ghost use Rattle.theory.specs.Bytes.{put};
 ghost use Rattle.setups.specs.Bits.{bit, bitsAt, joined, bigEndian};
 ghost use Rattle.setups.specs.Setup.{featuresSize, inRanges, all, isCount, inNumbers, sixteen};
 ghost use Rattle.setups.specs.Reading.{countsFrom, padding, setupAt, headRight, isVersion1, isVersion2, readNumber, refusedAs, takeVersion1, takeVersion2, readVersion1, readSetup};
+ghost use Rattle.setups.specs.Member.{noMember, memberOf, memberSetup};
 ghost use Rattle.setups.specs.Writing.{headFields, countField, fieldsOf, HeadFits, frontOf, written, InNumbers};
 
 pub const MOST_MEMBERS: usize = 16;
@@ -39,6 +40,13 @@ pub enum ReadAnswer {
 pub struct ReadOutcome {
     pub answer: ReadAnswer,
     pub setup: Setup,
+}
+
+// What a setup says of one member. Where it says nothing, `known` is false, the queue count 0 and the features zeros.
+pub struct MemberSetup {
+    pub known: bool,
+    pub queues: u8,
+    pub features: [u8; FEATURES_SIZE],
 }
 
 // The bits before the features: how many bytes they fill, and the number that they are.
@@ -268,6 +276,46 @@ pub fn read(s: &[u8]) -> ReadOutcome
         return take_version_2(s);
     }
     take_version_1(s)
+}
+
+// ---- one member ----
+
+fn no_member() -> MemberSetup
+    ensures { λ r. ⌜ r ≡ noMember ⌝ }
+{
+    MemberSetup {
+        known: false,
+        queues: 0,
+        features: [0u8; FEATURES_SIZE],
+    }
+}
+
+// What a setup says of a member.
+fn member_of(s: Setup, member: u64) -> MemberSetup
+    requires { ⌜ s .members ≤ 16 ⌝ }
+    ensures { λ r. ⌜ r ≡ memberOf s member ⌝ }
+{
+    if member < 1 {
+        return no_member();
+    }
+    if (s.members as u64) < member {
+        return no_member();
+    }
+    let queues = s.queues;
+    let features = s.features;
+    MemberSetup {
+        known: true,
+        queues: queues[(member - 1) as usize],
+        features,
+    }
+}
+
+// What a packed setup of either version says of a member.
+pub fn member_setup(s: &[u8], member: u64) -> MemberSetup
+    ensures { λ r. ⌜ r ≡ memberSetup (now (s .entry)) member ⌝ }
+{
+    let outcome = read(s);
+    member_of(outcome.setup, member)
 }
 
 // ---- writing ----

@@ -1,0 +1,9 @@
+pub mod Places
+pub mod Full
+pub mod Handed
+pub mod Writing
+pub mod Made
+pub mod Verdicts
+pub mod Claims
+pub mod Example
+pub mod Under

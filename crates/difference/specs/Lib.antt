@@ -1,0 +1,4 @@
+pub mod Difference
+pub mod Under
+pub mod Handed
+pub mod Claims
