@@ -23,7 +23,7 @@ use protocol::Mode;
 // The device features, which stand first among the values.
 pub const FEATURES_SIZE: usize = 16;
 
-const VALUES_SIZE: usize = 205;
+pub const VALUES_SIZE: usize = 205;
 
 // The bytes of a member: its mode, its mark, its queue count, an object record for each id, what its holding place holds, its
 // values.

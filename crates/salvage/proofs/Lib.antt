@@ -1,0 +1,14 @@
+pub mod Take
+pub mod Fates
+pub mod Walking
+pub mod Flags
+pub mod Rows
+pub mod Counts
+pub mod Whole
+pub mod Values
+pub mod Totals
+pub mod Undamaged
+pub mod Claims
+pub mod Refusals
+pub mod Under
+pub mod Example
