@@ -26,7 +26,7 @@ use Rattle.difference.specs.Claims.{Pair, valueFound, Claims}
 use Rattle.difference.proofs.Full.{full-there}
 use Rattle.difference.proofs.Handed.{place-value, verdict-refused}
 use Rattle.difference.proofs.Made.{lookedUp, looked-up, made-sets, pair-accepted, pair-full, pair-long, pair-value, pair-length}
-use Rattle.difference.proofs.Verdicts.{passes, found-there, found-outside, place-done}
+use Rattle.difference.proofs.Verdicts.{Passes, passes, found-there, found-outside, place-done}
 
 -- ---- the part of a row ----
 
@@ -72,17 +72,24 @@ module _ (q : ℕ) (features full later : List ℕ) (t s : ℕ) (few : q < 5) wh
   unfolding lookupOf lookupTold
   refused-name n = ap (λ l. lookupTold l .0) (verdict-refused verdict Refused (placeIn full later t (selectorOf t s)) n)
 
+  -- what is found is found in a pair, and known
+  found-passes : lookupTold (lookupOf q features full later t s) .0 ≡ 0 → Passes q features full later (known q t (selectorOf t s)) true
+  found-passes e =
+      by-cases (eqb (codeOf verdict) 0)
+      (λ z. passes q features full later (known q t (selectorOf t s)) true few (eqb-true _ _ z))
+      (λ n. let h = eqb-false (codeOf verdict) 0 n in absurd (h (sym (refused-name h) ∙ e)))
+
+  pub lookup-pair : lookupTold (lookupOf q features full later t s) .0 ≡ 0 → Pair q features full later
+  lookup-pair e = found-passes e .pair
+
   not-empty : lookupTold (lookupOf q features full later t s) .0 ≡ 0 → 0 < length (valueFound q features full later t s)
   not-empty e =
-      by-cases (eqb (codeOf verdict) 0)
-      (λ z.
-      let p = passes q features full later (known q t (selectorOf t s)) true few (eqb-true _ _ z) in
+      let p = found-passes e in
       by-row q t (selectorOf t s) (p .inside)
       (λ i r.
       let f = place-found q t (selectorOf t s) i r in
       rw (found-row q features full later (p .pair) t s i r, pair-length q features full later (p .pair) i (f .below) (f .there))
-      (size-some i (f .below))))
-      (λ n. let h = eqb-false (codeOf verdict) 0 n in absurd (h (sym (refused-name h) ∙ e)))
+      (size-some i (f .below)))
 
 -- ---- the made list as a full capture ----
 

@@ -6,6 +6,7 @@ ghost use Rattle.theory.specs.Logic.{indicator};
 ghost use Rattle.card.specs.Layout.{version, cardBytes};
 ghost use Rattle.card.specs.Sound.{isSound};
 ghost use Rattle.setups.specs.Reading.{readVersion1, readSetup};
+ghost use Rattle.setups.specs.Member.{memberSetup};
 ghost use Rattle.setups.specs.Writing.{written};
 ghost use Rattle.events.specs.Events.{numbered, setUp, setUpFrom, handBack, wipe, resetCard, store};
 ghost use Rattle.admin.specs.Command.{commandOf};
@@ -18,6 +19,9 @@ use host::Outcome;
 use setups::ReadOutcome;
 ghost use Rattle.staging.specs.Staging.{beginOf, feedOf, finishOf, dropOf};
 ghost use Rattle.message.specs.Message.{messageOf};
+ghost use Rattle.difference.specs.Difference.{lookupTold};
+ghost use Rattle.difference.specs.Under.{lookupUnder, mergeUnder};
+ghost use Rattle.salvage.specs.Salvage.{salvage, salvageUnder};
 
 // Raised whenever a card's bytes change their meaning: a card that was kept is for the same version.
 #[no_mangle]
@@ -363,4 +367,67 @@ pub extern "C" fn kajurnat_message(card: &mut [u8], message: &[u8], reply: &mut 
     ensures { λ r. ⌜ (r, (now (card .exit), now (reply .exit))) ≡ messageOf (now (card .entry)) (now (message .entry)) (now (reply .entry)) ⌝ }
 {
     message::message(card, message, reply)
+}
+
+// One part looked up in a full capture and a later list of what changed, under a packed setup and for one member of it: 0, with
+// the list, 0 the full capture or 1 the later list, and the value's place and length in it; or the number of the refusal, and
+// zeros.
+#[no_mangle]
+pub extern "C" fn kajurnat_difference_find(
+    setup: &[u8],
+    member: u64,
+    full: &[u8],
+    later: &[u8],
+    part_type: u16,
+    selector: u64,
+    list: &mut u8,
+    at: &mut u64,
+    len: &mut u64,
+) -> u8
+    ensures { λ r. ⌜ (r, (now (list .exit), (now (at .exit), now (len .exit)))) ≡ lookupTold (lookupUnder (memberSetup (now (setup .entry)) member) (now (full .entry)) (now (later .entry)) «part_type» selector) ⌝ }
+{
+    difference::find_place(
+        setup,
+        member,
+        full,
+        later,
+        part_type,
+        selector,
+        list,
+        at,
+        len,
+    )
+}
+
+// One list made of the two, at the front of the buffer: 0 and its bytes; or the number of the refusal and 0, and nothing
+// written.
+#[no_mangle]
+pub extern "C" fn kajurnat_difference_merge<'a>(
+    setup: &[u8],
+    member: u64,
+    full: &'a [u8],
+    later: &'a [u8],
+    merged: &mut [u8],
+    written: &mut u64,
+) -> u8
+    ensures { λ r. ⌜ (r, (now (written .exit), now (merged .exit))) ≡ mergeUnder (memberSetup (now (setup .entry)) member) (now (full .entry)) (now (later .entry)) (now (merged .entry)) ⌝ }
+{
+    difference::merge(setup, member, full, later, merged, written)
+}
+
+// A damaged list made into one that a member of the setup takes, with a report of what was kept, what was dropped and what was
+// left over: the bytes written, or 0 where it is refused, and nothing written.
+#[no_mangle]
+pub extern "C" fn kajurnat_salvage(
+    setup: &[u8],
+    member: u64,
+    damaged: &[u8],
+    list: &mut [u8],
+    kept: &mut [u8],
+    dropped: &mut [u32],
+    left: &mut u32,
+) -> usize
+    ensures { λ r. ⌜ salvage r (now (list .exit)) (now (kept .exit)) (now (dropped .exit)) (now (left .exit)) ≡ salvageUnder (memberSetup (now (setup .entry)) member) (now (damaged .entry)) (salvage 0 (now (list .entry)) (now (kept .entry)) (now (dropped .entry)) (now (left .entry))) ⌝ }
+{
+    salvage::salvage(setup, member, damaged, list, kept, dropped, left)
 }

@@ -9,12 +9,12 @@ use Rattle.setups.specs.Member.{noMember, memberOf, memberSetup}
 use Rattle.setups.specs.Writing.{countFields, areEqual, fieldsOf, packedSetup, placed, written}
 use Rattle.setups.specs.Examples.{setupsWritten, SetupsWritten, setupsRead, SetupsRead, membersAsked, MembersAsked}
 
-setups-written : SetupsWritten
+pub setups-written : SetupsWritten
 unfolding if_then_else_ unless_answer_then_ _and_ within put widths joined bigEndian packed inRanges all inNumbers
     countFields areEqual fieldsOf packedSetup placed written setupsWritten
 setups-written = refl
 
-setups-read : SetupsRead
+pub setups-read : SetupsRead
 unfolding if_then_else_ unless_answer_then_ _and_ put bit bitsAt noCounts sixteen countsFrom setupAt headRight isVersion1 isVersion2
     noSetup takeVersion1 takeVersion2 readVersion1 readSetup setupsRead
 setups-read = refl

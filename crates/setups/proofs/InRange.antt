@@ -32,7 +32,7 @@ unfolding countsFrom
 counts-long l at step zero = refl
 counts-long l at step (suc n) = ap suc (counts-long l (at + step) step n)
 
-take-sixteen : (x : List ℕ) (n : ℕ) → length x ≡ n → n ≤ mostMembers → take n (sixteen x) ≡ x
+pub take-sixteen : (x : List ℕ) (n : ℕ) → length x ≡ n → n ≤ mostMembers → take n (sixteen x) ≡ x
 unfolding sixteen noCounts
 take-sixteen x n e h = rw (put-front x (replicate 16 0) (omega arith)) (take-at x _ n e)
 
