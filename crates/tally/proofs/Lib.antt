@@ -1,0 +1,4 @@
+pub mod Plus
+pub mod Lines
+pub mod Walk
+pub mod Captures
