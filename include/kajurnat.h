@@ -28,6 +28,8 @@
  *   - A list of parts that is restored in fragments is set as one parts set
  *     would set it, with the same answer and the same card, however it was
  *     cut.
+ *   - The list that is made of a full capture and a later list sets a member as
+ *     the full capture and then the later list do.
  *   - A card takes a built request as the command and the fields that it was
  *     built from, if these are inside its setup's numbers; and whatever it
  *     answers to a built request is read as it was meant.
@@ -39,7 +41,8 @@
  *   - The buffers of a call do not overlap: card, request or message, and
  *     reply are apart from each other, and so are card, queues and features,
  *     card and packed setup, card and value, card and fragment, request and
- *     list, and a reply or a packed setup and all that it is read into.
+ *     list, a reply or a packed setup and all that it is read into, and what
+ *     the functions on lists read and what they write.
  *   - Until the call returns, nothing else writes to its buffers, and nothing
  *     else reads those that it writes. There is no lock inside: one call at a
  *     time for each card. Calls on different cards may run at once.
@@ -689,6 +692,56 @@ uint8_t kajurnat_reply_read(uint16_t opcode, uint8_t what, const uint8_t *reply,
                             size_t reply_len, uint16_t *status,
                             uint16_t *qualifier, uint16_t *sent_status,
                             uint16_t *sent_qualifier);
+
+/* ---- A full capture and a later list ------------------------------------ */
+
+/*
+ * A host keeps a full capture of a member and later a list of what changed.
+ * These two functions work on the pair under a packed setup of either version;
+ * the member's number of queues says which parts there are. A value is that of
+ * the later list, or of the full capture where the later list has none.
+ *
+ * They answer KAJURNAT_DIFFERENCE_DONE or the first refusal that applies, in
+ * this order. A list is bad as parts set has it (see Parts), against the device
+ * features of the setup; it may have any length.
+ */
+enum {
+    KAJURNAT_DIFFERENCE_DONE = 0,
+    KAJURNAT_DIFFERENCE_BAD_SETUP = 1, /* or no such member */
+    KAJURNAT_DIFFERENCE_BAD_FULL = 2,
+    KAJURNAT_DIFFERENCE_BAD_LATER = 3,
+    KAJURNAT_DIFFERENCE_LACKING = 4,      /* full lacks a part of the member */
+    KAJURNAT_DIFFERENCE_NO_SUCH_PART = 5, /* find alone */
+    KAJURNAT_DIFFERENCE_TOO_SHORT = 6     /* merge alone: the buffer */
+};
+
+/* The list that holds a value. */
+enum { KAJURNAT_LIST_FULL = 0, KAJURNAT_LIST_LATER = 1 };
+
+/*
+ * Looks up one part; part_type and selector are as in kajurnat_store(). The
+ * value has *len bytes from byte *at of the list that *list says, one of
+ * KAJURNAT_LIST_..; it is not copied. Refused, the three numbers are 0.
+ */
+uint8_t kajurnat_difference_find(const uint8_t *setup, size_t setup_len,
+                                 uint64_t member, const uint8_t *full,
+                                 size_t full_len, const uint8_t *later,
+                                 size_t later_len, uint16_t part_type,
+                                 uint64_t selector, uint8_t *list, uint64_t *at,
+                                 uint64_t *len);
+
+/*
+ * Makes one list of the pair at the start of the buffer: each part of the
+ * member once, in the order and with the headers of a capture. *written is its
+ * length, KAJURNAT_CAPTURE_BYTES() of the member's queues. The bytes of the
+ * buffer past it keep their values. Refused, nothing is written to it, and
+ * *written is 0.
+ */
+uint8_t kajurnat_difference_merge(const uint8_t *setup, size_t setup_len,
+                                  uint64_t member, const uint8_t *full,
+                                  size_t full_len, const uint8_t *later,
+                                  size_t later_len, uint8_t *merged,
+                                  size_t merged_len, uint64_t *written);
 
 #ifdef __cplusplus
 }

@@ -180,6 +180,20 @@ MEASURED(uint8_t, kajurnat_reply_read,
           uint16_t *sent_qualifier),
          (opcode, what, reply, reply_len, status, qualifier, sent_status,
           sent_qualifier))
+MEASURED(uint8_t, kajurnat_difference_find,
+         (const uint8_t *setup, size_t setup_len, uint64_t member,
+          const uint8_t *full, size_t full_len, const uint8_t *later,
+          size_t later_len, uint16_t part_type, uint64_t selector,
+          uint8_t *list, uint64_t *at, uint64_t *len),
+         (setup, setup_len, member, full, full_len, later, later_len, part_type,
+          selector, list, at, len))
+MEASURED(uint8_t, kajurnat_difference_merge,
+         (const uint8_t *setup, size_t setup_len, uint64_t member,
+          const uint8_t *full, size_t full_len, const uint8_t *later,
+          size_t later_len, uint8_t *merged, size_t merged_len,
+          uint64_t *written),
+         (setup, setup_len, member, full, full_len, later, later_len, merged,
+          merged_len, written))
 
 /* A call of a known depth is measured as such, or nothing is. */
 __attribute__((noinline)) static void take_a_kilobyte(void)

@@ -48,7 +48,9 @@
 //!
 //! A list of parts that comes over a slow connection is set with
 //! [`Card::restore`] or a [`Restore`], fragment by fragment. On a bus without
-//! PCI, a [`Message`] reads or writes the configuration of a member.
+//! PCI, a [`Message`] reads or writes the configuration of a member. Of a full
+//! capture and a later list of what changed, a [`Difference`] gives one part or
+//! one list.
 //!
 //! # Features
 //!
@@ -71,6 +73,7 @@ extern crate alloc;
 extern crate std;
 
 mod card;
+mod difference;
 mod event;
 mod message;
 mod number;
@@ -83,6 +86,7 @@ mod setup;
 mod status;
 
 pub use card::{Card, NotSound};
+pub use difference::{Difference, DifferenceError};
 pub use event::EventError;
 pub use message::{BadResponse, Message, MessageId, MessageTooLong, NoResponse, Response};
 pub use part::PartType;

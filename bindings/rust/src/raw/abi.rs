@@ -189,4 +189,32 @@ extern "C" {
         sent_status: *mut u16,
         sent_qualifier: *mut u16,
     ) -> u8;
+
+    pub fn kajurnat_difference_find(
+        setup: *const u8,
+        setup_len: usize,
+        member: u64,
+        full: *const u8,
+        full_len: usize,
+        later: *const u8,
+        later_len: usize,
+        part_type: u16,
+        selector: u64,
+        list: *mut u8,
+        at: *mut u64,
+        len: *mut u64,
+    ) -> u8;
+
+    pub fn kajurnat_difference_merge(
+        setup: *const u8,
+        setup_len: usize,
+        member: u64,
+        full: *const u8,
+        full_len: usize,
+        later: *const u8,
+        later_len: usize,
+        merged: *mut u8,
+        merged_len: usize,
+        written: *mut u64,
+    ) -> u8;
 }

@@ -6,6 +6,7 @@ use plain_card::frame::{Frame, GROUP};
 use plain_card::message::Message;
 
 use crate::fields::Fields;
+use crate::lists::OnLists;
 use crate::memory::{Buffer, Place, Room};
 use crate::show::{CardBytes, Hex};
 
@@ -49,6 +50,8 @@ pub enum Call {
     /// A setup read from its bytes, by the reader of version 1 or by that of
     /// both; the lengths are those of the buffers for queues and features.
     ReadSetup { first: bool, setup: Buffer, lengths: [usize; 2], place: Place },
+    /// A call on lists of parts under a setup.
+    Lists(OnLists),
 }
 
 /// The length of the four numbers that a reply is read into: status and
@@ -71,6 +74,7 @@ impl Call {
             Call::ReadSetup { lengths: [queues, features], place, .. } => {
                 Room { length: COUNTS + queues + features, place: *place }
             }
+            Call::Lists(call) => call.room(),
             _ => 0.into(),
         }
     }
@@ -90,6 +94,7 @@ impl Call {
             Call::Feed { fragment, .. } => vec![("fragment", fragment)],
             Call::Build { list, .. } => vec![("list", list)],
             Call::Read { reply, .. } => vec![("reply", reply)],
+            Call::Lists(call) => call.inputs(),
             _ => vec![],
         }
     }
@@ -145,6 +150,7 @@ impl Call {
                 room.place = Place::USUAL;
             }
             Call::Read { reply, .. } => reply.place = Place::USUAL,
+            Call::Lists(call) => call.put_at_usual_places(),
             _ => {}
         }
         call
@@ -229,6 +235,7 @@ impl fmt::Display for Call {
                 write!(f, "setup to read by the reader of {reader}, of {} bytes", setup.len())?;
                 write!(f, ": {setup}, in buffers of {queues} and {features}{place}")
             }
+            Call::Lists(call) => call.fmt(f),
         }
     }
 }

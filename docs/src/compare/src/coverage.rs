@@ -9,6 +9,7 @@ use plain_card::opcode::Opcode;
 
 use crate::call::Call;
 use crate::device::Seen;
+use crate::lists::Asked as Lists;
 
 /// Statuses in the order of their steps; 0 bytes written stand first.
 const STATUSES: [&str; 12] =
@@ -45,6 +46,10 @@ const READERS: [&str; 2] = ["setup, version 1", "setup, both"];
 /// What the readers of setups answer.
 const READ_ANSWERS: [&str; 3] = ["1", "2", "0"];
 
+/// Calls on a pair of lists, and their answers in order.
+const PAIRS: [&str; 2] = ["part looked up", "one list made"];
+const PAIR_ANSWERS: [&str; 7] = ["1", "2", "3", "4", "5", "6", "0"];
+
 /// How often a kind of call was answered in one way.
 #[derive(Default)]
 pub struct Coverage(BTreeMap<(&'static str, String), u64>);
@@ -72,6 +77,10 @@ impl Coverage {
             Call::ReadSetup { first, .. } => {
                 (READERS[usize::from(!first)], seen.answer.to_string())
             }
+            Call::Lists(call) => match call.asked {
+                Lists::Find { .. } => (PAIRS[0], seen.answer.to_string()),
+                Lists::Merge { .. } => (PAIRS[1], (seen.answer % 256).to_string()),
+            },
         };
         self.count(kind, answer);
     }
@@ -156,6 +165,7 @@ impl fmt::Display for Coverage {
         self.table(f, &EVENTS, &ANSWERS)?;
         self.table(f, &MESSAGES, &RESPONSES)?;
         self.table(f, &HOST, &OUTCOMES)?;
-        self.table(f, &READERS, &READ_ANSWERS)
+        self.table(f, &READERS, &READ_ANSWERS)?;
+        self.table(f, &PAIRS, &PAIR_ANSWERS)
     }
 }

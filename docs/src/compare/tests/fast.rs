@@ -47,7 +47,8 @@ impl Device for Fast {
             Call::Build { .. }
             | Call::Read { .. }
             | Call::WriteSetup { .. }
-            | Call::ReadSetup { .. } => Plain::default().hear(call, reply.bytes_mut()),
+            | Call::ReadSetup { .. }
+            | Call::Lists(_) => Plain::default().hear(call, reply.bytes_mut()),
         }
     }
 

@@ -3,6 +3,10 @@
 //! A card is read from its bytes, the plain card does its work, and the bytes
 //! are written back. Bytes that say no card are those of a card not sound.
 
+mod lists;
+
+pub use lists::{difference_find, difference_merge, Place};
+
 use crate::bytes::{read, write, HEADER, RECORD};
 use crate::card::Card;
 use crate::host::{self, Answer, Request};

@@ -1,5 +1,5 @@
 //! An independent plain Rust card and host, written from document 01 and
-//! requests 1, 2, 3, 5, 6, 9 and 10 of document 02 alone.
+//! requests 1, 2, 3, 5, 6, 7, 9 and 10 of document 02 alone.
 //!
 //! It is the readable, executable version of these and the reference that the
 //! verified archive is compared with. It shares no code with the archive. Terms
@@ -17,6 +17,7 @@
 //! | [`event`] | hand back and wipe, reset of the card, card store |
 //! | [`restore`] | restore in fragments |
 //! | [`message`](mod@message) | configuration by message |
+//! | [`difference`] | a full capture and a later list of what changed |
 //! | [`status`] | the numbers of the answers |
 //! | [`host`] | requests built from their fields, replies read |
 //! | [`bytes`], [`exported`] | the card as bytes, and the archive's functions over them |
@@ -28,6 +29,7 @@ pub mod bytes;
 pub mod card;
 pub mod command;
 pub mod configuration;
+pub mod difference;
 pub mod effect;
 pub mod event;
 pub mod exported;

@@ -23,11 +23,34 @@ pub fn asked(headers: &[u8], queues: u8) -> Result<BTreeSet<Part>, Refusal> {
     Ok(parts)
 }
 
+/// A known part of a given list.
+#[derive(Clone, Copy, Debug, PartialEq, Eq)]
+pub struct Known<'a> {
+    /// The part.
+    pub part: Part,
+    /// Where its value starts in the list.
+    pub at: usize,
+    /// Its value.
+    pub value: &'a [u8],
+}
+
 /// The parts that a given list sets on a member with these values. Device
 /// features are compared and never set, so they are not among them.
 pub fn given<'a>(list: &'a [u8], values: &Values, queues: u8) -> Result<Given<'a>, Refusal> {
+    let known = known(list, &values.device_features, queues)?;
+    let set = known.into_iter().filter(|known| known.part != Part::DeviceFeatures);
+    Ok(set.map(|known| (known.part, known.value)).collect())
+}
+
+/// The known parts of a given list, on a member with these device features and
+/// so many queues.
+pub fn known<'a>(
+    list: &'a [u8],
+    features: &[u8; 16],
+    queues: u8,
+) -> Result<Vec<Known<'a>>, Refusal> {
     let mut named = BTreeSet::new();
-    let mut set = Given::new();
+    let mut all = vec![];
     let mut rest = list;
     while !rest.is_empty() {
         let (header, value) = take_part(&mut rest)?;
@@ -39,12 +62,11 @@ pub fn given<'a>(list: &'a [u8], values: &Values, queues: u8) -> Result<Given<'a
         Refusal::BadList.unless(header.length == part.length())?; // the table's length
         Refusal::BadList.unless(part.allows(value))?; // a queue size that a ring has
         if part == Part::DeviceFeatures {
-            Refusal::BadList.unless(value == values.device_features)?;
-        } else {
-            set.push((part, value));
+            Refusal::BadList.unless(value == features)?;
         }
+        all.push(Known { part, at: list.len() - rest.len() - value.len(), value });
     }
-    Ok(set)
+    Ok(all)
 }
 
 /// The next part of a given list: neither header nor value runs past the end.

@@ -73,6 +73,12 @@ impl Setup {
             && self.queues.len() == usize::from(self.common.members)
             && self.queues.iter().all(|count| QUEUES.contains(count))
     }
+
+    /// The number of queues of a member, if it is 1 to N.
+    pub fn queues_of(&self, member: u64) -> Option<u8> {
+        let index = usize::try_from(member.checked_sub(1)?).ok()?;
+        self.queues.get(index).copied()
+    }
 }
 
 impl Common {

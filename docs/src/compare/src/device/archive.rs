@@ -3,7 +3,7 @@
 use kajurnat::raw;
 use plain_card::opcode::Opcode;
 
-use super::{read_into, read_setup_into, Device};
+use super::{lists, read_into, read_setup_into, Device};
 use crate::call::Call;
 use crate::fields::Fields;
 use crate::memory::Lent;
@@ -73,6 +73,7 @@ impl Archive {
                     read(input, n, queues, g, s, features)
                 })
             }
+            Call::Lists(call) => lists::archive(call, inputs, reply),
         }
     }
 }

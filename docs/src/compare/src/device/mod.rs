@@ -1,6 +1,7 @@
 //! What is compared: the archive and the plain card, each with its own card.
 
 mod archive;
+mod lists;
 mod plain;
 
 pub use archive::{Archive, Lending, Misuse};

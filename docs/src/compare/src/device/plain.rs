@@ -5,7 +5,7 @@ use plain_card::exported::{self, Numbers};
 use plain_card::status::{answer, restore_answer, EventError, RestoreError};
 use plain_card::{command, message, Card};
 
-use super::{read_into, read_setup_into, Device};
+use super::{lists, read_into, read_setup_into, Device};
 use crate::call::Call;
 use crate::memory::Lent;
 
@@ -84,6 +84,7 @@ impl Plain {
                     read(setup, Numbers { counts, queues, features })
                 })
             }
+            Call::Lists(call) => lists::plain(call, reply),
         }
     }
 

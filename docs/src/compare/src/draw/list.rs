@@ -102,7 +102,7 @@ fn some_parts(random: &mut Random, queues: u8) -> Vec<Part> {
 }
 
 /// Fills what is not read of a known part: flags, reserved, unread selector.
-fn add_noise(random: &mut Random, part: &mut [u8]) {
+pub fn add_noise(random: &mut Random, part: &mut [u8]) {
     part[2] = random.byte();
     part[3] = random.byte();
     let part_type = u16::from_le_bytes([part[0], part[1]]);
@@ -114,7 +114,7 @@ fn add_noise(random: &mut Random, part: &mut [u8]) {
 }
 
 /// A part that a member with `queues` queues has not got.
-fn unknown_part(random: &mut Random, queues: u8, flags: u8) -> Vec<u8> {
+pub fn unknown_part(random: &mut Random, queues: u8, flags: u8) -> Vec<u8> {
     let queues = u64::from(queues);
     let (part_type, selector) = match random.below(7) {
         0 => (0x104 + random.below(2) as u16, queues + random.below(3) as u64),
@@ -145,7 +145,7 @@ fn repeated(random: &mut Random, parts: &[Vec<u8>]) -> Vec<u8> {
 }
 
 /// Makes a given list bad in one way.
-fn make_bad(random: &mut Random, card: &Card, queues: u8, parts: &mut Vec<Vec<u8>>) {
+pub fn make_bad(random: &mut Random, card: &Card, queues: u8, parts: &mut Vec<Vec<u8>>) {
     if parts.is_empty() || random.chance(15) {
         let flags = random.pick(&[0, 0, 2, 0xfe]);
         let mandatory = unknown_part(random, queues, flags);
@@ -227,7 +227,8 @@ fn fill_up(random: &mut Random, parts: &mut Vec<Vec<u8>>) {
     }
 }
 
-fn insert(random: &mut Random, parts: &mut Vec<Vec<u8>>, part: Vec<u8>) {
+/// Puts a part anywhere among the others.
+pub fn insert(random: &mut Random, parts: &mut Vec<Vec<u8>>, part: Vec<u8>) {
     let at = random.below(parts.len() + 1);
     parts.insert(at, part);
 }

@@ -2,6 +2,7 @@
 
 mod card;
 mod command;
+mod difference;
 mod host;
 mod length;
 mod list;
@@ -101,9 +102,10 @@ pub fn next(random: &mut Random, card: Option<&Card>, favoured: Favoured) -> Cal
             &drawn
         }
     };
-    match random.weighted(&[10, 5, 85]) {
+    match random.weighted(&[10, 5, 5, 80]) {
         0 => host::call(random, card, favoured),
         1 => setup::pack(random),
+        2 => Call::Lists(difference::call(random)),
         _ => on_card(random, card, favoured),
     }
 }
@@ -130,20 +132,12 @@ pub fn on_card(random: &mut Random, card: &Card, favoured: Favoured) -> Call {
 fn store(random: &mut Random, card: &Card, favoured: Favoured) -> Call {
     let mut member = member(random, card, favoured);
     let part = any_part_of(random, queues_of(card, member));
-    let mut part_type = part.part_type();
-    let mut selector = part.selector();
+    let (mut part_type, mut selector) = noisy_name(random, part);
     let mut value = value::any(random, part);
-    if random.chance(20) {
-        for byte in crate::part_bytes::unread_selector(part_type) {
-            selector[byte] = random.byte();
-        }
-    }
     if random.chance(30) {
         match random.below(7) {
             0 => member = any_member(random, card, favoured),
-            1 => part_type = random.pick(&[0x100, 0x106, 0xff, 0x600, 0x101, 0x104]),
-            2 => part_type ^= random.pick(&[0x100, 0x300, 0x400, 0x8000]),
-            3 => selector[random.below(8)] = random.byte(),
+            1..=3 => spoil_name(random, &mut part_type, &mut selector),
             4 => value.push(0),
             5 => value.resize(length::wrong(random, value.len()), 0),
             _ => value.truncate(random.below(value.len())),
@@ -151,6 +145,27 @@ fn store(random: &mut Random, card: &Card, favoured: Favoured) -> Call {
     }
     let value = placed(random, value);
     Call::Store { member, part_type, selector: u64::from_le_bytes(selector), value }
+}
+
+/// Type and selector of a part, now and then with bytes that the type does not
+/// use.
+fn noisy_name(random: &mut Random, part: Part) -> (u16, [u8; 8]) {
+    let mut selector = part.selector();
+    if random.chance(20) {
+        for byte in crate::part_bytes::unread_selector(part.part_type()) {
+            selector[byte] = random.byte();
+        }
+    }
+    (part.part_type(), selector)
+}
+
+/// Another type or selector.
+fn spoil_name(random: &mut Random, part_type: &mut u16, selector: &mut [u8; 8]) {
+    match random.below(3) {
+        0 => *part_type = random.pick(&[0x100, 0x106, 0xff, 0x600, 0x101, 0x104]),
+        1 => *part_type ^= random.pick(&[0x100, 0x300, 0x400, 0x8000]),
+        _ => selector[random.below(8)] = random.byte(),
+    }
 }
 
 /// The number of queues of a member, or one that may be.

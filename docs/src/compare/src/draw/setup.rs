@@ -114,7 +114,7 @@ fn other_length(random: &mut Random, length: usize) -> usize {
 
 /// The bytes of a setup as they are written; as version 2 though all members are
 /// alike; or, so often of a hundred, damaged.
-fn packed(random: &mut Random, mut bytes: Vec<u8>, damaged: usize) -> Vec<u8> {
+pub fn packed(random: &mut Random, mut bytes: Vec<u8>, damaged: usize) -> Vec<u8> {
     if bytes[0] >> 4 == 1 && random.chance(30) {
         bytes = as_version_2(&bytes);
     }

@@ -3,6 +3,7 @@
 use super::{fault, Fault, Plant};
 use crate::call::Call;
 use crate::device::Lending;
+use crate::lists::{Asked, OnLists};
 use crate::memory::Lent;
 
 pub const FAULTS: &[Fault] = &[
@@ -37,6 +38,10 @@ pub const FAULTS: &[Fault] = &[
     fault("memory: byte behind a built request written", Plant::Misuse(built_behind)),
     fault("memory: byte behind a reply to read read", Plant::Misuse(reply_read_behind)),
     fault("memory: reply to read changed", Plant::Misuse(reply_read_changed)),
+    fault("memory: byte behind a full capture read", Plant::Misuse(full_behind)),
+    fault("memory: byte ahead of a later list read", Plant::Misuse(later_ahead)),
+    fault("memory: later list changed", Plant::Misuse(later_changed)),
+    fault("memory: byte behind a made list written", Plant::Misuse(made_behind)),
 ];
 
 /// What the call reads of this name.
@@ -262,5 +267,29 @@ fn reply_read_behind(call: &Call, lending: &mut Lending) {
 fn reply_read_changed(call: &Call, lending: &mut Lending) {
     if let Some(reply) = input("reply", call, lending) {
         change(reply);
+    }
+}
+
+fn full_behind(call: &Call, lending: &mut Lending) {
+    if let Some(full) = input("full capture", call, lending) {
+        read_behind(full);
+    }
+}
+
+fn later_ahead(call: &Call, lending: &mut Lending) {
+    if let Some(later) = input("later list", call, lending) {
+        later.read_beside(-1);
+    }
+}
+
+fn later_changed(call: &Call, lending: &mut Lending) {
+    if let Some(later) = input("later list", call, lending) {
+        change(later);
+    }
+}
+
+fn made_behind(call: &Call, lending: &mut Lending) {
+    if matches!(call, Call::Lists(OnLists { asked: Asked::Merge { .. }, .. })) {
+        write_behind(lending.reply);
     }
 }

@@ -10,6 +10,7 @@
 #![allow(clippy::ptr_arg)]
 
 mod data;
+mod difference;
 mod events;
 mod exchange;
 mod frame;
@@ -245,6 +246,7 @@ pub fn all() -> Vec<&'static Fault> {
         exchange::FAULTS,
         host::FAULTS,
         setups::FAULTS,
+        difference::FAULTS,
         soundness::FAULTS,
         memory::FAULTS,
     ]

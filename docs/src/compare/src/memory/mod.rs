@@ -62,6 +62,13 @@ pub struct Buffer {
     pub place: Place,
 }
 
+impl Buffer {
+    /// Puts it where it lies if nothing depends on it.
+    pub fn put_at_usual_place(&mut self) {
+        self.place = Place::USUAL;
+    }
+}
+
 impl From<Vec<u8>> for Buffer {
     fn from(bytes: Vec<u8>) -> Buffer {
         Buffer { bytes, place: Place::USUAL }

@@ -1,0 +1,55 @@
+//! Calls on lists of parts, by the archive and by the plain functions.
+
+use kajurnat::raw;
+use plain_card::exported;
+
+use crate::lists::{Asked, OnLists, FOUND};
+use crate::memory::{pattern, Lent};
+
+/// The answer of the archive, which is lent these inputs.
+pub fn archive(call: &OnLists, inputs: &[Lent], reply: &mut [u8]) -> usize {
+    let [setup, rest @ ..] = inputs else { unreachable!("every call has a setup") };
+    let (setup, member) = (setup.bytes(), call.member);
+    let list = |at: usize| rest[at].bytes();
+    match &call.asked {
+        Asked::Find { part_type, selector, .. } => found_into(reply, |(which, at, len)| {
+            let (full, later) = (list(0), list(1));
+            raw::difference_find(setup, member, full, later, *part_type, *selector, which, at, len)
+        }),
+        Asked::Merge { .. } => {
+            made(|written| raw::difference_merge(setup, member, list(0), list(1), reply, written))
+        }
+    }
+}
+
+/// The answer of the plain functions.
+pub fn plain(call: &OnLists, reply: &mut [u8]) -> usize {
+    let OnLists { setup, member, asked } = call;
+    match asked {
+        Asked::Find { lists: [full, later], part_type, selector } => found_into(reply, |place| {
+            let lists: [&[u8]; 2] = [full, later];
+            exported::difference_find(setup, *member, lists, *part_type, *selector, place)
+        }),
+        Asked::Merge { lists: [full, later], .. } => made(|written| {
+            exported::difference_merge(setup, *member, [full, later], reply, written)
+        }),
+    }
+}
+
+/// Looks a part up and puts the three numbers of its place in a buffer.
+fn found_into(buffer: &mut [u8], find: impl FnOnce(&mut exported::Place) -> u8) -> usize {
+    let any = u64::from_le_bytes(std::array::from_fn(pattern));
+    let mut place = (pattern(0), any, any);
+    let answer = find(&mut place);
+    let (list, at, length) = place;
+    let numbers = [&[list][..], &at.to_le_bytes(), &length.to_le_bytes()].concat();
+    buffer[..FOUND].copy_from_slice(&numbers);
+    answer.into()
+}
+
+/// Makes a list: the answer, and 256 times the number of bytes written.
+fn made(make: impl FnOnce(&mut u64) -> u8) -> usize {
+    let mut written = u64::from(u16::MAX);
+    let answer = make(&mut written);
+    usize::from(answer) + 256 * written as usize
+}
