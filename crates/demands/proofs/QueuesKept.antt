@@ -18,7 +18,8 @@ use Rattle.changes.proofs.Kept.{change-queues}
 use Rattle.setups.specs.Setup.{inNumbers}
 use Rattle.setups.specs.Writing.{written}
 use Rattle.setups.proofs.Ranges.{numbers-in}
-use Rattle.setups.proofs.Claims.{claims, take-sixteen}
+use Rattle.setups.proofs.InRange.{take-sixteen}
+use Rattle.setups.proofs.Claims.{claims}
 use Rattle.card.specs.Layout.{configurationAt, configurationSize, generationSize, holdingAt, setupOf, isMember, HasRecord, memberIn, withMember, withConfiguration, countsOf, withHolding, noBytes, withFresh, freshCard}
 use Rattle.card.proofs.LayoutLaws.{features-long, record-other, member-with-record}
 use Rattle.card.proofs.CountLaws.{count-behind, count-with-use, count-with-member, counts-long, counts-at, count-fresh}
