@@ -13,6 +13,7 @@ use Rattle.demands.proofs.AnyLength.{missing-is-zero, rest-is-ignored}
 use Rattle.demands.proofs.Places.{places-found}
 use Rattle.demands.proofs.WrongPrograms.{wrong-programs-rejected}
 use Rattle.demands.proofs.RoundTrip.{round-trip}
+use Rattle.demands.proofs.Lists.{merged-sets, found-captured, salvaged-accepted}
 use Rattle.demands.proofs.Isolation.{isolation}
 use Rattle.demands.proofs.Integrity.{integrity}
 use Rattle.demands.proofs.Commutation.{commutation, commands-commute}
@@ -68,4 +69,7 @@ claims = record {
   setUpFromPacked = set-up-from-packed;
   queuesKept = queues-kept;
   countExamples = count-examples-hold;
+  mergedSets = merged-sets;
+  foundCaptured = found-captured;
+  salvagedAccepted = salvaged-accepted;
 }

@@ -14,8 +14,11 @@ pub mod AnyLength
 pub mod Sound
 pub mod Refusals
 pub mod Demand1
+pub mod Setting
 pub mod RoundTrip
+pub mod Lists
 pub mod RoundTripExample
+pub mod ListsExample
 pub mod Mask
 pub mod RestoreMask
 pub mod MessageMask

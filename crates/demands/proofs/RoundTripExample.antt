@@ -28,7 +28,7 @@ reading = step (step exampleCard (useList 0x3fc03) .0) (create 0 0) .0
 source : List ℕ
 source = step reading (cardStore 1 0x104 0 (0 ∷ 1 ∷ replicate 30 0xaa)) .0
 
-target : List ℕ
+pub target : List ℕ
 target = step (step reading (create 1 1) .0) (setMode 1 1) .0
 
 example : Unit {0}
@@ -45,7 +45,7 @@ sound-source : isSound source ≡ true
 unfolding example
 sound-source = refl
 
-sound-target : isSound target ≡ true
+pub sound-target : isSound target ≡ true
 unfolding example
 sound-target = refl
 
@@ -53,7 +53,7 @@ setup-source : setupOf source ≡ setup
 unfolding example
 setup-source = refl
 
-setup-target : setupOf target ≡ setup
+pub setup-target : setupOf target ≡ setup
 unfolding example
 setup-target = refl
 
@@ -61,11 +61,15 @@ same-queues : memberIn source 1 .queues ≡ memberIn target 1 .queues
 unfolding example
 same-queues = refl
 
+pub target-queues : memberIn target 1 .queues ≡ 1
+unfolding example
+target-queues = refl
+
 source-member : isMember source 1 ≡ true
 unfolding example
 source-member = refl
 
-target-member : isMember target 1 ≡ true
+pub target-member : isMember target 1 ≡ true
 unfolding example
 target-member = refl
 
@@ -73,15 +77,15 @@ source-get : lookupOf (memberIn source 1) 0 ≡ Live Get
 unfolding example
 source-get = refl
 
-target-set : lookupOf (memberIn target 1) 1 ≡ Live Set
+pub target-set : lookupOf (memberIn target 1) 1 ≡ Live Set
 unfolding example
 target-set = refl
 
-target-get : lookupOf (memberIn target 1) 0 ≡ Live Get
+pub target-get : lookupOf (memberIn target 1) 0 ≡ Live Get
 unfolding example
 target-get = refl
 
-target-stopped : memberIn target 1 .mode ≡ Stopped
+pub target-stopped : memberIn target 1 .mode ≡ Stopped
 unfolding example
 target-stopped = refl
 
@@ -89,11 +93,11 @@ capture-in-use : bit (inUseOf source) 0x0f ≡ true
 unfolding example
 capture-in-use = refl
 
-set-in-use : bit (inUseOf target) 0x10 ≡ true
+pub set-in-use : bit (inUseOf target) 0x10 ≡ true
 unfolding example
 set-in-use = refl
 
-recapture-in-use : bit (inUseOf target) 0x0f ≡ true
+pub recapture-in-use : bit (inUseOf target) 0x0f ≡ true
 unfolding example
 recapture-in-use = refl
 

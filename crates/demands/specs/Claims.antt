@@ -34,6 +34,7 @@ use Rattle.demands.specs.QueueCounts.{CountExamplesHold}
 use Rattle.demands.specs.Halves.{HalvesExamplesHold}
 use Rattle.demands.specs.WrongPrograms.{WrongProgramsRejected}
 use Rattle.demands.specs.RoundTrip.{RoundTrip}
+use Rattle.demands.specs.Lists.{MergedSets, FoundCaptured, SalvagedAccepted}
 use Rattle.demands.specs.Host.{Taken, ReadBack}
 use Rattle.demands.specs.Places.{PlacesFound}
 use Rattle.demands.specs.Messages.{Responded, NothingApplied, OnlyConfiguration, ConfigurationKept, MessageExamplesHold}
@@ -310,3 +311,8 @@ pub record Claims : Type 1 where
   pub setUpFromPacked : SetUpFromPacked
   pub queuesKept : QueuesKept
   pub countExamples : CountExamplesHold
+  -- request 7
+  pub mergedSets : MergedSets
+  pub foundCaptured : FoundCaptured
+  -- request 8
+  pub salvagedAccepted : SalvagedAccepted

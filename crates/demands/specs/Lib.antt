@@ -6,6 +6,7 @@ pub mod QueueSizes
 pub mod QueueCounts
 pub mod WrongPrograms
 pub mod RoundTrip
+pub mod Lists
 pub mod Host
 pub mod Places
 pub mod Messages

@@ -1,5 +1,5 @@
 -- The calls under a setup, return by return. Assumes nothing.
-use mathlib.Core.Path.{_≡_, ap, sym, _∙_}
+use mathlib.Core.Path.{_≡_, sym}
 use mathlib.Core.Bool.{true, false, not}
 use mathlib.Core.List.{List, []}
 use Prim.Native.Nat.{ℕ, _≤_, _<_}
@@ -9,7 +9,6 @@ use lib.Dec.{leb, eqb}
 use lib.ListN.{length, take}
 use lib.Seq.{take-at}
 use Rattle.theory.specs.Logic.{unless_answer_then_}
-use Rattle.theory.specs.Bytes.{put}
 use Rattle.theory.proofs.Tests.{by-cases, within-high}
 use Rattle.theory.proofs.Bytes.{put-front}
 use Rattle.inventory.specs.Inventory.{partsSize}

@@ -8,7 +8,6 @@ use borrow.Author.Tests.{leb-true, not-true, not-false}
 use lib.ListN.{length, take}
 use lib.Seq.{take-at}
 use Rattle.theory.specs.Logic.{if_then_else_, unless_answer_then_}
-use Rattle.theory.specs.Bytes.{put}
 use Rattle.theory.proofs.Tests.{by-cases, both}
 use Rattle.theory.proofs.Bytes.{put-front}
 use Rattle.inventory.specs.Inventory.{partsSize}
