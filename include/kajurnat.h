@@ -30,6 +30,8 @@
  *     cut.
  *   - The list that is made of a full capture and a later list sets a member as
  *     the full capture and then the later list do.
+ *   - A list that is salvaged passes as a list to set, and a whole list comes
+ *     back with the same values.
  *   - A card takes a built request as the command and the fields that it was
  *     built from, if these are inside its setup's numbers; and whatever it
  *     answers to a built request is read as it was meant.
@@ -742,6 +744,46 @@ uint8_t kajurnat_difference_merge(const uint8_t *setup, size_t setup_len,
                                   size_t full_len, const uint8_t *later,
                                   size_t later_len, uint8_t *merged,
                                   size_t merged_len, uint64_t *written);
+
+/* ---- Salvage of a torn capture ------------------------------------------ */
+
+/*
+ * Of a damaged list of parts, makes one that parts set takes: each part of the
+ * member once, in the order and with the headers of a capture. The first copy
+ * of a part that parts set would take is kept; a part without one is filled
+ * with its fresh value. It stops at the first header or value that runs past
+ * the end.
+ *
+ * kept has a byte for each part of the member, 7 and twice its queues, in
+ * order: 1 kept, 0 filled. dropped has the number of parts dropped for each
+ * cause, the first that applies in the order below. *left is the number of
+ * bytes left over, from the start of the header that it stopped at.
+ *
+ * Returns the length of the list, KAJURNAT_CAPTURE_BYTES() of the member's
+ * queues; the bytes and counts of the buffers past these keep their values.
+ * Returns 0, with nothing written to any buffer, if damaged_len is over
+ * KAJURNAT_SALVAGE_BYTES_MAX, the packed setup is bad or has no such member, or
+ * one of the three buffers is too short; dropped_len counts numbers, not bytes.
+ */
+enum {
+    KAJURNAT_SALVAGE_BYTES_MAX = 4064,
+    KAJURNAT_SALVAGE_PARTS_MAX = 15 /* always enough for kept */
+};
+
+/* The causes, as indices of dropped. */
+enum {
+    KAJURNAT_DROPPED_UNKNOWN = 0, /* the member has no such part */
+    KAJURNAT_DROPPED_COPY = 1,    /* a copy of it is kept */
+    KAJURNAT_DROPPED_SIZE = 2,    /* not of the part's length */
+    KAJURNAT_DROPPED_VALUE = 3,   /* a queue size, or device features */
+    KAJURNAT_DROPPED_CAUSES = 4
+};
+
+size_t kajurnat_salvage(const uint8_t *setup, size_t setup_len, uint64_t member,
+                        const uint8_t *damaged, size_t damaged_len,
+                        uint8_t *list, size_t list_len, uint8_t *kept,
+                        size_t kept_len, uint32_t *dropped, size_t dropped_len,
+                        uint32_t *left);
 
 #ifdef __cplusplus
 }

@@ -194,6 +194,13 @@ MEASURED(uint8_t, kajurnat_difference_merge,
           uint64_t *written),
          (setup, setup_len, member, full, full_len, later, later_len, merged,
           merged_len, written))
+MEASURED(size_t, kajurnat_salvage,
+         (const uint8_t *setup, size_t setup_len, uint64_t member,
+          const uint8_t *damaged, size_t damaged_len, uint8_t *list,
+          size_t list_len, uint8_t *kept, size_t kept_len, uint32_t *dropped,
+          size_t dropped_len, uint32_t *left),
+         (setup, setup_len, member, damaged, damaged_len, list, list_len, kept,
+          kept_len, dropped, dropped_len, left))
 
 /* A call of a known depth is measured as such, or nothing is. */
 __attribute__((noinline)) static void take_a_kilobyte(void)

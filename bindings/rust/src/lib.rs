@@ -50,7 +50,7 @@
 //! [`Card::restore`] or a [`Restore`], fragment by fragment. On a bus without
 //! PCI, a [`Message`] reads or writes the configuration of a member. Of a full
 //! capture and a later list of what changed, a [`Difference`] gives one part or
-//! one list.
+//! one list. Of a torn capture, [`Salvaged`] is a list that a member takes.
 //!
 //! # Features
 //!
@@ -82,6 +82,7 @@ pub mod raw;
 mod reply;
 mod request;
 mod restore;
+mod salvage;
 mod setup;
 mod status;
 
@@ -94,5 +95,6 @@ pub use raw::version;
 pub use reply::{BadReply, Refusal, Reply, ReplyTooShort};
 pub use request::{Kind, Metadata, Opcode, Request, RequestTooLong};
 pub use restore::Restore;
+pub use salvage::{Dropped, SalvageRefused, Salvaged};
 pub use setup::{BadSetup, Setup, SetupError};
 pub use status::{Qualifier, Status};

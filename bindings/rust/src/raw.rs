@@ -20,7 +20,7 @@ pub use host::{
     reply_read, request_create, request_destroy, request_get, request_list_query, request_list_use,
     request_metadata, request_mode, request_modify, request_query, request_set,
 };
-pub use lists::{difference_find, difference_merge};
+pub use lists::{difference_find, difference_merge, salvage};
 pub use setup::{setup, setup_from, setup_read, setup_read_v1, setup_write};
 
 /// The version of a card's bytes. It is raised whenever they change their

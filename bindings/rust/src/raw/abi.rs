@@ -217,4 +217,19 @@ extern "C" {
         merged_len: usize,
         written: *mut u64,
     ) -> u8;
+
+    pub fn kajurnat_salvage(
+        setup: *const u8,
+        setup_len: usize,
+        member: u64,
+        damaged: *const u8,
+        damaged_len: usize,
+        list: *mut u8,
+        list_len: usize,
+        kept: *mut u8,
+        kept_len: usize,
+        dropped: *mut u32,
+        dropped_len: usize,
+        left: *mut u32,
+    ) -> usize;
 }

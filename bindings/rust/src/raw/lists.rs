@@ -1,4 +1,5 @@
-//! Lists of parts under a packed setup: a full capture and a later list.
+//! Lists of parts under a packed setup: a full capture and a later list, and a
+//! torn capture.
 
 use super::abi;
 
@@ -74,6 +75,50 @@ pub fn difference_merge(
             merged.as_mut_ptr(),
             merged.len(),
             written,
+        )
+    }
+}
+
+/// Makes a list that parts set takes of a damaged list, at the start of `list`,
+/// under a packed setup of either version and for one member of it. Returns its
+/// length.
+///
+/// `kept` has a byte for each part of the member, in order: 1 kept, 0 filled with
+/// the fresh value. `dropped` has the number of parts dropped for each of four
+/// causes: unknown, a copy, wrongly sized, wrongly valued. `left` is the number of
+/// bytes left over, from the start of the header it stopped at. The bytes and
+/// counts past these keep their values.
+///
+/// Returns 0, with nothing written, if the damaged list is over 4,064 bytes, the
+/// setup is bad or has no such member, or `list`, `kept` or `dropped` is too
+/// short.
+#[must_use]
+pub fn salvage(
+    setup: &[u8],
+    member: u64,
+    damaged: &[u8],
+    list: &mut [u8],
+    kept: &mut [u8],
+    dropped: &mut [u32],
+    left: &mut u32,
+) -> usize {
+    // SAFETY: each pointer and length are those of one slice, and `left` is one
+    // number; all are borrowed for the call (what is written mutably, so it
+    // overlaps no other).
+    unsafe {
+        abi::kajurnat_salvage(
+            setup.as_ptr(),
+            setup.len(),
+            member,
+            damaged.as_ptr(),
+            damaged.len(),
+            list.as_mut_ptr(),
+            list.len(),
+            kept.as_mut_ptr(),
+            kept.len(),
+            dropped.as_mut_ptr(),
+            dropped.len(),
+            left,
         )
     }
 }

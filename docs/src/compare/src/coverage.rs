@@ -16,7 +16,7 @@ const STATUSES: [&str; 12] =
     ["none", "22/1", "22/4", "22/2", "22/5", "22/3", "17/1", "6/1", "28/1", "11/7", "12/6", "0/0"];
 /// Answers of events in their order.
 const ANSWERS: [&str; 8] = ["9", "1", "2", "3", "5", "6", "4", "0"];
-/// What becomes of a request to build and of a reply to read.
+/// What becomes of what is built, read, written or salvaged.
 const OUTCOMES: [&str; 2] = ["refused", "done"];
 
 const COMMANDS: [&str; 11] = [
@@ -41,7 +41,7 @@ const EVENTS: [&str; 6] =
 const MESSAGES: [&str; 3] = ["message: read", "message: write", "other messages"];
 /// What becomes of a message.
 const RESPONSES: [&str; 3] = ["none", "length 0", "data"];
-const HOST: [&str; 3] = ["request built", "reply read", "setup written"];
+const HOST: [&str; 4] = ["request built", "reply read", "setup written", "list salvaged"];
 const READERS: [&str; 2] = ["setup, version 1", "setup, both"];
 /// What the readers of setups answer.
 const READ_ANSWERS: [&str; 3] = ["1", "2", "0"];
@@ -80,6 +80,7 @@ impl Coverage {
             Call::Lists(call) => match call.asked {
                 Lists::Find { .. } => (PAIRS[0], seen.answer.to_string()),
                 Lists::Merge { .. } => (PAIRS[1], (seen.answer % 256).to_string()),
+                Lists::Salvage { .. } => (HOST[3], outcome(seen.answer != 0)),
             },
         };
         self.count(kind, answer);

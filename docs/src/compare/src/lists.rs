@@ -22,6 +22,9 @@ pub enum Asked {
     Find { lists: [Buffer; 2], part_type: u16, selector: u64 },
     /// One list made of the two, in a buffer.
     Merge { lists: [Buffer; 2], room: Room },
+    /// A damaged list salvaged, in a buffer; the lengths are those of the report's
+    /// buffers for kept (bytes) and dropped (counts).
+    Salvage { damaged: Buffer, room: Room, report: [usize; 2] },
 }
 
 /// The length of the three numbers that tell where a value was found: the list,
@@ -34,6 +37,10 @@ impl OnLists {
         match &self.asked {
             Asked::Find { .. } => FOUND.into(),
             Asked::Merge { room, .. } => *room,
+            // Bytes left over, dropped, kept, and the list.
+            Asked::Salvage { room, report: [kept, dropped], .. } => {
+                Room { length: 4 + 4 * dropped + kept + room.length, place: room.place }
+            }
         }
     }
 
@@ -41,6 +48,7 @@ impl OnLists {
     pub fn pair(&self) -> Option<&[Buffer; 2]> {
         match &self.asked {
             Asked::Find { lists, .. } | Asked::Merge { lists, .. } => Some(lists),
+            Asked::Salvage { .. } => None,
         }
     }
 
@@ -52,6 +60,7 @@ impl OnLists {
             | Asked::Merge { lists: [full, later], .. } => {
                 vec![setup, ("full capture", full), ("later list", later)]
             }
+            Asked::Salvage { damaged, .. } => vec![setup, ("damaged list", damaged)],
         }
     }
 
@@ -62,6 +71,10 @@ impl OnLists {
             Asked::Find { lists, .. } => lists.iter_mut().for_each(Buffer::put_at_usual_place),
             Asked::Merge { lists, room } => {
                 lists.iter_mut().for_each(Buffer::put_at_usual_place);
+                room.place = Place::USUAL;
+            }
+            Asked::Salvage { damaged, room, .. } => {
+                damaged.put_at_usual_place();
                 room.place = Place::USUAL;
             }
         }
@@ -75,6 +88,9 @@ impl fmt::Display for OnLists {
                 write!(f, "look up type {part_type:#x}, selector {selector:#x}")?;
             }
             Asked::Merge { room, .. } => write!(f, "make one list, in a buffer of {room}")?,
+            Asked::Salvage { room, report: [kept, dropped], .. } => {
+                write!(f, "salvage, in a buffer of {room}, report of {kept} and {dropped}")?;
+            }
         }
         write!(f, ", member {}", self.member)?;
         let mut inputs = self.inputs().into_iter();

@@ -5,7 +5,7 @@
 
 mod lists;
 
-pub use lists::{difference_find, difference_merge, Place};
+pub use lists::{difference_find, difference_merge, salvage, Place, Report};
 
 use crate::bytes::{read, write, HEADER, RECORD};
 use crate::card::Card;

@@ -1,5 +1,5 @@
 //! An independent plain Rust card and host, written from document 01 and
-//! requests 1, 2, 3, 5, 6, 7, 9 and 10 of document 02 alone.
+//! requests 1 to 3 and 5 to 10 of document 02 alone.
 //!
 //! It is the readable, executable version of these and the reference that the
 //! verified archive is compared with. It shares no code with the archive. Terms
@@ -18,6 +18,7 @@
 //! | [`restore`] | restore in fragments |
 //! | [`message`](mod@message) | configuration by message |
 //! | [`difference`] | a full capture and a later list of what changed |
+//! | [`salvage`](mod@salvage) | a torn capture |
 //! | [`status`] | the numbers of the answers |
 //! | [`host`] | requests built from their fields, replies read |
 //! | [`bytes`], [`exported`] | the card as bytes, and the archive's functions over them |
@@ -45,6 +46,7 @@ pub mod operation;
 pub mod part;
 pub mod queue;
 pub mod restore;
+pub mod salvage;
 pub mod setup;
 pub mod setups;
 pub mod status;

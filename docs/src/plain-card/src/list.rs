@@ -70,7 +70,8 @@ pub fn known<'a>(
 }
 
 /// The next part of a given list: neither header nor value runs past the end.
-fn take_part<'a>(rest: &mut &'a [u8]) -> Result<(Header, &'a [u8]), Refusal> {
+/// One that does stays in `rest`.
+pub fn take_part<'a>(rest: &mut &'a [u8]) -> Result<(Header, &'a [u8]), Refusal> {
     let (bytes, behind) = rest.split_at_checked(HEADER).ok_or(Refusal::BadList)?;
     let header = Header::read(bytes);
     let length = usize::try_from(header.length).map_err(|_| Refusal::BadList)?;

@@ -55,14 +55,20 @@ pub fn room(random: &mut Random, need: usize) -> Room {
     Room { length, place: place(random) }
 }
 
-/// A full capture and a later list, mostly good.
-fn pair(random: &mut Random, setup: &Setup, queues: u8) -> [Buffer; 2] {
+/// A card of the setup with any values.
+pub fn card(random: &mut Random, setup: &Setup) -> Card {
     let mut card = Card::new(setup);
     for record in &mut card.members {
         for part in inventory(MAX_QUEUES).filter(|part| *part != Part::DeviceFeatures) {
             record.values.get_mut(part).copy_from_slice(&value::good(random, part));
         }
     }
+    card
+}
+
+/// A full capture and a later list, mostly good.
+fn pair(random: &mut Random, setup: &Setup, queues: u8) -> [Buffer; 2] {
+    let card = card(random, setup);
     let full = full(random, &card, queues);
     let mut later = list::given(random, &card, queues);
     if random.chance(3) {

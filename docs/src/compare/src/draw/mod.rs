@@ -8,6 +8,7 @@ mod length;
 mod list;
 mod message;
 mod restore;
+mod salvage;
 mod setup;
 mod spoil;
 mod value;
@@ -16,6 +17,7 @@ pub use card::{any_bytes, other_record, record, sound_card};
 pub use list::{asked, given};
 pub use message::generation;
 pub use restore::{list_to_restore, set_id};
+pub use salvage::call as salvage;
 pub use value::good as good_value;
 
 use plain_card::opcode::Opcode;
@@ -102,10 +104,11 @@ pub fn next(random: &mut Random, card: Option<&Card>, favoured: Favoured) -> Cal
             &drawn
         }
     };
-    match random.weighted(&[10, 5, 5, 80]) {
+    match random.weighted(&[10, 5, 5, 5, 75]) {
         0 => host::call(random, card, favoured),
         1 => setup::pack(random),
         2 => Call::Lists(difference::call(random)),
+        3 => Call::Lists(salvage::call(random)),
         _ => on_card(random, card, favoured),
     }
 }

@@ -84,7 +84,7 @@ impl<'a> Called<'a> {
             Asked::Find { part_type, selector, .. } => {
                 Part::named(part_type, selector.to_le_bytes(), self.queues)
             }
-            Asked::Merge { .. } => None,
+            _ => None,
         }
     }
 
@@ -135,6 +135,7 @@ fn hear(outcome: &mut Outcome, change: impl FnOnce(&mut [Buffer; 2])) {
     let mut call = call.clone();
     match &mut call.asked {
         Asked::Find { lists, .. } | Asked::Merge { lists, .. } => change(lists),
+        Asked::Salvage { .. } => return,
     }
     outcome.reply.iter_mut().enumerate().for_each(|(at, byte)| *byte = pattern(at));
     *outcome.answer = Plain::default().hear(&Call::Lists(call), outcome.reply);
@@ -378,8 +379,9 @@ fn sizes_unread(outcome: &mut Outcome) {
 
 /// Changes the call, if it is on a pair of lists.
 fn change(call: &mut Call, change: impl FnOnce(&mut OnLists)) {
-    if let Call::Lists(call) = call {
-        change(call);
+    match call {
+        Call::Lists(call) if call.pair().is_some() => change(call),
+        _ => {}
     }
 }
 

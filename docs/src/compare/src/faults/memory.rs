@@ -42,6 +42,9 @@ pub const FAULTS: &[Fault] = &[
     fault("memory: byte ahead of a later list read", Plant::Misuse(later_ahead)),
     fault("memory: later list changed", Plant::Misuse(later_changed)),
     fault("memory: byte behind a made list written", Plant::Misuse(made_behind)),
+    fault("memory: byte behind a damaged list read", Plant::Misuse(damaged_behind)),
+    fault("memory: damaged list changed", Plant::Misuse(damaged_changed)),
+    fault("memory: byte behind a salvaged list written", Plant::Misuse(salvaged_behind)),
 ];
 
 /// What the call reads of this name.
@@ -290,6 +293,24 @@ fn later_changed(call: &Call, lending: &mut Lending) {
 
 fn made_behind(call: &Call, lending: &mut Lending) {
     if matches!(call, Call::Lists(OnLists { asked: Asked::Merge { .. }, .. })) {
+        write_behind(lending.reply);
+    }
+}
+
+fn damaged_behind(call: &Call, lending: &mut Lending) {
+    if let Some(damaged) = input("damaged list", call, lending) {
+        read_behind(damaged);
+    }
+}
+
+fn damaged_changed(call: &Call, lending: &mut Lending) {
+    if let Some(damaged) = input("damaged list", call, lending) {
+        change(damaged);
+    }
+}
+
+fn salvaged_behind(call: &Call, lending: &mut Lending) {
+    if matches!(call, Call::Lists(OnLists { asked: Asked::Salvage { .. }, .. })) {
         write_behind(lending.reply);
     }
 }

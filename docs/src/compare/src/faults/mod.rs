@@ -26,6 +26,7 @@ mod parts;
 mod programs;
 mod queue;
 mod restore;
+mod salvage;
 mod setups;
 mod soundness;
 mod tools;
@@ -247,6 +248,7 @@ pub fn all() -> Vec<&'static Fault> {
         host::FAULTS,
         setups::FAULTS,
         difference::FAULTS,
+        salvage::FAULTS,
         soundness::FAULTS,
         memory::FAULTS,
     ]

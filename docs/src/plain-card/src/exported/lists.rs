@@ -1,6 +1,7 @@
 //! The functions that work on lists of parts under the bytes of a setup.
 
 use crate::difference::{Found, Pair, Refused};
+use crate::salvage::{self, CAUSES};
 use crate::setups;
 
 /// Where a value looked up stands: the list (0 full, 1 later), the start and the
@@ -46,4 +47,40 @@ fn pair<'a>(
 ) -> Result<Pair<'a>, Refused> {
     let setup = setups::read(setup).map_err(|_| Refused::Setup)?;
     Pair::new(&setup, member, full, later)
+}
+
+/// What a salvage reports into. There is room for a byte for each part of the
+/// inventory (1 kept, 0 filled) and for the four counts, or it is refused.
+pub struct Report<'a> {
+    /// For each part whether it was kept.
+    pub kept: &'a mut [u8],
+    /// The number dropped for each cause.
+    pub dropped: &'a mut [u32],
+    /// The bytes left over.
+    pub left: &'a mut u32,
+}
+
+/// Salvages a damaged list; tells the bytes written to `list`, or 0 if it is
+/// refused, and nothing is written.
+pub fn salvage(
+    setup: &[u8],
+    member: u64,
+    damaged: &[u8],
+    list: &mut [u8],
+    report: Report,
+) -> usize {
+    let setup = setups::read(setup).ok();
+    let salvaged = setup.and_then(|setup| salvage::salvage(&setup, member, damaged));
+    let Some(salvaged) = salvaged else { return 0 };
+    let (length, parts) = (salvaged.list.len(), salvaged.kept.len());
+    let (Some(list), Some(kept), Some(dropped)) =
+        (list.get_mut(..length), report.kept.get_mut(..parts), report.dropped.get_mut(..CAUSES))
+    else {
+        return 0;
+    };
+    list.copy_from_slice(&salvaged.list);
+    kept.iter_mut().zip(salvaged.kept).for_each(|(byte, kept)| *byte = kept.into());
+    dropped.copy_from_slice(&salvaged.dropped);
+    *report.left = salvaged.left;
+    length
 }
