@@ -1,5 +1,5 @@
 //! An independent plain Rust card and host, written from document 01 and
-//! requests 1 to 3 and 5 to 10 of document 02 alone.
+//! requests 1 to 3 and 5 to 11 of document 02 alone.
 //!
 //! It is the readable, executable version of these and the reference that the
 //! verified archive is compared with. It shares no code with the archive. Terms
@@ -19,6 +19,7 @@
 //! | [`message`](mod@message) | configuration by message |
 //! | [`difference`] | a full capture and a later list of what changed |
 //! | [`salvage`](mod@salvage) | a torn capture |
+//! | [`figures`] | a year of captures, counted |
 //! | [`status`] | the numbers of the answers |
 //! | [`host`] | requests built from their fields, replies read |
 //! | [`bytes`], [`exported`] | the card as bytes, and the archive's functions over them |
@@ -34,6 +35,7 @@ pub mod difference;
 pub mod effect;
 pub mod event;
 pub mod exported;
+pub mod figures;
 pub mod frame;
 pub mod holding;
 pub mod host;

@@ -11,6 +11,7 @@ mod restore;
 mod salvage;
 mod setup;
 mod spoil;
+mod stream;
 mod value;
 
 pub use card::{any_bytes, other_record, record, sound_card};
@@ -18,6 +19,7 @@ pub use list::{asked, given};
 pub use message::generation;
 pub use restore::{list_to_restore, set_id};
 pub use salvage::call as salvage;
+pub use stream::{End, Stream};
 pub use value::good as good_value;
 
 use plain_card::opcode::Opcode;
