@@ -104,10 +104,10 @@ fn setting_the_made_list_leaves_the_member_as_setting_both() {
     let fresh = stopped(Card::new(&Setup::alike(1, 1, 1, 1, FEATURES).unwrap()));
     let (full, later) = (full(1), later());
     let (mut both, mut one) = (fresh.clone(), fresh);
-    assert_eq!(status(&mut both, &set(&[full.clone()])), OK);
-    assert_eq!(status(&mut both, &set(&[later.clone()])), OK);
+    assert_eq!(status(&mut both, &set(std::slice::from_ref(&full))), OK);
+    assert_eq!(status(&mut both, &set(std::slice::from_ref(&later))), OK);
     let merged = merge(1, &full, &later).unwrap();
-    assert_eq!(status(&mut one, &set(&[merged.clone()])), OK);
+    assert_eq!(status(&mut one, &set(std::slice::from_ref(&merged))), OK);
     assert_eq!(one, both);
     assert_eq!(reply(&mut both, &get_all())[8..], merged);
     assert_eq!(merge(1, &merged, &[]), Ok(merged), "it is a full capture");

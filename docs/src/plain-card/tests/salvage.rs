@@ -20,7 +20,11 @@ fn setup() -> Setup {
 fn salvaged(damaged: &[u8]) -> Salvaged {
     let salvaged = salvage(&setup(), 1, damaged).unwrap();
     let mut card = stopped(Card::new(&Setup::alike(1, 1, 1, 1, FEATURES).unwrap()));
-    assert_eq!(status(&mut card, &set(&[salvaged.list.clone()])), OK, "step 10 passes it");
+    assert_eq!(
+        status(&mut card, &set(std::slice::from_ref(&salvaged.list))),
+        OK,
+        "step 10 passes it"
+    );
     assert_eq!(salvaged.list.len(), 157 + 72);
     salvaged
 }

@@ -10,11 +10,16 @@ use compare::draw;
 use compare::lists::Asked;
 use compare::random::Random;
 
-const USAGE: &str = "make-damaged DIR COUNT";
+const USAGE: &str = "make-damaged DIR COUNT\n  --help  print this";
 
 fn main() -> ExitCode {
     let arguments: Vec<String> = arguments::of_process().collect();
-    let [directory, count] = &arguments[..] else { return Stop::Help.tell(USAGE) };
+    if arguments == ["--help"] {
+        return Stop::Help.tell(USAGE);
+    }
+    let [directory, count] = &arguments[..] else {
+        return Stop::Missing("COUNT".into()).tell(USAGE);
+    };
     let Ok(count) = count.parse() else {
         return Stop::Bad("COUNT".into(), count.clone()).tell(USAGE);
     };

@@ -29,7 +29,10 @@ fn main() -> ExitCode {
 
 /// The seed, the number of captures, and the end.
 fn read(arguments: &[String]) -> Result<(u64, u64, End), Stop> {
-    let [seed, captures, end] = arguments else { return Err(Stop::Help) };
+    if arguments == ["--help"] {
+        return Err(Stop::Help);
+    }
+    let [seed, captures, end] = arguments else { return Err(Stop::Missing("CAPTURES".into())) };
     let number =
         |name: &str, text: &String| text.parse().map_err(|_| Stop::Bad(name.into(), text.clone()));
     let end = match &end[..] {
