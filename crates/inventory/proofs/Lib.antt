@@ -6,3 +6,4 @@ pub mod Places
 pub mod Worked
 pub mod Powers
 pub mod Queue
+pub mod Plain

@@ -56,7 +56,7 @@ shares-none (suc k) n z h e =
     let d : n ≡ 1 = omega arith in
     rw d (one-is-power k))
 
-power-tested : (k n : ℕ) → 0 < n → n < 2 ^ k → eqb (bitAnd n (n - 1)) 0 ≡ powerBelow k n
+pub power-tested : (k n : ℕ) → 0 < n → n < 2 ^ k → eqb (bitAnd n (n - 1)) 0 ≡ powerBelow k n
 power-tested k n z h =
     by-cases (powerBelow k n) (λ e. eq-eqb _ _ (power-shares-none k n e) ∙ sym e)
     (λ e. ne-eqb _ _ (λ q. let c = sym (shares-none k n z h q) ∙ e in let y : _≡_ {A = ℕ} 0 1 = cc in omega arith) ∙ sym e)

@@ -1,6 +1,6 @@
 -- What the values of queues may be: as the code tests it, queue by queue, and as rows of the table. Assumes nothing.
 use mathlib.Core.Path.{_≡_, refl, sym, _∙_, ap}
-use mathlib.Core.Bool.{true, false, not}
+use mathlib.Core.Bool.{Bool, true, false, not}
 use mathlib.Core.List.{List}
 use Prim.Native.Nat.{ℕ, zero, suc, _+_, _*_, _^_, _≤_, _<_}
 use native.Mathlib.Nat.{add-zero}
@@ -8,14 +8,15 @@ use native.Mathlib.Omega.{arith}
 use lib.Dec.{leb, ltb, eqb}
 use lib.ListN.{length}
 use lib.Seq.{take-all}
-use lib.Bits.{bitAnd, bitOr, and-le-l, and-le-r, or-add-and}
-use borrow.Author.Tests.{eqb-true, eqb-false, eq-eqb, ne-eqb, ltb-true, lt-ltb, leb-false, lt-leb, le-leb}
-use Rattle.theory.specs.Logic.{unless_answer_then_, _and_, _or_}
+use lib.Bits.{bitAnd}
+use borrow.Author.Tests.{eqb-true, eqb-false, eq-eqb, ltb-true, ltb-false, lt-ltb, leb-false, lt-leb, not-true, not-false}
+use Rattle.theory.specs.Logic.{unless_answer_then_, if_then_else_, _and_, _or_}
 use Rattle.theory.specs.Bytes.{bytesAt}
-use Rattle.theory.proofs.Tests.{by-cases, unless-cases, both, and-i, true-and, false-and, false-or, or-true, true-or}
+use Rattle.theory.proofs.Tests.{by-cases, unless-cases, both, and-i, false-or, or-true, true-or}
 use Rattle.theory.proofs.Bytes.{length-bytesAt, bytesAt-bytesAt}
 use Rattle.wire.specs.Le.{number}
 use Rattle.inventory.specs.Inventory.{queue, row, rows, rowAt, rowCount, present, offsetOf, valuesSize}
+use Rattle.inventory.specs.Worked.{queueRows}
 use Rattle.inventory.specs.Queue.{ringSize, queueSize, enabledAt, queueAllowed, valueAllowed, queueRow, queueValue, queuesAllowed}
 use Rattle.inventory.proofs.Rules.{table, every-row, row-within}
 use Rattle.inventory.proofs.Powers.{ring-tested}
@@ -25,44 +26,19 @@ use Rattle.inventory.proofs.Powers.{ring-tested}
 pub fault-tested : (s e : ℕ) → s < 2 ^ 16 → e < 2 ^ 16 → eqb (bitAnd (65536 * e + s) (s + 0xffffffff)) 0 ≡ ringSize s e
 fault-tested s e h g = let d : 65536 * e + s ≡ e * 2 ^ 16 + s = omega arith in rw d (ring-tested s e h g)
 
--- one queue
-module _ (q k : ℕ) (l : List ℕ) (at : ℕ) where
-  pub fault-absent : q ≤ k → eqb 0 0 ≡ leb q k or queueAllowed (bytesAt at queueSize l)
-  fault-absent h = rw (le-leb q k h) (sym (true-or _))
-
-  pub fault-read : k < q → (s e r : ℕ) → s ≡ number at 2 l → e ≡ number (at + enabledAt) 2 l → eqb r 0 ≡ ringSize s e
-      → eqb r 0 ≡ leb q k or queueAllowed (bytesAt at queueSize l)
+-- the value of a queue that stands at a place
+module _ (l : List ℕ) (at : ℕ) where
+  pub allowed-at : queueAllowed (bytesAt at queueSize l) ≡ ringSize (number at 2 l) (number (at + enabledAt) 2 l)
   unfolding queueAllowed number
-  fault-read h s e r x y t =
-      rw (lt-leb q k h, false-or, bytesAt-bytesAt 0 2 at queueSize l (omega arith), bytesAt-bytesAt enabledAt 2 at queueSize l (omega arith), add-zero, ← x, ← y) t
+  allowed-at = rw (bytesAt-bytesAt 0 2 at queueSize l (omega arith), bytesAt-bytesAt enabledAt 2 at queueSize l (omega arith), add-zero)
 
--- a whole value, which is that of the only queue
-pub value-read : (l : List ℕ) (r : ℕ) → length l ≡ queueSize → eqb r 0 ≡ leb 1 0 or queueAllowed (bytesAt 0 queueSize l)
-    → eqb r 0 ≡ queueAllowed l
-value-read l r n e = e ∙ false-or _ ∙ ap queueAllowed (take-all queueSize l (omega arith))
+  pub queue-read : (s e r : ℕ) → s ≡ number at 2 l → e ≡ number (at + enabledAt) 2 l → eqb r 0 ≡ ringSize s e
+      → eqb r 0 ≡ queueAllowed (bytesAt at queueSize l)
+  queue-read s e r x y t = rw (allowed-at, ← x, ← y) t
 
--- the four queues
-none-both : (a b : ℕ) → eqb (bitOr a b) 0 ≡ eqb a 0 and eqb b 0
-none-both a b =
-    let s = or-add-and a b in
-    let x = and-le-l a b in
-    let y = and-le-r a b in
-    by-cases (eqb (bitOr a b) 0)
-    (λ t.
-    let z : bitOr a b ≡ 0 = eqb-true _ _ t in
-    rw t (sym (and-i _ _ (eq-eqb a 0 (omega arith)) (eq-eqb b 0 (omega arith)))))
-    (λ t.
-    let z : bitOr a b ≡ 0 → ⊥ = eqb-false _ _ t in
-    by-cases (eqb a 0)
-    (λ u. let v : a ≡ 0 = eqb-true a 0 u in rw (t, u, ne-eqb b 0 (λ w. z (omega arith))) (sym (true-and _)))
-    (λ u. rw (t, u) (sym (false-and _))))
-
-pub queues-read : (q : ℕ) (l : List ℕ) (a b c d : ℕ)
-    → eqb a 0 ≡ leb q 0 or queueAllowed (bytesAt 45 queueSize l) → eqb b 0 ≡ leb q 1 or queueAllowed (bytesAt 77 queueSize l)
-    → eqb c 0 ≡ leb q 2 or queueAllowed (bytesAt 109 queueSize l) → eqb d 0 ≡ leb q 3 or queueAllowed (bytesAt 141 queueSize l)
-    → eqb (bitOr (bitOr (bitOr a b) c) d) 0 ≡ queuesAllowed q l
-unfolding queuesAllowed offsetOf rows
-queues-read q l a b c d e f g h = rw (none-both (bitOr (bitOr a b) c) d, none-both (bitOr a b) c, none-both a b, e, f, g, h)
+-- a whole value
+pub value-read : (l : List ℕ) (b : Bool) → length l ≡ queueSize → b ≡ queueAllowed (bytesAt 0 queueSize l) → b ≡ queueAllowed l
+value-read l b n e = e ∙ ap queueAllowed (take-all queueSize l (omega arith))
 
 -- ---- the four queues, one by one ----
 
@@ -87,11 +63,55 @@ module _ (q : ℕ) (v : List ℕ) where
       one : (k : ℕ) → k < 4 → leb q k or queueAllowed (queueValue k v) ≡ true
       one k l = by-cases (leb q k) (λ t. rw t (true-or _)) (λ t. rw (f k (leb-false q k t) l) (or-true _))
 
--- all four are allowed, so those that are there are
-pub four-allowed : (q : ℕ) (v : List ℕ) (r : ℕ) → eqb r 0 ≡ queuesAllowed 4 v → r ≡ 0 → true ≡ queuesAllowed q v
-four-allowed q v r e z =
-    let a : queuesAllowed 4 v ≡ true = sym e ∙ eq-eqb r 0 z in
-    sym (all-allowed q v (λ k h l. each-allowed 4 v a k l l))
+-- ---- a loop over those that are there ----
+
+queue-place : (k : ℕ) → k < 4 → offsetOf (queueRow k) ≡ 45 + 32 * k
+unfolding offsetOf rows
+queue-place zero l = refl
+queue-place (suc zero) l = refl
+queue-place (suc (suc zero)) l = refl
+queue-place (suc (suc (suc zero))) l = refl
+queue-place (suc (suc (suc (suc k)))) l = absurd (omega arith)
+
+pub rows-few : (q n : ℕ) → n ≡ queueRows q → n ≤ 4
+unfolding queueRows if_then_else_
+rows-few q n e = rw e (by-cases (ltb q 4) (λ t. rw t (omega (arith, ltb-true q 4 t))) (λ t. rw t (omega arith)))
+
+within-rows : (q k : ℕ) → k < queueRows q → k < q
+unfolding queueRows if_then_else_
+within-rows q k h = by-cases (ltb q 4) (λ t. rw t at h) (λ t. let i : k < 4 = rw t at h in omega (arith, ltb-false q 4 t))
+
+rows-within : (q k : ℕ) → k < q → k < 4 → k < queueRows q
+unfolding queueRows if_then_else_
+rows-within q k h l = by-cases (ltb q 4) (λ t. rw t h) (λ t. rw t l)
+
+-- those below k are allowed, of n that have rows
+module _ (q : ℕ) (v : List ℕ) (n : ℕ) (e : n ≡ queueRows q) where
+  pub each-start : queuesAllowed 0 v ≡ true
+  each-start = all-allowed 0 v (λ k h l. absurd (omega arith))
+
+  module _ (k : ℕ) (a : queuesAllowed k v ≡ true) where
+    module _ (h : k < n) (b : Bool) (d : b ≡ queueAllowed (bytesAt (45 + 32 * k) queueSize v)) where
+      few : k < 4
+      few = omega (arith, rows-few q n e)
+
+      at-place : b ≡ queueAllowed (queueValue k v)
+      at-place = rw (queue-place k few) d
+
+      pub each-stop : not b ≡ true → false ≡ queuesAllowed q v
+      each-stop t =
+          by-cases (queuesAllowed q v)
+          (λ u. let x : true ≡ false = sym (each-allowed q v u k (within-rows q k (rw e at h)) few) ∙ sym at-place ∙ not-true b t in cc)
+          sym
+
+      pub each-on : not b ≡ false → queuesAllowed (k + 1) v ≡ true
+      each-on t = all-allowed (k + 1) v λ j i l.
+          by-cases (eqb j k)
+          (λ u. rw (eqb-true j k u) (sym at-place ∙ not-false b t))
+          (λ u. each-allowed k v a j (omega (arith, eqb-false j k u)) l)
+
+    pub each-end : n ≤ k → true ≡ queuesAllowed q v
+    each-end h = sym (all-allowed q v λ j i l. each-allowed k v a j (omega (arith, rw (← e) at (rows-within q j i l))) l)
 
 -- ---- and as rows of the table ----
 

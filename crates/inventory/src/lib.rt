@@ -2,12 +2,13 @@
 // binds the tables first, since each read of a constant table builds it anew.
 ghost use mathlib.Core.Path.{_≡_};
 ghost use Prim.Native.Nat.{_+_, _*_, _^_, _≤_, _<_};
-ghost use lib.Dec.{leb, eqb};
+ghost use lib.Dec.{eqb};
 ghost use lib.ListN.{length};
-ghost use Rattle.theory.specs.Logic.{_or_, indicator};
+ghost use Rattle.theory.specs.Logic.{indicator};
 ghost use Rattle.theory.specs.Bytes.{bytesAt, put};
+ghost use Rattle.wire.specs.Le.{number};
 ghost use Rattle.inventory.specs.Inventory.{row, rowAt, rowCount, deviceFeatures, offsetOf, present, selectorOf, placeOf, partCount, partsSize, valuesSize};
-ghost use Rattle.inventory.specs.Worked.{nthOf, fieldAt, queueRows};
+ghost use Rattle.inventory.specs.Worked.{nthOf, fieldAt, queueRows, numberBefore, plainQueue, plainQueues};
 ghost use Rattle.inventory.specs.Header.{headerOf, headerSize};
 ghost use Rattle.inventory.specs.Queue.{ringSize, queueSize, queueAllowed, valueAllowed, queuesAllowed};
 
@@ -247,41 +248,29 @@ const QUEUE_SIZE: usize = 32;
 
 const ENABLED_AT: usize = 4;
 
+// The first queue's value among a member's values; those of the others stand one after another.
+const QUEUES_AT: usize = 45;
+
 // The number before 0, in four bytes.
 const BEFORE_ZERO: u64 = 0xffff_ffff;
 
 // The bits that speak against a size and an enabled field: none, if a ring can have them. A size has no bit in common with
 // the number before it exactly if it is a power of two. The enabled field stands above the size, where the number before 0
-// alone has bits. No branch, and fewer instructions than a count of bits.
+// alone has bits.
 fn fault(size: u16, enabled: u16) -> u64
     ensures { λ r. ⌜ eqb r 0 ≡ ringSize size enabled ⌝ }
 {
     (TWO_BYTES * (enabled as u64) + size as u64) & (size as u64 + BEFORE_ZERO)
 }
 
-// Those of the value at a place: none, if it is that of a queue k which a member with so many has not got.
-fn fault_at(queues: u8, k: u8, values: &[u8], at: usize) -> u64
+// Whether the value of a queue that stands at a place is allowed.
+fn is_queue_allowed(values: &[u8], at: usize) -> bool
     requires { ⌜ at + queueSize ≤ length (now values) ⌝ }
-    ensures { λ r. ⌜ eqb r 0 ≡ leb queues k or queueAllowed (bytesAt at queueSize (now (values .entry))) ⌝ }
+    ensures { λ r. ⌜ r ≡ queueAllowed (bytesAt at queueSize (now (values .entry))) ⌝ }
 {
-    if queues <= k {
-        return 0;
-    }
-    fault(
-        wire::read_u16(values, at),
-        wire::read_u16(values, at + ENABLED_AT),
-    )
-}
-
-// Those of all queues, whose values start where OFFSETS says.
-fn faults(queues: u8, values: &[u8]) -> u64
-    requires { ⌜ length (now values) ≡ valuesSize ⌝ }
-    ensures { λ r. ⌜ eqb r 0 ≡ queuesAllowed queues (now (values .entry)) ⌝ }
-{
-    fault_at(queues, 0, values, 45)
-        | fault_at(queues, 1, values, 77)
-        | fault_at(queues, 2, values, 109)
-        | fault_at(queues, 3, values, 141)
+    let size = wire::read_u16(values, at);
+    let enabled = wire::read_u16(values, at + ENABLED_AT);
+    fault(size, enabled) == 0
 }
 
 // Whether a part of this type may have this value.
@@ -294,17 +283,61 @@ pub fn is_value_allowed(t: u16, value: &[u8]) -> bool
     if value.len() != QUEUE_SIZE {
         return true;
     }
-    fault_at(1, 0, value, 0) == 0
+    is_queue_allowed(value, 0)
 }
 
-// Whether the values of a member with so many queues have an allowed one for each. If all four have, which is so but for
-// bytes that no call writes, it does not matter which of them are there.
+// Whether each queue of a member with so many has an allowed value.
+fn is_each_allowed(queues: u8, values: &[u8]) -> bool
+    requires { ⌜ length (now values) ≡ valuesSize ⌝ }
+    ensures { λ r. ⌜ r ≡ queuesAllowed queues (now (values .entry)) ⌝ }
+{
+    let count = queue_rows(queues);
+    let mut k: u8 = 0;
+    while k < count {
+        if !is_queue_allowed(values, QUEUES_AT + QUEUE_SIZE * (k as usize)) {
+            return false;
+        }
+        k += 1;
+    }
+    true
+}
+
+// The number before one, that before 0 with all bits: one subtraction, since the compiler drops the test.
+fn before(n: u64) -> u64
+    ensures { λ r. ⌜ r ≡ numberBefore n ⌝ }
+{
+    if n == 0 {
+        return 0xffff_ffff_ffff_ffff;
+    }
+    n - 1
+}
+
+// The bits that cast doubt on the queue at a place: its first eight bytes, and the number before its size. None, if the size
+// is a power of two, or all eight bytes are 0. One load, and no branch.
+fn doubt(values: &[u8], at: usize) -> u64
+    requires { ⌜ at + queueSize ≤ length (now values) ⌝ }
+    ensures { λ r. ⌜ eqb r 0 ≡ plainQueue (number at 8 (now (values .entry))) ⌝ }
+{
+    let first = wire::read_u64(values, at);
+    first & before(first % TWO_BYTES)
+}
+
+// Those of all queues, whose values start where OFFSETS says.
+fn doubts(values: &[u8]) -> u64
+    requires { ⌜ length (now values) ≡ valuesSize ⌝ }
+    ensures { λ r. ⌜ eqb r 0 ≡ plainQueues (now (values .entry)) ⌝ }
+{
+    doubt(values, 45) | doubt(values, 77) | doubt(values, 109) | doubt(values, 141)
+}
+
+// Whether the values of a member with so many queues have an allowed one for each. If there is no doubt of any of the four,
+// which is so but for a size of 0 beside other bytes, it does not matter which of them are there.
 pub fn are_queues_allowed(queues: u8, values: &[u8]) -> bool
     requires { ⌜ length (now values) ≡ valuesSize ⌝ }
     ensures { λ r. ⌜ r ≡ queuesAllowed queues (now (values .entry)) ⌝ }
 {
-    if faults(4, values) == 0 {
+    if doubts(values) == 0 {
         return true;
     }
-    faults(queues, values) == 0
+    is_each_allowed(queues, values)
 }

@@ -2,7 +2,7 @@
 use mathlib.Core.Path.{_≡_, refl, ap, _∙_}
 use mathlib.Core.List.{List, [], _∷_, _++_}
 use Prim.Native.Nat.{ℕ, zero, suc, _+_, _*_, _/_, _%_, _^_, _≤_, _<_}
-use native.Mathlib.Nat.{zero-add, suc-add, pow-succ'}
+use native.Mathlib.Nat.{zero-add, add-zero, suc-add, pow-succ'}
 use native.Mathlib.Numerals.{add-one}
 use native.Mathlib.Omega.{arith}
 use lib.ListN.{length, getD, take}
@@ -56,6 +56,13 @@ number-step (suc at) n (x ∷ l) = number-step at n l ∙ rw (add-one, add-one)
 
 pub number-byte : (at : ℕ) (l : List ℕ) → number at 1 l ≡ getD l at 0
 number-byte at l = number-step at 0 l ∙ rw number-none (omega arith)
+
+-- the number of some bytes, and above it that of those after them
+pub number-append : (at n m : ℕ) (l : List ℕ) → number at (n + m) l ≡ number at n l + 256 ^ n * number (at + n) m l
+number-append at zero m l = rw (zero-add, number-none, add-zero) (omega arith)
+number-append at (suc n) m l =
+    let e : at + 1 + n ≡ at + suc n = omega arith in
+    rw (suc-add, number-step at (n + m) l, number-append (at + 1) n m l, number-step at n l, pow-succ', e) (omega arith)
 
 -- of bytes, each below 256
 module _ (l : List ℕ) (small : (i : ℕ) → getD l i 0 < 256) where
