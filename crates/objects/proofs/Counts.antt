@@ -2,18 +2,19 @@
 -- so far. Assumes nothing.
 use mathlib.Core.Path.{_≡_, refl, ap, sym, _∙_}
 use mathlib.Core.Bool.{Bool, true, false, not}
-use mathlib.Core.List.{List, [], _∷_, map}
+use mathlib.Core.List.{List, [], _∷_, _++_, map}
 use Prim.Native.Nat.{ℕ, zero, suc, _+_, _-_, _/_, _%_, _≤_, _<_}
 use native.Mathlib.Omega.{arith}
 use lib.Dec.{leb, ltb, eqb}
 use native.Mathlib.Numerals.{add-one}
-use lib.ListN.{length, getD, drop-of-length-le, drop, set, replicate}
-use lib.Seq.{drop-cons, drop-set-lt, drop-set-add}
-use borrow.Author.Tests.{leb-true, le-leb, ne-eqb, not-false}
+use native.Mathlib.Nat.{zero-add, suc-add}
+use lib.ListN.{length, getD, take, drop-of-length-le, drop, set, replicate, length-append, length-replicate}
+use lib.Seq.{drop-cons, drop-set-lt, drop-set-add, drop-append-le, take-append-add}
+use borrow.Author.Tests.{leb-true, le-leb, ne-eqb, not-true, not-false}
 use Rattle.theory.specs.Logic.{_and_, indicator}
-use Rattle.theory.proofs.Tests.{by-cases, both, and-i, and-true, and-assoc, indicator-false, indicator-le, tests}
-use Rattle.objects.specs.Objects.{objectsSize}
-use Rattle.objects.specs.Objects.{count, allUpTo, withinLimits}
+use Rattle.theory.specs.Bytes.{bytesAt}
+use Rattle.theory.proofs.Tests.{by-cases, both, and-i, and-true, true-and, and-false, false-and, and-assoc, indicator-false, indicator-le, tests}
+use Rattle.objects.specs.Objects.{objectsSize, count, allUpTo, allWithin, mostOf, withinLimits}
 
 pub map-set : {A B : Type 0} (f : A → B) (l : List A) (i : ℕ) (x : A) → map f (set l i x) ≡ set (map f l) i (f x)
 map-set f [] i x = refl
@@ -97,10 +98,6 @@ half-indicator (suc zero) h = refl
 half-indicator (suc (suc zero)) h = refl
 half-indicator (suc (suc (suc b))) h = omega arith
 
--- what a test of all bytes found
-pub all-found : (n : ℕ) (bs : List ℕ) (b : Bool) → b ≡ allUpTo n (drop 0 bs) → not b ≡ false → allUpTo n bs ≡ true
-all-found n bs b e h = sym e ∙ not-false b h
-
 pub all-at : (n : ℕ) (bs : List ℕ) (i : ℕ) → allUpTo n bs ≡ true → getD bs i 0 ≤ n
 unfolding allUpTo
 all-at n [] i e = omega arith
@@ -110,14 +107,86 @@ all-at n (b ∷ bs) (suc i) e = all-at n bs i (both _ _ e .1)
 pub adds-at-most-one : (t : Bool) (h : ℕ) → h ≡ indicator t → h ≤ 1
 adds-at-most-one t h e = rw e (indicator-le t)
 
--- ---- a loop that tests each byte from a place on ----
+-- ---- loops that test each byte ----
 
 -- all is what was found of those before i
-module _ (n from : ℕ) (bs : List ℕ) (i : ℕ) (all : Bool) (e : allUpTo n (drop from bs) ≡ all and allUpTo n (drop i bs)) where
-  pub up-to-on : (x : Bool) → x ≡ all and leb (getD bs i 0) n → i < length bs → allUpTo n (drop from bs) ≡ x and allUpTo n (drop (i + 1) bs)
+module _ (n : ℕ) (bs : List ℕ) (i : ℕ) (all : Bool) (e : allUpTo n bs ≡ all and allUpTo n (drop i bs)) where
+  pub up-to-on : (x : Bool) → x ≡ all and leb (getD bs i 0) n → i < length bs → allUpTo n bs ≡ x and allUpTo n (drop (i + 1) bs)
   unfolding allUpTo
   up-to-on x q a = e ∙ rw (drop-cons bs i 0 a, add-one i, q, and-assoc)
 
-  pub up-to-end : length bs ≤ i → all ≡ allUpTo n (drop from bs)
+  pub up-to-end : length bs ≤ i → all ≡ allUpTo n bs
   unfolding allUpTo
   up-to-end a = sym (e ∙ rw (drop-of-length-le bs a) (and-true all))
+
+module _ (ns bs : List ℕ) (k : ℕ) (l : length ns ≡ k) (m : length bs ≡ k) (i : ℕ) (all : Bool)
+    (e : allWithin ns bs ≡ all and allWithin (drop i ns) (drop i bs)) where
+  pub within-on : (x : Bool) → x ≡ all and leb (getD bs i 0) (getD ns i 0) → i < k
+      → allWithin ns bs ≡ x and allWithin (drop (i + 1) ns) (drop (i + 1) bs)
+  unfolding allWithin
+  within-on x q a = e ∙ rw (drop-cons ns i 0 (omega arith), drop-cons bs i 0 (omega arith), add-one i, q, and-assoc)
+
+  pub within-end : k ≤ i → all ≡ allWithin ns bs
+  unfolding allWithin
+  within-end a = let h : length ns ≤ i = omega arith in sym (e ∙ rw (drop-of-length-le ns h) (and-true all))
+
+-- ---- both tests at once ----
+
+-- a byte that is 0 is at most 2 too
+all-free : (bs : List ℕ) → allWithin (replicate (length bs) 0) bs ≡ allUpTo 2 bs and allUpTo 0 bs
+unfolding allWithin allUpTo
+all-free [] = sym (true-and true)
+all-free (b ∷ bs) =
+    by-cases (leb b 0)
+    (λ t. rw (t, le-leb b 2 (omega (arith, leb-true b 0 t)), true-and, true-and, true-and) (all-free bs))
+    (λ t. rw (t, false-and, false-and) (sym (and-false _)))
+
+within-most : (ids n : ℕ) (bs : List ℕ) → length bs ≡ ids + n
+    → allWithin (replicate ids 2 ++ replicate n 0) bs ≡ allUpTo 2 bs and allUpTo 0 (drop ids bs)
+unfolding allWithin allUpTo
+within-most zero n bs h = let e : n ≡ length bs = omega arith in rw e (all-free bs)
+within-most (suc ids) n [] h = absurd (omega arith)
+within-most (suc ids) n (b ∷ bs) h = rw (within-most ids n bs (omega arith)) (sym (and-assoc _ _ _))
+
+module _ (ids : ℕ) (most bs : List ℕ) (h : ids ≤ objectsSize) (e : most ≡ mostOf ids) (n : length bs ≡ objectsSize) where
+  pub length-most : length most ≡ objectsSize
+  unfolding mostOf
+  length-most = rw (e, length-append, length-replicate, length-replicate) (omega arith)
+
+  module _ (b : Bool) (q : b ≡ allWithin most bs) where
+    both-tests : b ≡ allUpTo 2 bs and allUpTo 0 (drop ids bs)
+    unfolding mostOf
+    both-tests = q ∙ rw e (within-most ids (objectsSize - ids) bs (omega arith))
+
+    pub bad-within : not b ≡ true → (x : Bool) → false ≡ allUpTo 2 bs and allUpTo 0 (drop ids bs) and x
+    bad-within t x = rw (← both-tests, not-true b t) (sym (false-and x))
+
+    module _ (t : not b ≡ false) where
+      pub all-low : allUpTo 2 bs ≡ true
+      all-low = both _ _ (sym both-tests ∙ not-false b t) .0
+
+      pub limits-last : (x y : Bool) → x ≡ y → x ≡ allUpTo 2 bs and allUpTo 0 (drop ids bs) and y
+      limits-last x y d = rw (← both-tests, not-false b t) (d ∙ sym (true-and y))
+
+-- a window of the table is that for so many ids
+drop-replicate : (k n x : ℕ) → drop k (replicate (k + n) x) ≡ replicate n x
+drop-replicate zero n x = rw zero-add
+drop-replicate (suc k) n x = rw suc-add (drop-replicate k n x)
+
+take-replicate : (k n x : ℕ) → take k (replicate (k + n) x) ≡ replicate k x
+take-replicate zero n x = refl
+take-replicate (suc k) n x = rw suc-add (ap (x ∷_) (take-replicate k n x))
+
+window : (k ids x y : ℕ) → take (ids + k) (drop k (replicate (k + ids) x ++ replicate (k + ids) y)) ≡ replicate ids x ++ replicate k y
+window k ids x y =
+    let l : k ≤ length (replicate (k + ids) x) = rw length-replicate (omega arith) in
+    let t = take-append-add (replicate ids x) (replicate (k + ids) y) k in
+    rw (drop-append-le k (replicate (k + ids) x) (replicate (k + ids) y) l, drop-replicate) (rw (length-replicate, take-replicate) at t)
+
+pub most-window : (ids at : ℕ) → ids ≤ objectsSize → at ≡ objectsSize - ids
+    → bytesAt at objectsSize (replicate objectsSize 2 ++ replicate objectsSize 0) ≡ mostOf ids
+unfolding mostOf
+most-window ids at h e =
+    let k : at + ids ≡ objectsSize = omega arith in
+    let l : ids + at ≡ objectsSize = omega arith in
+    rw (← e) (rw (k, l) at (window at ids 2 0))

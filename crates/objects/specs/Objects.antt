@@ -1,8 +1,9 @@
 -- Resource objects, SPEC 4.3, as bytes and records, and how many there are. Assumes nothing.
 use mathlib.Core.Bool.{Bool, true}
-use mathlib.Core.List.{List, [], _∷_}
-use Prim.Native.Nat.{ℕ, zero, suc, _+_}
+use mathlib.Core.List.{List, [], _∷_, _++_}
+use Prim.Native.Nat.{ℕ, zero, suc, _+_, _-_}
 use lib.Dec.{leb, eqb}
+use lib.ListN.{replicate}
 use Rattle.theory.specs.Logic.{_and_, indicator}
 use Rattle.protocol.specs.declared.ObjectKind.{ObjectKind}
 use Rattle.protocol.specs.declared.ObjectKind.the-variants as kind
@@ -57,6 +58,16 @@ count v (b ∷ bs) = indicator (eqb b v) + count v bs
 unfoldable pub allUpTo : ℕ → List ℕ → Bool
 allUpTo n [] = true
 allUpTo n (b ∷ bs) = leb b n and allUpTo n bs
+
+-- each byte is at most the number beside it
+unfoldable pub allWithin : List ℕ → List ℕ → Bool
+allWithin [] bs = true
+allWithin (n ∷ ns) [] = true
+allWithin (n ∷ ns) (b ∷ bs) = leb b n and allWithin ns bs
+
+-- the most that the object bytes may be, where so many are those of ids: 2, and 0 for the others
+unfoldable pub mostOf : ℕ → List ℕ
+mostOf ids = replicate ids 2 ++ replicate (objectsSize - ids) 0
 
 -- at most G get and S set objects
 unfoldable pub withinLimits : ℕ → ℕ → List ℕ → Bool

@@ -6,11 +6,47 @@ ghost use Prim.Native.Nat.{_+_, _≤_, _<_};
 ghost use lib.Dec.{leb, eqb};
 ghost use lib.ListN.{length, drop, set};
 ghost use Rattle.theory.specs.Logic.{_and_, indicator};
-ghost use Rattle.objects.specs.Objects.{objectsSize, objectOf, objectByte, free, slotFor, foundIn, count, allUpTo, withinLimits};
+ghost use Rattle.objects.specs.Objects.{objectsSize, objectOf, objectByte, free, slotFor, foundIn, count, allUpTo, allWithin, mostOf, withinLimits};
 use protocol::ObjectKind;
 
 // One object record for each id that any setup allows: G + S is at most 16.
 pub const IDS: usize = 16;
+
+// The most that the bytes of sixteen ids may be, then of sixteen that are no ids: from entry 16 - n on, where n are ids.
+pub const MOST: [u8; 32] = [
+    2,
+    2,
+    2,
+    2,
+    2,
+    2,
+    2,
+    2,
+    2,
+    2,
+    2,
+    2,
+    2,
+    2,
+    2,
+    2,
+    0,
+    0,
+    0,
+    0,
+    0,
+    0,
+    0,
+    0,
+    0,
+    0,
+    0,
+    0,
+    0,
+    0,
+    0,
+    0,
+];
 
 // What one object id holds.
 pub enum Slot {
@@ -118,12 +154,12 @@ fn still_up_to(all: bool, b: u8, n: u8) -> bool
     if b <= n { all } else { false }
 }
 
-// Whether each byte from an id on is at most n: every one is looked at, the loop has no early exit.
-pub fn are_up_to(n: u8, from: usize, bytes: &[u8]) -> bool
-    ensures { λ r. ⌜ r ≡ allUpTo n (drop from (now (bytes .entry))) ⌝ }
+// Whether each byte is at most n: every one is looked at, the loop has no early exit.
+pub fn are_up_to(n: u8, bytes: &[u8]) -> bool
+    ensures { λ r. ⌜ r ≡ allUpTo n (now (bytes .entry)) ⌝ }
 {
     let mut all = true;
-    let mut i = from;
+    let mut i = 0;
     while i < bytes.len() {
         all = still_up_to(all, bytes[i], n);
         i += 1;
@@ -131,14 +167,27 @@ pub fn are_up_to(n: u8, from: usize, bytes: &[u8]) -> bool
     all
 }
 
-pub fn are_objects_sound(bytes: &[u8], gets: u8, sets: u8) -> bool
-    requires { ⌜ length (now bytes) ≡ objectsSize ⌝ }
+// Whether each byte is at most the number beside it.
+fn are_within(most: &[u8], bytes: &[u8]) -> bool
+    requires { ⌜ (length (now most) ≡ objectsSize) × (length (now bytes) ≡ objectsSize) ⌝ }
+    ensures { λ r. ⌜ r ≡ allWithin (now (most .entry)) (now (bytes .entry)) ⌝ }
+{
+    let mut all = true;
+    let mut i = 0;
+    while i < IDS {
+        all = still_up_to(all, bytes[i], most[i]);
+        i += 1;
+    }
+    all
+}
+
+// Most holds what each byte may be at most, in a card with so many get and set objects: a part of MOST, which is the same
+// for all members.
+pub fn are_objects_sound(bytes: &[u8], most: &[u8], gets: u8, sets: u8) -> bool
+    requires { ⌜ (length (now bytes) ≡ objectsSize) × (gets + sets ≤ objectsSize) × (now most ≡ mostOf (gets + sets)) ⌝ }
     ensures { λ r. ⌜ r ≡ allUpTo 2 (now (bytes .entry)) and allUpTo 0 (drop (gets + sets) (now (bytes .entry))) and withinLimits gets sets (now (bytes .entry)) ⌝ }
 {
-    if !are_up_to(2, 0, bytes) {
-        return false;
-    }
-    if !are_up_to(0, gets as usize + sets as usize, bytes) {
+    if !are_within(most, bytes) {
         return false;
     }
     is_within_limits(bytes, gets, sets)

@@ -11,10 +11,10 @@ use Rattle.objects.proofs.are_up_to.Statement.{statement}
 use Rattle.objects.proofs.are_up_to.Tie as tie
 
 abbrev Inv-loop : tie.InvT-loop
-Inv-loop n from bytes all₀ i₀ all i = allUpTo n (drop from bytes) ≡ all and allUpTo n (drop i bytes)
+Inv-loop n bytes all₀ i₀ all i = allUpTo n bytes ≡ all and allUpTo n (drop i bytes)
 
 abbrev μ-loop : tie.MeasureT-loop
-μ-loop n from bytes all₀ i₀ all i = length bytes - i
+μ-loop n bytes all₀ i₀ all i = length bytes - i
 
 pub are-up-to-spec : {M : Type 1} → statement M
 are-up-to-spec =
