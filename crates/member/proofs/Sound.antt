@@ -3,18 +3,19 @@
 use mathlib.Core.Path.{_≡_, refl, ap, sym, _∙_}
 use mathlib.Core.Bool.{Bool, true, false, not}
 use mathlib.Core.List.{List, _++_, map}
-use Prim.Native.Nat.{ℕ, zero, suc, _+_, _-_, _≤_, _<_}
+use Prim.Native.Nat.{ℕ, zero, suc, _+_, _-_, _*_, _≤_, _<_}
 use native.Mathlib.Omega.{arith}
 use lib.Dec.{leb, eqb}
 use lib.ListN.{length, getD, drop, replicate}
 use lib.Seq.{take-at, drop-set-lt, drop-append-add}
-use borrow.Author.Tests.{not-true, not-false, leb-true, le-leb, lt-leb, eqb-true}
+use borrow.Author.Tests.{not-true, not-false, leb-true, le-leb, lt-leb, eqb-true, eq-eqb}
 use Rattle.theory.specs.Logic.{_and_, _or_, indicator, within}
 use Rattle.theory.specs.Bytes.{bytesAt, same}
-use Rattle.theory.proofs.Tests.{by-cases, both, either, and-i, and-true, and-assoc, and-false, false-and, same-true, eq-same}
+use Rattle.theory.proofs.Tests.{by-cases, both, either, and-i, true-and, and-true, and-assoc, and-false, false-and, true-or, false-or, inside, same-true, eq-same}
 use Rattle.theory.proofs.Bytes.{bytesAt-bytesAt}
 use Rattle.theory.proofs.Ladder.{ladder}
 use Rattle.wire.specs.Le.{le, number}
+use Rattle.wire.proofs.Le.{number-none, number-step}
 use Rattle.inventory.specs.Inventory.{valuesSize, offsetOf, rows}
 use Rattle.inventory.specs.Queue.{powerBelow, ringSize, queueSize, queueAllowed, valueAllowed, queueValue, queuesAllowed}
 use Rattle.inventory.proofs.Queue.{all-allowed}
@@ -33,7 +34,7 @@ use Rattle.member.specs.declared.Member.{Member}
 use Rattle.member.specs.Record.{modeAt, markAt, queuesAt, heldAt, valuesAt, memberSize, holdingSize, objectBytes, memberOf, memberBytes}
 use Rattle.member.specs.Objects.{roomIn, withObject}
 use Rattle.member.specs.Member.{featuresSize, freshOf, featuresIn, withMode, withValues, withHeld, handedBack, withPart}
-use Rattle.member.specs.Sound.{soundMark, soundFront, soundRecord}
+use Rattle.member.specs.Sound.{soundEnd, soundMark, soundFront, soundRecord}
 use Rattle.member.proofs.Record.{Shaped, fresh-shaped, mode-low, record-mode, record-mark, record-queues, record-held, record-objects, record-values, values-last, member-shaped, shaped-mode, shaped-values, shaped-held, shaped-object}
 
 -- what a marked member is: stopped, with no holding place and no live object
@@ -47,13 +48,13 @@ impossible m e = record { stopped = cc; noPlace = cc; noObjects = cc }
 
 -- the test of a mark says so, and back
 mark-sound : (m : Member) → Shaped m → (m .marked ≡ true → Ended m) → soundMark (memberBytes m) ≡ true
-unfolding soundMark indicator _and_ _or_
+unfolding soundMark soundEnd indicator _and_ _or_
 mark-sound m h f =
     rw (record-mark m h, record-mode m h, record-held m h, record-objects m h)
     (by-cases (m .marked) (λ t. let e = f t in rw (t, e .stopped, e .noPlace, e .noObjects)) (λ t. rw t))
 
 sound-mark : (r : List ℕ) → soundMark r ≡ true → map objectByte (map objectOf (objectBytes r)) ≡ objectBytes r → memberOf r .marked ≡ true → Ended (memberOf r)
-unfolding soundMark memberOf
+unfolding soundMark soundEnd memberOf
 sound-mark r e os t =
     either _ _ e (λ z. impossible (memberOf r) (sym (ap (λ n. eqb n 1) (eqb-true (getD r markAt 0) 0 z)) ∙ t)) λ y.
     let p = both _ _ y in
@@ -216,33 +217,73 @@ module _ (gets sets : ℕ) (features : List ℕ) where
             allowed = s .allowed;
           }
 
--- ---- the test, one step after the other; what the front has is tested last ----
+-- ---- the front: mode and mark as one number ----
 
-module _ (gets sets : ℕ) (features r : List ℕ) (held : ℕ) (g : held ≡ number heldAt 2 r) where
-  pub bad-held : 1 + holdingSize < held → false ≡ soundRecord gets sets features r
+-- what was handed back is marked and stopped
+unmarked-end : (r : List ℕ) → getD r markAt 0 ≡ 0 → soundEnd r ≡ false
+unfolding soundEnd
+unmarked-end r e = rw e (simp false-and)
+
+end-stopped : (r : List ℕ) → soundEnd r ≡ true → getD r modeAt 0 ≤ 1
+unfolding soundEnd
+end-stopped r e = omega (arith, eqb-true (getD r modeAt 0) 1 (both _ _ (both _ _ (both _ _ e .0) .0) .1))
+
+module _ (r : List ℕ) (n : ℕ) (e : n ≡ number modeAt 2 r) where
+  in-one : n ≡ getD r modeAt 0 + 256 * getD r markAt 0
+  in-one = e ∙ rw (number-step, number-step, number-none) (omega arith)
+
+  front-counted : within 1 4 (getD r queuesAt 0) ≡ true → leb (getD r modeAt 0) 1 and soundMark r ≡ soundFront r
+  unfolding soundFront
+  front-counted h = rw (h, and-true)
+
+  module _ (low : 1 ≤ getD r queuesAt 0) (high : getD r queuesAt 0 ≤ 4) where
+    pub front-unmarked : n ≤ 1 → true ≡ soundFront r
+    unfolding soundMark
+    front-unmarked h =
+        let mode : getD r modeAt 0 ≤ 1 = omega (arith, in-one) in
+        let mark : getD r markAt 0 ≡ 0 = omega (arith, in-one) in
+        rw (← front-counted (inside 1 4 _ low high), le-leb _ _ mode, eq-eqb _ _ mark) (simp (true-or, true-and))
+
+    pub front-marked : 1 < n → (b : Bool) → b ≡ soundEnd r → b ≡ soundFront r
+    unfolding soundMark
+    front-marked h b d =
+        rw (← front-counted (inside 1 4 _ low high), ← d) (by-cases (eqb (getD r markAt 0) 0)
+        (λ t.
+        let mark : getD r markAt 0 ≡ 0 = eqb-true _ _ t in
+        let mode : 1 < getD r modeAt 0 = omega (arith, in-one) in
+        rw (lt-leb _ _ mode, false-and) (d ∙ unmarked-end r mark))
+        (λ t. rw (t, false-or) (by-cases b (λ u. rw (u, le-leb _ _ (end-stopped r (sym d ∙ u))) (sym (true-and true))) (λ u. rw u (sym (and-false _))))))
+
+-- ---- the test, one step after the other ----
+
+module _ (gets sets : ℕ) (features r : List ℕ) where
+  abbrev soundObjects : List ℕ → Bool
+  soundObjects os = allUpTo 2 os and allUpTo 0 (drop (gets + sets) os) and withinLimits gets sets os
+
+  steps : soundFront r and (leb (number heldAt 2 r) (1 + holdingSize)
+      and (soundObjects (objectBytes r) and (same (bytesAt valuesAt featuresSize r) features and queuesAllowed (getD r queuesAt 0) (bytesAt valuesAt valuesSize r))))
+      ≡ soundRecord gets sets features r
   unfolding soundRecord
-  bad-held h = rw (← g, lt-leb _ _ h) (simp (false-and, and-false))
+  steps = simp and-assoc
 
-  module _ (bs : List ℕ) (b : Bool) (p : bs ≡ objectBytes r) (q : b ≡ allUpTo 2 bs and allUpTo 0 (drop (gets + sets) bs) and withinLimits gets sets bs) where
-    steps : soundFront r and (leb held (1 + holdingSize)
-        and (b and (same (bytesAt valuesAt featuresSize r) features and queuesAllowed (getD r queuesAt 0) (bytesAt valuesAt valuesSize r))))
-        ≡ soundRecord gets sets features r
-    unfolding soundRecord
-    steps = rw (q, p, g) (simp and-assoc)
+  module _ (f : Bool) (ef : f ≡ same (bytesAt valuesAt featuresSize r) features) where
+    pub bad-features : not f ≡ true → false ≡ soundRecord gets sets features r
+    bad-features h = rw (← steps, ← ef, not-true f h) (simp (false-and, and-false))
 
-    pub bad-objects : not b ≡ true → false ≡ soundRecord gets sets features r
-    bad-objects h = rw (← steps, not-true b h) (simp (false-and, and-false))
-
-    module _ (f : Bool) (ef : f ≡ same (bytesAt valuesAt featuresSize r) features) where
-      pub bad-features : not f ≡ true → false ≡ soundRecord gets sets features r
-      bad-features h = rw (← steps, ← ef, not-true f h) (simp (false-and, and-false))
+    module _ (x : Bool) (ex : x ≡ soundFront r) where
+      pub bad-front : not x ≡ true → false ≡ soundRecord gets sets features r
+      bad-front h = rw (← steps, ← ex, not-true x h) (sym (false-and _))
 
       module _ (z : Bool) (ez : z ≡ queuesAllowed (getD r queuesAt 0) (bytesAt valuesAt valuesSize r)) where
         pub bad-queues : not z ≡ true → false ≡ soundRecord gets sets features r
         bad-queues h = rw (← steps, ← ez, not-true z h) (simp and-false)
 
-        pub front-last : held ≤ 1 + holdingSize → not b ≡ false → not f ≡ false → not z ≡ false → (x : Bool) → x ≡ soundFront r
-            → x ≡ soundRecord gets sets features r
-        unfolding _and_
-        front-last k h i j x e =
-            rw (← steps, le-leb _ _ k, not-false b h, ← ef, not-false f i, ← ez, not-false z j) (e ∙ sym (and-true (soundFront r)))
+        module _ (held : ℕ) (g : held ≡ number heldAt 2 r) where
+          pub bad-held : 1 + holdingSize < held → false ≡ soundRecord gets sets features r
+          bad-held h = rw (← steps, ← g, lt-leb _ _ h) (simp (false-and, and-false))
+
+          pub objects-last : not f ≡ false → not x ≡ false → not z ≡ false → held ≤ 1 + holdingSize
+              → (os : List ℕ) (b : Bool) → os ≡ objectBytes r → b ≡ soundObjects os → b ≡ soundRecord gets sets features r
+          unfolding _and_
+          objects-last h i j k os b p q =
+              rw (← steps, ← ex, not-false x i, ← g, le-leb _ _ k, ← ef, not-false f h, ← ez, not-false z j, ← p) (q ∙ sym (and-true _))

@@ -13,11 +13,13 @@ use Rattle.objects.specs.Objects.{allUpTo, withinLimits}
 use Rattle.member.specs.Record.{modeAt, markAt, queuesAt, objectBytes, heldAt, valuesAt, holdingSize}
 use Rattle.member.specs.Member.{featuresSize}
 
--- its mark is 0, or it is 1 and the member is stopped with no holding place and no live object (02, request 10)
+-- its mark is 1, and the member is stopped with no holding place and no live object (02, request 10)
+unfoldable pub soundEnd : List ℕ → Bool
+soundEnd r = eqb (getD r markAt 0) 1 and eqb (getD r modeAt 0) 1 and eqb (number heldAt 2 r) 0 and allUpTo 0 (objectBytes r)
+
+-- its mark is 0, or it is as it was handed back
 unfoldable pub soundMark : List ℕ → Bool
-soundMark r =
-    eqb (getD r markAt 0) 0
-    or (eqb (getD r markAt 0) 1 and eqb (getD r modeAt 0) 1 and eqb (number heldAt 2 r) 0 and allUpTo 0 (objectBytes r))
+soundMark r = eqb (getD r markAt 0) 0 or soundEnd r
 
 -- its mode and its mark have a meaning, and it has 1 to 4 queues (02, request 9)
 unfoldable pub soundFront : List ℕ → Bool

@@ -9,11 +9,11 @@ ghost use Rattle.inventory.specs.Inventory.{valuesSize};
 ghost use Rattle.parts.specs.declared.ListForm.the-variants.{Parts};
 ghost use Rattle.parts.specs.List.{partsOf};
 ghost use Rattle.values.specs.Apply.{applied};
-ghost use Rattle.objects.specs.Objects.{objectByte, objectsSize};
+ghost use Rattle.objects.specs.Objects.{objectByte, objectsSize, mostOf};
 ghost use Rattle.member.specs.Record.{modeAt, markAt, queuesAt, objectsAt, valuesAt, memberSize, modeByte, objectBytes, memberOf, memberBytes};
 ghost use Rattle.member.specs.Objects.{lookupOf, withObject, roomIn};
 ghost use Rattle.member.specs.Member.{freshOf, withMode, withValues, withHeld, handedBack, withPart};
-ghost use Rattle.member.specs.Sound.{soundMark, soundFront, soundRecord};
+ghost use Rattle.member.specs.Sound.{soundEnd, soundFront, soundRecord};
 use objects::Found;
 use objects::IDS;
 use objects::ObjectRecord;
@@ -241,14 +241,11 @@ pub fn queues_of(bytes: &[u8]) -> u8
     bytes[QUEUES_AT]
 }
 
-// No mark, or that of a member which is stopped with no holding place and no live object.
-fn is_mark_sound(bytes: &[u8]) -> bool
+// The mark of a member that is stopped with no holding place and no live object.
+fn is_end_sound(bytes: &[u8]) -> bool
     requires { ⌜ length (now bytes) ≡ memberSize ⌝ }
-    ensures { λ r. ⌜ r ≡ soundMark (now (bytes .entry)) ⌝ }
+    ensures { λ r. ⌜ r ≡ soundEnd (now (bytes .entry)) ⌝ }
 {
-    if bytes[MARK_AT] == 0 {
-        return true;
-    }
     if bytes[MARK_AT] != 1 {
         return false;
     }
@@ -258,43 +255,45 @@ fn is_mark_sound(bytes: &[u8]) -> bool
     if wire::read_u16(bytes, HELD_AT) != 0 {
         return false;
     }
-    objects::are_up_to(0, 0, &bytes[OBJECTS_AT..HELD_AT])
+    objects::are_up_to(0, &bytes[OBJECTS_AT..HELD_AT])
 }
 
-// The mode, the queue count and the mark.
+// The mode, the queue count and the mark. Mode and mark are one number, at most 1 if there is no mark.
 fn is_front_sound(bytes: &[u8]) -> bool
     requires { ⌜ length (now bytes) ≡ memberSize ⌝ }
     ensures { λ r. ⌜ r ≡ soundFront (now (bytes .entry)) ⌝ }
 {
-    if 1 < bytes[MODE_AT] {
-        return false;
-    }
     if bytes[QUEUES_AT] < 1 {
         return false;
     }
     if 4 < bytes[QUEUES_AT] {
         return false;
     }
-    is_mark_sound(bytes)
+    if wire::read_u16(bytes, MODE_AT) <= 1 {
+        return true;
+    }
+    is_end_sound(bytes)
 }
 
-pub fn is_sound_record(bytes: &[u8], gets: u8, sets: u8, features: &[u8]) -> bool
-    requires { ⌜ length (now bytes) ≡ memberSize ⌝ }
+// Most holds what each object byte may be at most: see objects. The order of the tests decides which of them the compiler
+// makes vector instructions.
+pub fn is_sound_record(bytes: &[u8], gets: u8, sets: u8, most: &[u8], features: &[u8]) -> bool
+    requires { ⌜ (length (now bytes) ≡ memberSize) × (gets + sets ≤ objectsSize) × (now most ≡ mostOf (gets + sets)) ⌝ }
     ensures { λ r. ⌜ r ≡ soundRecord gets sets (now (features .entry)) (now (bytes .entry)) ⌝ }
 {
-    if HELD_MOST < wire::read_u16(bytes, HELD_AT) {
-        return false;
-    }
-    if !objects::are_objects_sound(&bytes[OBJECTS_AT..HELD_AT], gets, sets) {
-        return false;
-    }
     if !wire::equal(&bytes[VALUES_AT..FEATURES_END], features) {
+        return false;
+    }
+    if !is_front_sound(bytes) {
         return false;
     }
     if !inventory::are_queues_allowed(bytes[QUEUES_AT], &bytes[VALUES_AT..MEMBER_SIZE]) {
         return false;
     }
-    is_front_sound(bytes)
+    if HELD_MOST < wire::read_u16(bytes, HELD_AT) {
+        return false;
+    }
+    objects::are_objects_sound(&bytes[OBJECTS_AT..HELD_AT], most, gets, sets)
 }
 
 // ---- from a member's bytes to the member ----
