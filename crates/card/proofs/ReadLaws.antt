@@ -2,18 +2,20 @@
 -- a need asks it. Assumes nothing.
 use mathlib.Core.Path.{_≡_, refl, sym, _∙_}
 use mathlib.Core.Bool.{Bool, true, false, not}
-use mathlib.Core.List.{List}
+use mathlib.Core.List.{List, _++_}
 use Prim.Native.Nat.{ℕ, zero, suc, _+_, _*_, _-_, _≤_, _<_}
 use native.Mathlib.Nat.{add-sub-cancel-left, add-zero}
 use native.Mathlib.Omega.{arith}
 use borrow.Author.Tests.{not-true, not-false, eqb-true, ne-eqb}
 use lib.Dec.{leb, eqb}
-use lib.ListN.{length, getD}
+use lib.ListN.{length, getD, replicate}
 use Rattle.theory.specs.Logic.{_and_}
 use Rattle.theory.specs.Bytes.{bytesAt, put}
 use Rattle.theory.proofs.Tests.{true-and, false-and}
 use Rattle.theory.proofs.Bytes.{length-bytesAt, put-all}
 use Rattle.theory.proofs.Ladder.{last-end}
+use Rattle.objects.specs.Objects.{objectsSize, mostOf}
+use Rattle.objects.proofs.Counts.{most-window}
 use Rattle.member.specs.declared.Member.{Member}
 use Rattle.member.specs.Record.{memberSize, memberOf}
 use Rattle.member.specs.Member.{featuresSize}
@@ -21,8 +23,9 @@ use Rattle.member.specs.Sound.{soundRecord}
 use Rattle.card.specs.declared.Setup.{Setup}
 use Rattle.card.specs.Layout.{featuresAt, cardHeaderSize, memberBytesAt, recordSize, cardSize, setupOf, isMember, recordAt, HasRecord, recordBytes, memberBytesIn, memberIn}
 use Rattle.setups.specs.Setup.{inRanges}
-use Rattle.card.specs.Sound.{soundSetup, soundFor, soundUpTo}
+use Rattle.card.specs.Sound.{soundSetup, IsMost, soundFor, soundUpTo}
 use Rattle.card.proofs.LayoutLaws.{bytes-long, setup-read, members-read, gets-read, sets-read, features-read}
+use Rattle.card.proofs.SoundLaws.{numbers-of}
 
 -- ---- the header ----
 
@@ -76,6 +79,25 @@ module _ (c : List ℕ) (at : ℕ) where
   pub place-tested : (t : Bool) → cardHeaderSize ≤ length c
       → t ≡ soundRecord (getD c 1 0) (getD c 2 0) (bytesAt featuresAt featuresSize c) (bytesAt at (at + memberSize - at) c) → t ≡ soundFor (setupOf c) (bytesAt at memberSize c)
   place-tested t h q = q ∙ rw (add-sub-cancel-left at memberSize, gets-read c, sets-read c, features-read c (omega arith))
+
+-- ---- what the object bytes may be at most ----
+
+module _ (c : List ℕ) where
+  module _ (g s : ℕ) (eg : g ≡ getD c 1 0) (es : s ≡ getD c 2 0) (h : soundSetup (setupOf c) ≡ true) where
+    pub few-ids : g + s ≤ objectsSize
+    few-ids = let n = numbers-of _ h in rw (eg, es, gets-read c, sets-read c) (omega (arith, n .fewGets, n .fewSets))
+
+    pub window-most : (at : ℕ) → at ≡ objectsSize - (g + s)
+        → IsMost (setupOf c) (bytesAt at (at + objectsSize - at) (replicate objectsSize 2 ++ replicate objectsSize 0))
+    window-most at e =
+        rw (← gets-read c, ← sets-read c, ← eg, ← es, add-sub-cancel-left at objectsSize) (few-ids, most-window (g + s) at few-ids e)
+
+  module _ (most : List ℕ) (i : IsMost (setupOf c) most) where
+    pub place-ids : getD c 1 0 + getD c 2 0 ≤ objectsSize
+    place-ids = rw (gets-read c, sets-read c) (i .0)
+
+    pub place-most : most ≡ mostOf (getD c 1 0 + getD c 2 0)
+    place-most = rw (gets-read c, sets-read c) (i .1)
 
 -- ---- the pass over the members ----
 

@@ -1,19 +1,19 @@
--- `card::are_members_sound` meets its contract. The invariant: what is left of the members decides. Assumes nothing.
+-- `card::are_members_sound` meets its contract. Assumes nothing.
+use mathlib.Core.Path.{refl}
 use borrow.Author.Needs.{needs}
-use Rattle.card.proofs.ReadLaws.{Checked, checked-start, step-back, step-head, step-fits, checked-stop, checked-on, checked-end}
+use Rattle.card.proofs.ReadLaws.{few-ids, window-most}
 use Rattle.card.proofs.are_members_sound.Statement.{statement}
 use Rattle.card.proofs.are_members_sound.Tie as tie
 
-abbrev Inv-loop : tie.InvT-loop
-Inv-loop card m₀ at₀ m at = Checked card m at
-
-abbrev μ-loop : tie.MeasureT-loop
-μ-loop card m₀ at₀ m at = m
+is-each-sound-requires : tie.Need-is-each-sound-requires
+is-each-sound-requires c κs =
+    let gets = c .before .before .before .before .wide .result in
+    let sets = c .before .before .wide2 .result in
+    (search needs, window-most _ gets sets (search needs) (search needs) (search needs) _ refl)
 
 pub are-members-sound-spec : {M : Type 1} → statement M
 are-members-sound-spec =
     tie.close
-    (tie.spec Inv-loop μ-loop (λ c. search needs) (λ c κs. search needs) (λ c. search (needs, checked-start))
-    (λ c. search (needs, step-back)) (λ c κs. (search (needs, step-head), search (needs, step-fits)))
-    (λ c. search (needs, checked-stop)) (λ c. search needs) (λ c. search needs) (λ c. search (needs, checked-on))
-    (λ c. search (needs, checked-end)))
+    (tie.spec (λ c. search needs) (λ c κs. search needs) (λ c. search needs) (λ c κs. search needs) (λ c. search needs)
+    (λ c. search (needs, few-ids)) (λ c. search needs) (λ c. search needs) (λ c. search needs) (λ c. search needs)
+    is-each-sound-requires (λ c. search needs))
