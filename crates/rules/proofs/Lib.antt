@@ -1,2 +1,4 @@
 pub mod Turns
+pub mod Seen
+pub mod Ranks
 pub mod Causes

@@ -1,29 +1,36 @@
 // Step 10, a bad list, SPEC 5.5 and 5.6: the rules of one part, and of a list.
 ghost use mathlib.Core.Path.{_≡_};
-ghost use mathlib.Core.Bool.{true, not};
-ghost use lib.Dec.{eqb, ltb};
-ghost use Rattle.theory.specs.Logic.{_and_, _or_};
+ghost use mathlib.Core.Bool.{not};
+ghost use lib.Dec.{eqb};
+ghost use Rattle.theory.specs.Logic.{_or_};
 ghost use Rattle.theory.specs.Bytes.{same};
-ghost use Rattle.inventory.specs.Inventory.{rowAt, deviceFeatures, placeOf, onPlace};
-ghost use Rattle.inventory.specs.Queue.{valueAllowed};
-ghost use Rattle.parts.specs.List.{partsOf, partWith};
-ghost use Rattle.rules.specs.Rules.{isOptional, neverSkipped, known, asksKnown, every, repeated, causeOf, isAccepted, askedOf};
-ghost use Rattle.rules.specs.ByName.{obeys};
+ghost use Rattle.inventory.specs.Inventory.{deviceFeatures};
+ghost use Rattle.parts.specs.List.{partsOf};
+ghost use Rattle.rules.specs.Rules.{known, asksKnown, every, repeated, causeOf, isAccepted, askedOf};
+ghost use Rattle.rules.specs.Ranks.{absentRank, rowRank, least, causeAt};
 use inventory::DEVICE_FEATURES;
 use inventory::Place;
+use inventory::ROWS;
+use inventory::SIZES;
 use parts::ListForm;
 use parts::Step;
 
 // A part of this type or above is never skipped.
 const NEVER_SKIPPED: u16 = 0x600;
 
-// A rule of one part that is given to be set.
-enum Rule {
-    KnownOrSkipped,
-    LengthRight,
-    SizeRight,
-    FeaturesSame,
-}
+// The causes that a part can give, ranked in the order of SPEC 5.5: the last is a row seen before, so that its part may be
+// named twice. Then the rank of a part that gives none.
+const UNKNOWN: u8 = 0;
+
+const LENGTH: u8 = 1;
+
+const SIZE: u8 = 2;
+
+const FEATURES: u8 = 3;
+
+const AGAIN: u8 = 4;
+
+const NO_CAUSE: u8 = 5;
 
 // Why a list given to be set is refused: the first cause, in the order of SPEC 5.5, that occurs anywhere in it, or none.
 pub enum Cause {
@@ -49,38 +56,18 @@ pub fn is_known(queues: u8, t: u16, selector: u64) -> bool
     }
 }
 
-// Whether the member has got the part, or it is to be skipped: it has the optional bit, bit 0 of the flags, and its type is
-// low enough.
-fn is_known_or_skipped(queues: u8, t: u16, flags: u8, selector: u64) -> bool
-    ensures { λ r. ⌜ r ≡ known queues t selector or (isOptional flags and ltb t neverSkipped) ⌝ }
+// The rank of a part that the member has not got: it is skipped where it has the optional bit, bit 0 of the flags, and its
+// type is low enough.
+fn absent_rank(t: u16, flags: u8) -> u8
+    ensures { λ r. ⌜ r ≡ absentRank t flags ⌝ }
 {
-    if is_known(queues, t, selector) {
-        return true;
-    }
     if flags % 2 != 1 {
-        return false;
+        return UNKNOWN;
     }
-    t < NEVER_SKIPPED
-}
-
-// Whether a value of n bytes is as long as the table says, where the member has got the part.
-fn is_length_right(queues: u8, t: u16, selector: u64, n: usize) -> bool
-    ensures { λ r. ⌜ r ≡ onPlace (placeOf queues t selector) (λ i. eqb n (rowAt i .size)) true ⌝ }
-{
-    let Place::At(i) = inventory::place_of(queues, t, selector) else {
-        return true;
-    };
-    n == inventory::size_of(i)
-}
-
-// Whether a value may be that of a part of this type, where the member has got the part.
-fn is_size_right(queues: u8, t: u16, selector: u64, value: &[u8]) -> bool
-    ensures { λ r. ⌜ r ≡ not (known queues t selector) or valueAllowed t (now (value .entry)) ⌝ }
-{
-    if !is_known(queues, t, selector) {
-        return true;
+    if t < NEVER_SKIPPED {
+        return NO_CAUSE;
     }
-    inventory::is_value_allowed(t, value)
+    UNKNOWN
 }
 
 // Whether a value is the features, where the part is the device features.
@@ -93,56 +80,23 @@ fn is_features(t: u16, value: &[u8], features: &[u8]) -> bool
     wire::equal(value, features)
 }
 
-// Whether a part that is given obeys a rule.
-fn obeys(
-    rule: Rule,
-    queues: u8,
-    features: &[u8],
-    t: u16,
-    flags: u8,
-    selector: u64,
-    value: &[u8],
-) -> bool
-    ensures { λ r. ⌜ r ≡ obeys rule queues (now (features .entry)) (partWith t flags selector (now (value .entry))) ⌝ }
+// The rank of a part that the member has got, with the size of its row, and whether its row has been seen before.
+fn row_rank(size: u8, seen: bool, t: u16, value: &[u8], features: &[u8]) -> u8
+    ensures { λ r. ⌜ r ≡ rowRank size seen t (now (value .entry)) (now (features .entry)) ⌝ }
 {
-    match rule {
-        Rule::KnownOrSkipped => is_known_or_skipped(queues, t, flags, selector),
-        Rule::LengthRight => is_length_right(queues, t, selector, value.len()),
-        Rule::SizeRight => is_size_right(queues, t, selector, value),
-        Rule::FeaturesSame => is_features(t, value, features),
+    if value.len() != size as usize {
+        return LENGTH;
     }
-}
-
-// Whether every part given obeys a rule.
-fn every_obeys(rule: Rule, list: &[u8], queues: u8, features: &[u8]) -> bool
-    ensures { λ r. ⌜ r ≡ every (obeys rule queues (now (features .entry))) (partsOf ListForm.Parts (now (list .entry))) ⌝ }
-{
-    let mut at = 0;
-    loop {
-        let Step::Part {
-            part_type,
-            flags,
-            selector,
-            start,
-            len,
-        } = parts::next_part(ListForm::Parts, list, at)
-        else {
-            return true;
-        };
-        let next = start + len;
-        if !obeys(
-            rule,
-            queues,
-            features,
-            part_type,
-            flags,
-            selector,
-            &list[start..next],
-        ) {
-            return false;
-        }
-        at = next;
+    if !inventory::is_value_allowed(t, value) {
+        return SIZE;
     }
+    if !is_features(t, value, features) {
+        return FEATURES;
+    }
+    if seen {
+        return AGAIN;
+    }
+    NO_CAUSE
 }
 
 // Whether every header asked for is of a part that the member has got.
@@ -211,29 +165,67 @@ fn repeats(form: ListForm, list: &[u8], queues: u8) -> bool
     true
 }
 
-// Why a list given to be set is refused, if it is.
+// The lesser of two ranks.
+fn least(a: u8, b: u8) -> u8
+    ensures { λ r. ⌜ r ≡ least a b ⌝ }
+{
+    if a <= b {
+        return a;
+    }
+    b
+}
+
+// The cause of a list whose parts have this least rank. The rows seen spare the nested loops where no row was seen again.
+fn cause_at(rank: u8, list: &[u8], queues: u8) -> Cause
+    ensures { λ r. ⌜ r ≡ causeAt rank (repeated queues (partsOf ListForm.Parts (now (list .entry)))) ⌝ }
+{
+    match rank {
+        UNKNOWN => Cause::Unknown,
+        LENGTH => Cause::Length,
+        SIZE => Cause::Size,
+        FEATURES => Cause::Features,
+        AGAIN => {
+            if repeats(ListForm::Parts, list, queues) {
+                return Cause::Twice;
+            }
+            Cause::Accepted
+        }
+        _ => Cause::Accepted,
+    }
+}
+
+// Why a list given to be set is refused, if it is. One walk, which keeps the least rank of a part and the rows seen.
 pub fn check_list(queues: u8, features: &[u8], list: &[u8]) -> Cause
     ensures { λ r. ⌜ r ≡ causeOf queues (now (features .entry)) (now (list .entry)) ⌝ }
 {
-    if !parts::is_whole(ListForm::Parts, list) {
-        return Cause::Cut;
+    let sizes = SIZES;
+    let mut seen = [false; ROWS];
+    let mut rank = NO_CAUSE;
+    let mut at = 0;
+    loop {
+        match parts::next_part(ListForm::Parts, list, at) {
+            Step::End => return cause_at(rank, list, queues),
+            Step::Cut => return Cause::Cut,
+            Step::Part {
+                part_type: t,
+                flags,
+                selector,
+                start,
+                len,
+            } => {
+                at = start + len;
+                let Place::At(i) = inventory::place_of(queues, t, selector) else {
+                    rank = least(rank, absent_rank(t, flags));
+                    continue;
+                };
+                rank = least(
+                    rank,
+                    row_rank(sizes[i], seen[i], t, &list[start..at], features),
+                );
+                seen[i] = true;
+            }
+        }
     }
-    if !every_obeys(Rule::KnownOrSkipped, list, queues, features) {
-        return Cause::Unknown;
-    }
-    if !every_obeys(Rule::LengthRight, list, queues, features) {
-        return Cause::Length;
-    }
-    if !every_obeys(Rule::SizeRight, list, queues, features) {
-        return Cause::Size;
-    }
-    if !every_obeys(Rule::FeaturesSame, list, queues, features) {
-        return Cause::Features;
-    }
-    if repeats(ListForm::Parts, list, queues) {
-        return Cause::Twice;
-    }
-    Cause::Accepted
 }
 
 // Whether there is no cause to refuse a list.
