@@ -16,7 +16,7 @@ use Rattle.objects.specs.Objects.{count, allUpTo, withinLimits}
 use Rattle.member.specs.Record.{memberOf, memberBytes}
 use Rattle.member.specs.Objects.{lookupOf, withObject}
 use Rattle.member.specs.Member.{freshOf}
-use Rattle.member.specs.Sound.{soundMark, soundFront, soundRecord}
+use Rattle.member.specs.Sound.{soundEnd, soundMark, soundFront, soundRecord}
 use Rattle.changes.specs.Changes.{limited, createOf, modifyOf, destroyOf, setPartsOf}
 use Rattle.reads.specs.Reads.{queryOf, throughGet, selectedOf}
 use Rattle.card.specs.Layout.{setupIn, setupOf, inUseOf, withInUse, recordBytes, withRecordBytes, memberIn, withMember, countsFrom, countsOf, isMarked, configurationIn, generationIn, withConfiguration, noConfiguration, holdingIn, withHolding, noBytes, recordOf, withRecord, freshHeader, freshRecords, freshCard}
@@ -44,7 +44,7 @@ unfolding if_then_else_ unless_answer_then_ _and_ _or_ within indicator put same
     inventoryRows rowAt present offsetOf selectorOf isRow seek placeOf powerBelow ringSize queueAllowed valueAllowed queuesAllowed headerOf headerAt stepAt atMost partsFrom
     known knownOrSkipped lengthRight sizeRight featuresSame asksKnown whole every among repeated causeIn askedIn storable stored applied
     headerItem headersOf partAt asks partItem partsWritten memberOf memberBytes lookupOf withObject count allUpTo withinLimits
-    freshOf soundMark soundFront soundRecord limited createOf modifyOf destroyOf setPartsOf queryOf throughGet selectedOf
+    freshOf soundEnd soundMark soundFront soundRecord limited createOf modifyOf destroyOf setPartsOf queryOf throughGet selectedOf
     setupIn setupOf inUseOf withInUse recordBytes withRecordBytes memberIn withMember countsFrom countsOf isMarked configurationIn generationIn withConfiguration noConfiguration holdingIn withHolding noBytes recordOf withRecord freshHeader freshRecords freshCard soundSetup soundUpTo isSound
     inRanges all inNumbers refusedSetup setUp memberAnswer ifDone onMember withHandedBack handBack wipe resetCard storeIn store
     objectValid flagsValid kindValid createIn modifyIn queryIn destroyIn metadataIn getIn setIn modeIn useIn fieldsOf
