@@ -1,6 +1,6 @@
 # Two targets for a newcomer: `make run` and `make test`.
 
-.PHONY: run test lib install uninstall compare compare-faults bench-capture bench-restore clean
+.PHONY: run test lib install uninstall compare compare-faults bench bench-capture clean
 
 # A guest moves from one card to another, and nothing of it stays behind. The first run proves the crates, in minutes.
 run:
@@ -43,25 +43,28 @@ install: $(ARCHIVE)
 uninstall:
 	rm -f '$(INSTALLED_HEADER)' '$(INSTALLED_ARCHIVE)' '$(INSTALLED_PC)'
 
-COMPARE := cargo run --offline --quiet --release --manifest-path docs/src/Cargo.toml --package compare
+COMPARE := cargo run --offline --quiet --manifest-path docs/src/Cargo.toml --package compare
 SEED ?= 1
 CALLS ?= 2000000
 
 # The archive against the independent card: SEED and CALLS choose the run.
 compare: $(ARCHIVE)
-	@$(COMPARE) --bin compare -- --seed $(SEED) --calls $(CALLS)
+	@$(COMPARE) --release --bin compare -- --seed $(SEED) --calls $(CALLS)
 
 # Faults planted in the independent card, and the calls it takes to find each.
 compare-faults: $(ARCHIVE)
-	@$(COMPARE) --bin compare -- --planted-faults
+	@$(COMPARE) --release --bin compare -- --planted-faults
 
-# The time of a capture, as ratios in one run.
+BENCH := $(COMPARE) --profile timing --bin bench --
+
+# The time of a capture, against two plain Rust programs.
 bench-capture: $(ARCHIVE)
-	@$(COMPARE) --bin bench-capture
+	@$(BENCH) capture
 
-# The time of a parts set of a full capture, as a ratio in one run.
-bench-restore: $(ARCHIVE)
-	@$(COMPARE) --bin bench-restore
+# The time of every call that is made often, and how it grows: the table and the plot of docs/PERFORMANCE.md.
+bench: $(ARCHIVE)
+	@$(BENCH) calls
+	@$(BENCH) growth >docs/bench.svg.new && mv docs/bench.svg.new docs/bench.svg
 
 clean:
 	rm -rf target docs/src/target bindings/rust/target examples/c/target
