@@ -1,6 +1,6 @@
 //! What is timed as members, queues and lists grow.
 
-use plain_card::part::{inventory, OPTIONAL};
+use plain_card::part::{inventory, HEADER, OPTIONAL};
 use plain_card::Card;
 
 use super::work::{captures, full_card, list, selected_get, set, Work};
@@ -48,23 +48,30 @@ pub fn all() -> Vec<Growth> {
         Growth::new("parts get of some parts", "headers", HEADERS, largest, asked),
         Growth::new(set_all, "members", MEMBERS, members, restore),
         Growth::new(set_all, "queues of each member", QUEUES, queues, restore),
-        Growth::new("parts set of unknown parts", "bytes of the list", BYTES, largest, unknown),
+        Growth::new("parts set, unknown parts behind", "bytes", BYTES, largest, with_unknown),
     ]
 }
 
 const MEMBERS: [usize; 3] = [1, 4, 16];
 const QUEUES: [usize; 4] = [1, 2, 3, 4];
 const HEADERS: [usize; 4] = [1, 4, 8, 15];
-/// Whole parts without a value, up to the longest list.
-const BYTES: [usize; 5] = [16, 1024, 2048, 3072, 4064];
+/// From a full capture to the longest list.
+const BYTES: [usize; 5] = [445, 1024, 2048, 3072, 4064];
 
 /// A get of the first parts of the inventory.
 fn asked(_: &Card, member: u64, headers: usize) -> Vec<Call> {
     selected_get(member, &inventory(4).take(headers).collect::<Vec<_>>())
 }
 
-/// A set of parts that the member has not got and that may be skipped.
-fn unknown(_: &Card, member: u64, length: usize) -> Vec<Call> {
-    let part = any_part(0x200, OPTIONAL, 0, &[]);
-    vec![set(member, &part.repeat(length / part.len()))]
+/// A set of a full capture with parts behind it that the member has not got and
+/// that are skipped: they have no value, but for the last one, which fills up.
+fn with_unknown(card: &Card, member: u64, length: usize) -> Vec<Call> {
+    let mut list = list(card, member);
+    while list.len() < length {
+        let rest = length - list.len() - HEADER;
+        let value = if rest < HEADER { rest } else { 0 };
+        list.extend(any_part(0x200, OPTIONAL, 0, &vec![0; value]));
+    }
+    assert_eq!(list.len(), length);
+    vec![set(member, &list)]
 }

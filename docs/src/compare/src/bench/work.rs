@@ -71,7 +71,8 @@ pub fn all() -> Vec<Work> {
     vec![
         capture(),
         work("parts get of two parts", |_, member| selected_get(member, &TWO)),
-        work("parts set of a full capture", |card, member| vec![set(member, &list(card, member))]),
+        work("parts set of a full capture", |card, member| vec![set(member, &list(card, member))])
+            .and_fastest(),
         work("mode set, resume and stop", modes),
         work("object destroy and create", destroy_and_create),
         work("card store of a queue", store),
