@@ -32,6 +32,22 @@ impl Growth {
         };
         Growth { call, along, points: numbers.map(work).into() }
     }
+
+    /// With turns of so many rounds: a long turn is interrupted where other work
+    /// runs.
+    fn in_rounds(self, rounds: usize) -> Growth {
+        self.each(|work| Work { rounds, ..work })
+    }
+
+    /// By the fastest plain Rust too.
+    fn and_fastest(self) -> Growth {
+        self.each(Work::and_fastest)
+    }
+
+    fn each(self, change: impl Fn(Work) -> Work) -> Growth {
+        let points = self.points.into_iter().map(|(number, work)| (number, change(work)));
+        Growth { points: points.collect(), ..self }
+    }
 }
 
 /// What is plotted, row by row.
@@ -43,12 +59,14 @@ pub fn all() -> Vec<Growth> {
     let restore = |card: &Card, member, _| vec![set(member, &list(card, member))];
     let (get_all, set_all) = ("parts get of all parts", "parts set of a full capture");
     vec![
-        Growth::new(get_all, "members", MEMBERS, members, capture),
-        Growth::new(get_all, "queues of each member", QUEUES, queues, capture),
+        Growth::new(get_all, "members", MEMBERS, members, capture).and_fastest(),
+        Growth::new(get_all, "queues of each member", QUEUES, queues, capture).and_fastest(),
         Growth::new("parts get of some parts", "headers", HEADERS, largest, asked),
-        Growth::new(set_all, "members", MEMBERS, members, restore),
-        Growth::new(set_all, "queues of each member", QUEUES, queues, restore),
-        Growth::new("parts set, unknown parts behind", "bytes", BYTES, largest, with_unknown),
+        Growth::new(set_all, "members", MEMBERS, members, restore).and_fastest(),
+        Growth::new(set_all, "queues of each member", QUEUES, queues, restore).and_fastest(),
+        Growth::new("parts set, unknown parts behind", "bytes", BYTES, largest, with_unknown)
+            .and_fastest()
+            .in_rounds(2),
     ]
 }
 
@@ -56,7 +74,7 @@ const MEMBERS: [usize; 3] = [1, 4, 16];
 const QUEUES: [usize; 4] = [1, 2, 3, 4];
 const HEADERS: [usize; 4] = [1, 4, 8, 15];
 /// From a full capture to the longest list.
-const BYTES: [usize; 5] = [445, 1024, 2048, 3072, 4064];
+const BYTES: [usize; 4] = [445, 1600, 2800, 4064];
 
 /// A get of the first parts of the inventory.
 fn asked(_: &Card, member: u64, headers: usize) -> Vec<Call> {

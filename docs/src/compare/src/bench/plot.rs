@@ -23,9 +23,11 @@ text { font: 11px sans-serif; fill: #6e7781 }
 .axis { stroke: #6e7781; stroke-opacity: 0.6 }
 .archive { fill: #2f81f7 }
 .plain { fill: #d1703c }
+.fastest { fill: #2da44e }
 polyline { stroke-width: 2 }
 polyline.archive { fill: none; stroke: #2f81f7 }
 polyline.plain { fill: none; stroke: #d1703c }
+polyline.fastest { fill: none; stroke: #2da44e }
 @media (prefers-color-scheme: dark) { text { fill: #9da7b1 } .axis { stroke: #9da7b1 } }
 ";
 
@@ -63,7 +65,7 @@ pub fn svg(panels: &[Panel]) -> String {
     format!(
         "<svg xmlns=\"http://www.w3.org/2000/svg\" viewBox=\"0 0 {width} {height}\" \
          width=\"{width}\" height=\"{height}\" role=\"img\">\n\
-         <title>Nanoseconds a call, archive and plain card</title>\n<style>\n{STYLE}</style>\n\
+         <title>Nanoseconds a call by the archive and by plain Rust</title>\n<style>\n{STYLE}</style>\n\
          {}</svg>\n",
         panels.iter().enumerate().map(place).collect::<String>()
     )
