@@ -64,7 +64,7 @@ bench-capture: $(ARCHIVE)
 # The time of every call that is made often, and how it grows: the table and the plot of docs/PERFORMANCE.md.
 bench: $(ARCHIVE)
 	@$(BENCH) calls
-	@$(BENCH) growth >docs/bench.svg.new && mv docs/bench.svg.new docs/bench.svg
+	@$(BENCH) growth >target/bench.svg && mv target/bench.svg docs/bench.svg
 
 clean:
 	rm -rf target docs/src/target bindings/rust/target examples/c/target
