@@ -156,7 +156,8 @@ pub fn list(card: &Card, member: u64) -> Vec<u8> {
 }
 
 /// A card whose members are stopped and have all objects they may have, the
-/// first half get objects, and random parts.
+/// first half get objects, random parts, and queues that are in use: each has a
+/// size.
 pub fn full_card(members: u64, queues: u8) -> Card {
     let mut random = Random::new(1, 0);
     let setup = Setup::alike(members, queues, 8, 8, [3; 16]).expect("it is in range");
@@ -169,13 +170,23 @@ pub fn full_card(members: u64, queues: u8) -> Card {
     card
 }
 
+/// A value that the part may have, of a queue one with a size.
+fn in_use(random: &mut Random, part: Part) -> Vec<u8> {
+    loop {
+        let value = good_value(random, part);
+        if !matches!(part, Part::Queue(_)) || value[..2] != [0, 0] {
+            return value;
+        }
+    }
+}
+
 fn fill(random: &mut Random, member: &mut Member) {
     member.mode = Mode::Stopped;
     for id in 0..16 {
         member.objects.put(id, if id < SET_ID { Kind::Get } else { Kind::Set });
     }
     for part in inventory(member.queues).filter(|part| *part != Part::DeviceFeatures) {
-        let value = good_value(random, part);
+        let value = in_use(random, part);
         member.values.get_mut(part).copy_from_slice(&value);
     }
 }
