@@ -1,20 +1,19 @@
 -- The laws of a member's configuration and generation: what is read after something was written. Assumes nothing.
-use mathlib.Core.Path.{_≡_, refl, ap, sym, _∙_}
+use mathlib.Core.Path.{_≡_, ap, sym, _∙_}
 use mathlib.Core.Logic.{_≢_}
 use mathlib.Core.List.{List, _++_}
-use Prim.Native.Nat.{ℕ, _+_, _-_, _^_, _≤_, _<_}
+use Prim.Native.Nat.{ℕ, _+_, _-_, _≤_}
 use native.Mathlib.Nat.{add-sub-cancel-left}
 use native.Mathlib.Omega.{arith}
 use lib.ListN.{length, replicate, length-append, length-replicate}
-use lib.Seq.{take-all, take-at, drop-at}
+use lib.Seq.{take-all}
 use Rattle.theory.specs.Bytes.{bytesAt, put}
-use Rattle.theory.proofs.Bytes.{length-put, put-all, put-append, put-within, length-bytesAt, bytesAt-bytesAt}
-use Rattle.wire.specs.Le.{le, bytes, number}
-use Rattle.wire.proofs.Le.{length-bytes, le-bytes}
-use Rattle.member.specs.declared.Member.{Member}
-use Rattle.member.specs.Record.{memberSize, holdingSize, memberOf, memberBytes}
-use Rattle.card.specs.Layout.{memberBytesAt, configurationAt, configurationSize, generationAt, generationSize, holdingAt, recordSize, setupOf, inUseOf, withInUse, recordAt, HasRecord, recordBytes, withRecordBytes, memberBytesIn, memberIn, withMember, configurationIn, generationIn, withConfiguration, noConfiguration, holdingIn, withHolding}
-use Rattle.card.proofs.LayoutLaws.{length-with-bytes, setup-with-bytes, use-with-bytes, bytes-with-use, bytes-same, bytes-over, bytes-before, bytes-after, bytes-behind, bytes-other, bytes-long}
+use Rattle.theory.proofs.Bytes.{length-put, put-all, put-append, put-within, length-bytesAt}
+use Rattle.wire.specs.Le.{bytes, number}
+use Rattle.wire.proofs.Le.{length-bytes}
+use Rattle.member.specs.Record.{holdingSize, memberOf}
+use Rattle.card.specs.Layout.{configurationAt, configurationSize, generationAt, generationSize, holdingAt, recordSize, setupOf, inUseOf, recordAt, HasRecord, recordBytes, withRecordBytes, memberBytesIn, memberIn, configurationIn, generationIn, withConfiguration, noConfiguration, holdingIn}
+use Rattle.card.proofs.LayoutLaws.{length-with-bytes, setup-with-bytes, use-with-bytes, bytes-after, bytes-behind, bytes-other, bytes-long}
 
 -- the two together
 abbrev bothSize : ℕ
@@ -53,54 +52,6 @@ module _ (c : List ℕ) (m : ℕ) (x : List ℕ) (g : ℕ) where
   pub configuration-apart : (k at n : ℕ) → at + n ≤ recordSize → 1 ≤ m → 1 ≤ k → k ≢ m → recordBytes (withConfiguration c m x g) k at n ≡ recordBytes c k at n
   unfolding withConfiguration
   configuration-apart k at n i l h e = bytes-other c m configurationAt bothSize _ (omega arith) l k at n i h e
-
-  -- what is put is there
-  module _ (h : HasRecord c m) (e : length x ≡ configurationSize) where
-    both-put : recordBytes (withConfiguration c m x g) m configurationAt bothSize ≡ x ++ bytes generationSize g
-    unfolding withConfiguration
-    both-put = bytes-same c m configurationAt bothSize _ h (omega arith) (both-long x g e)
-
-    -- a part of the two
-    part-put : (i n : ℕ) → i + n ≤ bothSize → recordBytes (withConfiguration c m x g) m (configurationAt + i) n ≡ bytesAt i n (x ++ bytes generationSize g)
-    unfolding recordBytes
-    part-put i n b =
-        let k : recordAt m + (configurationAt + i) ≡ recordAt m + configurationAt + i = omega arith in
-        rw (k, ← both-put, bytesAt-bytesAt i n (recordAt m + configurationAt) bothSize (withConfiguration c m x g) b)
-
-    pub configuration-same : configurationIn (withConfiguration c m x g) m ≡ x
-    unfolding configurationIn
-    configuration-same = part-put 0 configurationSize (omega arith) ∙ take-at x _ configurationSize e
-
-    pub generation-same : g < 256 ^ generationSize → generationIn (withConfiguration c m x g) m ≡ g
-    unfolding generationIn
-    generation-same l =
-        ap le (part-put configurationSize generationSize (omega arith)
-        ∙ rw (drop-at x (bytes generationSize g) configurationSize e) (take-all generationSize _ (omega (arith, length-bytes generationSize g))))
-        ∙ le-bytes generationSize g l
-
-  pub configuration-over : (y : List ℕ) (k : ℕ) → length y ≡ configurationSize → withConfiguration (withConfiguration c m x g) m y k ≡ withConfiguration c m y k
-  unfolding withConfiguration
-  configuration-over y k e = bytes-over c m configurationAt bothSize _ configurationAt bothSize _ (omega arith) (omega arith) (both-long y k e)
-
--- ---- what is put elsewhere ----
-
-module _ (c : List ℕ) (m : ℕ) (x : Member) where
-  pub configuration-with-member : configurationIn (withMember c m x) m ≡ configurationIn c m
-  unfolding withMember configurationIn
-  configuration-with-member = bytes-after c m memberBytesAt memberSize (memberBytes x) configurationAt configurationSize (omega arith)
-
-  pub generation-with-member : generationIn (withMember c m x) m ≡ generationIn c m
-  unfolding withMember generationIn
-  generation-with-member = ap le (bytes-after c m memberBytesAt memberSize (memberBytes x) generationAt generationSize (omega arith))
-
-module _ (c : List ℕ) (m : ℕ) (x : List ℕ) where
-  pub configuration-with-holding : configurationIn (withHolding c m x) m ≡ configurationIn c m
-  unfolding withHolding configurationIn
-  configuration-with-holding = bytes-before c m holdingAt holdingSize x configurationAt configurationSize (omega arith)
-
-  pub generation-with-holding : generationIn (withHolding c m x) m ≡ generationIn c m
-  unfolding withHolding generationIn
-  generation-with-holding = ap le (bytes-before c m holdingAt holdingSize x generationAt generationSize (omega arith))
 
 -- ---- as code reads and writes them, from the place of the record ----
 

@@ -18,7 +18,7 @@ use Rattle.member.specs.Member.{featuresSize, freshOf}
 use Rattle.member.proofs.Record.{fresh-shaped, member-back}
 use Rattle.setups.specs.Setup.{all, isCount, inNumbers}
 use Rattle.card.specs.declared.Setup.{Setup}
-use Rattle.card.specs.Layout.{memberBytesAt, configurationAt, recordSize, cardSize, setupOf, withInUse, isMember, recordAt, HasRecord, recordBytes, withRecordBytes, memberIn, withMember, countsFrom, countsOf, freshCard}
+use Rattle.card.specs.Layout.{memberBytesAt, configurationAt, recordSize, setupOf, withInUse, isMember, recordAt, HasRecord, recordBytes, withRecordBytes, memberIn, withMember, countsFrom, countsOf, freshCard}
 use Rattle.card.specs.Sound.{soundSetup}
 use Rattle.card.proofs.LayoutLaws.{bytes-other, bytes-behind, bytes-with-use, member-other, setup-fresh, member-bytes-fresh}
 use Rattle.card.proofs.MarkLaws.{byte-put}

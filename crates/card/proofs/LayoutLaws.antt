@@ -22,7 +22,7 @@ use Rattle.member.specs.Record.{memberSize, holdingSize, memberOf, memberBytes}
 use Rattle.member.specs.Member.{featuresSize, freshOf}
 use Rattle.member.proofs.Record.{Shaped, fresh-shaped, length-member, member-back}
 use Rattle.card.specs.declared.Setup.{Setup}
-use Rattle.card.specs.Layout.{featuresAt, inUseAt, cardHeaderSize, memberBytesAt, configurationAt, configurationSize, generationAt, generationSize, holdingAt, recordSize, cardSize, setupIn, setupOf, inUseOf, withInUse, recordAt, HasRecord, recordBytes, withRecordBytes, memberBytesIn, memberIn, withMember, configurationIn, generationIn, withConfiguration, noConfiguration, holdingIn, withHolding, noBytes, recordOf, withRecord, freshRecord, freshHeader, freshRecords, freshCard}
+use Rattle.card.specs.Layout.{featuresAt, inUseAt, cardHeaderSize, memberBytesAt, configurationAt, configurationSize, generationSize, holdingAt, recordSize, cardSize, setupIn, setupOf, inUseOf, withInUse, recordAt, HasRecord, recordBytes, withRecordBytes, memberBytesIn, memberIn, withMember, withConfiguration, noConfiguration, holdingIn, withHolding, noBytes, recordOf, withRecord, freshRecord, freshHeader, freshRecords, freshCard}
 
 -- ---- bytes of a record ----
 

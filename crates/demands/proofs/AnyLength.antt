@@ -25,7 +25,7 @@ use Rattle.objects.specs.declared.Found.{Found}
 use Rattle.objects.specs.declared.Found.the-variants.{Live, Nothing}
 use Rattle.objects.specs.Objects.{onFound}
 use Rattle.member.specs.Objects.{lookupOf}
-use Rattle.card.specs.Layout.{setupOf, memberIn}
+use Rattle.card.specs.Layout.{memberIn}
 use Rattle.reads.specs.Reads.{refuseRead, succeedRead, queryOf, metadataOf, throughGet}
 use Rattle.frame.specs.declared.Ask.{Ask}
 use Rattle.frame.specs.declared.Ask.the-variants.{Refused, Read, Change}

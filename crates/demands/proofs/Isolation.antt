@@ -1,7 +1,7 @@
 -- DEMAND 3: isolation, by the mask of Mask.antt. The laws of one step, each about one card; theory's theorem makes of them
 -- the claim about two whole sequences. Assumes nothing.
 use mathlib.Core.Path.{_≡_, refl, ap, sym, _∙_}
-use mathlib.Core.Bool.{true, false, not}
+use mathlib.Core.Bool.{true, false}
 use mathlib.Core.List.{List}
 use Prim.Native.Nat.{ℕ, _≤_}
 use native.Mathlib.Omega.{arith}

@@ -1,7 +1,6 @@
 -- The hypotheses of the claims on messages can be met. Assumes nothing.
 use mathlib.Core.Path.{_≡_, refl}
 use mathlib.Core.Bool.{true, false}
-use mathlib.Core.List.{List, []}
 use lib.ListN.{replicate}
 use Rattle.card.specs.Layout.{isMember}
 use Rattle.message.specs.Format.{lengthOf}

@@ -27,7 +27,7 @@ use Rattle.events.specs.Events.{storeIn, store}
 use Rattle.events.proofs.Cases.{if-done-cases, on-member-cases}
 use Rattle.frame.specs.declared.Ask.{Ask}
 use Rattle.frame.specs.declared.Ask.the-variants.{Refused, QueryList, UseList, Read, Change}
-use Rattle.frame.specs.Frame.{opcodeOf, groupOf, targetOf}
+use Rattle.frame.specs.Frame.{opcodeOf, groupOf}
 use Rattle.host.specs.declared.Command.the-variants.{Set}
 use Rattle.host.specs.Request.{sentOf, request, setParts}
 use Rattle.host.proofs.Request.{opcode-request, group-request, request-long}

@@ -2,13 +2,12 @@
 -- that antt computes for each number of queues. Assumes nothing.
 use mathlib.Core.Path.{_≡_, refl, ap, sym, _∙_}
 use mathlib.Core.Bool.{Bool, true, not}
-use mathlib.Core.List.{List, [], _∷_}
-use Prim.Native.Nat.{ℕ, _+_, _*_, _≤_, _<_}
+use Prim.Native.Nat.{ℕ, _*_, _≤_, _<_}
 use native.Mathlib.Omega.{arith}
 use borrow.Author.Tests.{eqb-true, ltb-true}
 use lib.Dec.{ltb, eqb}
-use lib.ListN.{length, getD, take}
-use Rattle.theory.specs.Logic.{if_then_else_, _and_, _or_}
+use lib.ListN.{length, take}
+use Rattle.theory.specs.Logic.{_and_, _or_}
 use Rattle.theory.specs.Bytes.{bytesAt, same}
 use Rattle.theory.specs.Items.{itemsFrom}
 use Rattle.theory.proofs.Tests.{both, same-true}
@@ -19,9 +18,9 @@ use Rattle.inventory.specs.Header.{headerOf, headerSize}
 use Rattle.inventory.specs.declared.Place.{Place}
 use Rattle.inventory.specs.declared.Place.the-variants.{At, Absent}
 use Rattle.inventory.proofs.Rules.{table, every-row, every-count}
-use Rattle.inventory.proofs.Find.{Found, place-found, own-place}
+use Rattle.inventory.proofs.Find.{place-found, own-place}
 use Rattle.capture.specs.Capture.{headerItem, headersOf}
-use Rattle.demands.specs.Places.{ownFrom, ownRows, rowOf, Has, PlaceFound, PlacesFound}
+use Rattle.demands.specs.Places.{ownFrom, ownRows, rowOf, Has, PlacesFound}
 
 -- how many of the first i rows are there: the number of row i among the parts
 abbrev numberOf : ℕ → ℕ → ℕ

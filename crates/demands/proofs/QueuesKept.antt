@@ -1,12 +1,12 @@
 -- REQUEST 9: a packed setup makes the card that setup makes, and no call changes a queue count. Assumes nothing.
-use mathlib.Core.Path.{_≡_, refl, ap, sym, _∙_}
-use mathlib.Core.Bool.{true, false}
+use mathlib.Core.Path.{_≡_, refl, ap, _∙_}
+use mathlib.Core.Bool.{true}
 use mathlib.Core.List.{List}
 use Prim.Native.Nat.{ℕ, _+_, _-_, _≤_}
 use native.Mathlib.Omega.{arith}
 use borrow.Author.Tests.{eqb-true, eqb-false}
 use lib.Dec.{eqb}
-use lib.ListN.{length, take}
+use lib.ListN.{length}
 use Rattle.theory.specs.Logic.{unless_answer_then_}
 use Rattle.theory.proofs.Tests.{by-cases, unless-cases, within-low, within-high}
 use Rattle.protocol.specs.declared.EventAnswer.{EventAnswer}
@@ -38,7 +38,7 @@ use Rattle.staging.proofs.Refusals.{on-member-cases as restore-cases, on-open-c
 use Rattle.staging.proofs.Places.{has}
 use Rattle.staging.proofs.Kept.{respond-setup}
 use Rattle.message.proofs.Cases.{card-cases as message-cases}
-use Rattle.demands.specs.Calls.{Call, command, handBack, wipe, cardReset, cardStore, restoreBegin, restoreFeed, restoreFinish, restoreDrop, message, step}
+use Rattle.demands.specs.Calls.{command, handBack, wipe, cardReset, cardStore, restoreBegin, restoreFeed, restoreFinish, restoreDrop, message, step}
 use Rattle.demands.specs.Claims.{SetUpFromPacked, QueuesKept}
 use Rattle.demands.proofs.Sound.{stays-sound}
 

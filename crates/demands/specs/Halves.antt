@@ -1,10 +1,10 @@
 -- WORKED EXAMPLES of a reset in two halves, SPEC 13.10: a table, on the card of Examples.antt and in its form. Assumes nothing.
 use mathlib.Core.Path.{_≡_}
 use mathlib.Core.List.{List, [], _∷_, _++_, map}
-use Prim.Native.Nat.{ℕ, _+_, _*_}
+use Prim.Native.Nat.{_+_, _*_}
 use lib.ListN.{replicate}
-use Rattle.host.specs.Request.{request, getAll}
-use Rattle.demands.specs.Calls.{Call, handBack, wipe, cardReset, cardStore, restoreBegin, restoreFeed, restoreDrop, message, answered, step}
+use Rattle.host.specs.Request.{getAll}
+use Rattle.demands.specs.Calls.{handBack, wipe, cardReset, cardStore, restoreBegin, restoreFeed, restoreDrop, message, answered, step}
 use Rattle.demands.specs.Messages.{readFrom, writeTo, fourBytes, busOutcome, hasRead}
 use Rattle.demands.specs.Examples.{exampleCard, send, useList, create, setMode, allUsed, objectsLive, refuses, gives, succeeds, nineParts, Example, example, repliesTo}
 

@@ -7,7 +7,7 @@ use Prim.Native.Nat.{ℕ, _^_, _≤_, _<_}
 use lib.ListN.{take, replicate}
 use Rattle.wire.specs.Le.{bytes, number}
 use Rattle.inventory.specs.Queue.{queueValue}
-use Rattle.card.specs.Layout.{setupOf, isMember, memberIn}
+use Rattle.card.specs.Layout.{isMember, memberIn}
 use Rattle.card.specs.Sound.{isSound}
 use Rattle.host.specs.Request.{setParts}
 use Rattle.demands.specs.Calls.{Call, cardStore, answered, step}

@@ -1,14 +1,14 @@
 -- What setup and a reset of the card write: a fresh card. Assumes nothing.
 use mathlib.Core.Path.{_≡_, refl, ap, sym, _∙_}
 use mathlib.Core.List.{List, [], _∷_, _++_}
-use Prim.Native.Nat.{ℕ, suc, _+_, _*_, _-_, _≤_, _<_}
+use Prim.Native.Nat.{ℕ, _+_, _*_, _-_, _≤_, _<_}
 use native.Mathlib.Nat.{sub-zero}
 use native.Mathlib.Numerals.{add-one}
 use native.Mathlib.Omega.{arith}
 use lib.ListN.{length, getD, drop, length-append, drop-of-length-le}
 use lib.Seq.{drop-cons}
 use Rattle.theory.specs.Bytes.{put}
-use Rattle.theory.proofs.Bytes.{length-put, put-append, put-nil, put-all, bytesAt-after}
+use Rattle.theory.proofs.Bytes.{put-append, put-nil, put-all, bytesAt-after}
 use Rattle.wire.specs.Le.{bytes}
 use Rattle.wire.proofs.Le.{length-bytes}
 use Rattle.protocol.specs.Opcodes.{freshMask}

@@ -13,7 +13,6 @@ use Rattle.theory.specs.Logic.{_and_, _or_, indicator, within}
 use Rattle.theory.specs.Bytes.{bytesAt, same}
 use Rattle.theory.proofs.Tests.{by-cases, both, either, and-i, true-and, and-true, and-assoc, and-false, false-and, true-or, false-or, inside, same-true, eq-same}
 use Rattle.theory.proofs.Bytes.{bytesAt-bytesAt}
-use Rattle.theory.proofs.Ladder.{ladder}
 use Rattle.wire.specs.Le.{le, number}
 use Rattle.wire.proofs.Le.{number-none, number-step}
 use Rattle.inventory.specs.Inventory.{valuesSize, offsetOf, rows}

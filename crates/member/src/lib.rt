@@ -10,7 +10,7 @@ ghost use Rattle.parts.specs.declared.ListForm.the-variants.{Parts};
 ghost use Rattle.parts.specs.List.{partsOf};
 ghost use Rattle.values.specs.Apply.{applied};
 ghost use Rattle.objects.specs.Objects.{objectByte, objectsSize, mostOf};
-ghost use Rattle.member.specs.Record.{modeAt, markAt, queuesAt, objectsAt, valuesAt, memberSize, modeByte, objectBytes, memberOf, memberBytes};
+ghost use Rattle.member.specs.Record.{modeAt, queuesAt, objectsAt, valuesAt, memberSize, modeByte, objectBytes, memberOf, memberBytes};
 ghost use Rattle.member.specs.Objects.{lookupOf, withObject, roomIn};
 ghost use Rattle.member.specs.Member.{freshOf, withMode, withValues, withHeld, handedBack, withPart};
 ghost use Rattle.member.specs.Sound.{soundEnd, soundFront, soundRecord};

@@ -1,7 +1,7 @@
 -- What the code that acts on a message leaves, from what it was told. Assumes nothing.
-use mathlib.Core.Path.{_≡_, refl, ap, sym, _∙_}
+use mathlib.Core.Path.{_≡_, ap, sym, _∙_}
 use mathlib.Core.Bool.{Bool, true, false, not}
-use mathlib.Core.List.{List, []}
+use mathlib.Core.List.{List}
 use Prim.Native.Nat.{ℕ, _+_, _-_, _%_, _^_, _≤_, _<_}
 use native.Mathlib.Nat.{add-sub-cancel-left}
 use native.Mathlib.Omega.{arith}
@@ -10,13 +10,13 @@ use lib.ListN.{length, take, drop, length-drop}
 use lib.Seq.{take-all}
 use borrow.Author.Tests.{leb-true, not-true, not-false}
 use Rattle.theory.specs.Logic.{if_then_else_, unless_answer_then_}
-use Rattle.theory.specs.Bytes.{bytesAt, put}
-use Rattle.theory.proofs.Tests.{by-cases, both, if-cases}
+use Rattle.theory.specs.Bytes.{put}
+use Rattle.theory.proofs.Tests.{by-cases, both}
 use Rattle.theory.proofs.Bytes.{put-nil, length-bytesAt-le}
 use Rattle.card.specs.Layout.{configurationSize, HasRecord, configurationIn, generationIn, withConfiguration}
 use Rattle.card.proofs.ConfigurationLaws.{configuration-long}
 use Rattle.message.specs.declared.Access.the-variants.{Read, Write}
-use Rattle.message.specs.Format.{headerSize, dataAt, dataOf, responseOf}
+use Rattle.message.specs.Format.{dataAt, dataOf, responseOf}
 use Rattle.message.specs.Message.{isInside, readable, isApplied, nextGeneration, appliedTo, actOf, fitting, delivered, sentIn}
 use Rattle.message.proofs.Responded.{response-long}
 

@@ -6,9 +6,9 @@ use Prim.Native.Nat.{ℕ, _+_, _≤_, _<_}
 use native.Mathlib.Omega.{arith}
 use borrow.Author.Tests.{leb-true, eqb-true}
 use lib.ListN.{length}
-use Rattle.theory.specs.Logic.{if_then_else_, unless_answer_then_}
+use Rattle.theory.specs.Logic.{unless_answer_then_}
 use Rattle.theory.proofs.Tests.{if-cases, unless-cases, both, within-high}
-use Rattle.card.specs.Layout.{setupOf, isMember}
+use Rattle.card.specs.Layout.{setupOf}
 use Rattle.message.specs.declared.Access.{Access}
 use Rattle.message.specs.declared.Access.the-variants.{Nothing, Read, Write}
 use Rattle.message.specs.Format.{headerSize, devNumOf, memberFor, dataAt}

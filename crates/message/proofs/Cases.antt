@@ -1,7 +1,7 @@
 -- A message by its cases: what is here is all that the proofs above use of the definition of `answerOf`. Assumes nothing.
-use mathlib.Core.Path.{_≡_, refl, ap, sym, _∙_}
+use mathlib.Core.Path.{_≡_, refl, sym, _∙_}
 use mathlib.Core.Bool.{true, false}
-use mathlib.Core.List.{List, [], _++_}
+use mathlib.Core.List.{List, []}
 use Prim.Native.Nat.{ℕ, _+_, _^_, _≤_, _<_}
 use native.Mathlib.Omega.{arith}
 use lib.Dec.{leb}
@@ -9,7 +9,7 @@ use lib.ListN.{length, length-drop}
 use borrow.Author.Tests.{eqb-true, eq-eqb, leb-true}
 use Rattle.theory.specs.Logic.{unless_answer_then_}
 use Rattle.theory.proofs.Tests.{by-cases, if-cases, unless-cases, both, inside}
-use Rattle.wire.specs.Le.{le, bytes, number}
+use Rattle.wire.specs.Le.{bytes, number}
 use Rattle.wire.proofs.Le.{le-bytes}
 use Rattle.card.specs.Layout.{configurationSize, setupOf, isMember, isMarked, generationIn, withConfiguration}
 use Rattle.card.specs.Sound.{isSound}

@@ -6,7 +6,7 @@ ghost use lib.ListN.{length};
 ghost use Rattle.theory.specs.Bytes.{put};
 ghost use Rattle.card.specs.Layout.{configurationSize, cardSize, setupOf, HasRecord};
 ghost use Rattle.message.specs.Format.{headerSize, memberFor, dataAt, dataOf, responseHeader, responseFields, responseOf};
-ghost use Rattle.message.specs.Access.{isRequest, readIn, writeIn, wholeOf};
+ghost use Rattle.message.specs.Access.{isRequest, readIn, writeIn};
 ghost use Rattle.message.specs.Message.{accessIn, isInside, readable, isApplied, appliedTo, actOf, fitting, delivered, messageOf, sentIn};
 use card::CONFIGURATION_SIZE;
 

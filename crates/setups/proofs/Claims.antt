@@ -1,6 +1,5 @@
 -- The claims hold. Assumes nothing.
 use mathlib.Core.Path.{_≡_, refl, ap, sym}
-use mathlib.Core.Bool.{true}
 use mathlib.Core.List.{List}
 use Prim.Native.Nat.{ℕ, _≤_}
 use native.Mathlib.Omega.{arith}
@@ -12,7 +11,6 @@ use Rattle.theory.specs.Logic.{if_then_else_, unless_answer_then_}
 use Rattle.theory.specs.Bytes.{put}
 use Rattle.theory.proofs.Tests.{by-cases}
 use Rattle.theory.proofs.Bytes.{put-front, drop-after}
-use Rattle.setups.specs.declared.Setup.{Setup}
 use Rattle.setups.specs.declared.ReadAnswer.the-variants.{Done, Version2}
 use Rattle.setups.specs.Setup.{featuresSize, inNumbers}
 use Rattle.setups.specs.Reading.{versionIn, readVersion1, readSetup}

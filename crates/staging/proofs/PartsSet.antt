@@ -1,7 +1,7 @@
 -- What a parts set to a member that is not marked gets in every case, as one law: steps 4 and 7 to 12 of SPEC 6.1, where
 -- frame and buffer are in order.
 -- Assumes nothing.
-use mathlib.Core.Path.{_≡_, ap, _∙_}
+use mathlib.Core.Path.{_≡_}
 use mathlib.Core.Bool.{true, false}
 use mathlib.Core.List.{List, []}
 use Prim.Native.Nat.{ℕ, _+_, _^_, _≤_, _<_}

@@ -1,13 +1,13 @@
--- The laws of `bytesAt`, `put` and `repeat` of specs/Bytes.antt. `put` never writes past the end, so most ask no length.
+-- The laws of `bytesAt` and `put` of specs/Bytes.antt. `put` never writes past the end, so most ask no length.
 -- Assumes nothing.
 use mathlib.Core.Path.{_≡_, refl, ap, sym, _∙_}
 use mathlib.Core.List.{List, [], _∷_, _++_, append-nil}
-use Prim.Native.Nat.{ℕ, zero, suc, _+_, _*_, _-_, _≤_, _<_}
+use Prim.Native.Nat.{ℕ, zero, suc, _+_, _-_, _≤_, _<_}
 use native.Mathlib.Nat.{zero-add, add-zero, suc-add}
 use native.Mathlib.Omega.{arith}
-use lib.ListN.{length, getD, take, drop, set, length-append, length-take, length-drop, drop-of-length-le}
-use lib.Seq.{length-take-le, take-at, drop-at, take-nil, drop-append-add, drop-drop, take-take, getD-drop, getD-take}
-use Rattle.theory.specs.Bytes.{bytesAt, put, repeat}
+use lib.ListN.{length, getD, take, drop, set, length-take, length-drop, drop-of-length-le}
+use lib.Seq.{length-take-le, take-at, drop-at, take-nil, drop-drop, take-take, getD-drop, getD-take}
+use Rattle.theory.specs.Bytes.{bytesAt, put}
 
 -- ---- put ----
 
@@ -172,32 +172,6 @@ bytesAt-bytesAt at n b m l h =
     let e : m ≡ at + (m - at) = omega arith in
     ap (λ j. bytesAt at n (bytesAt b j l)) e
     ∙ rw (drop-take at (m - at) (drop b l), drop-drop) (take-take n (m - at) (drop (b + at) l) k)
-
--- ---- repeat ----
-
--- one more, and none left: m of n are done
-pub repeat-step : (n m : ℕ) (x : List ℕ) → m < n → repeat (n - m) x ≡ x ++ repeat (n - (m + 1)) x
-unfolding repeat
-repeat-step n m x h = let e : n - m ≡ suc (n - (m + 1)) = omega arith in rw e
-
-pub repeat-end : (n m : ℕ) (x : List ℕ) → n ≤ m → repeat (n - m) x ≡ []
-unfolding repeat
-repeat-end n m x h = let e : n - m ≡ 0 = omega arith in rw e
-
-pub length-repeat : (n k : ℕ) (x : List ℕ) → length x ≡ k → length (repeat n x) ≡ k * n
-unfolding repeat
-length-repeat zero k x e = omega arith
-length-repeat (suc n) k x e = rw (length-append, e, length-repeat n k x e) (omega arith)
-
-pub bytesAt-repeat : (n k j : ℕ) (x : List ℕ) → length x ≡ k → j < n → bytesAt (k * j) k (repeat n x) ≡ x
-unfolding repeat
-bytesAt-repeat zero k j x e h = absurd (omega arith)
-bytesAt-repeat (suc n) k zero x e h =
-    let z : k * zero ≡ 0 = omega arith in
-    rw z (take-at x (repeat n x) k e)
-bytesAt-repeat (suc n) k (suc j) x e h =
-    let a : k * suc j ≡ length x + k * j = omega arith in
-    rw (a, drop-append-add) (bytesAt-repeat n k j x e (omega arith))
 
 -- a put within a part of a list, as a put in the list
 pub put-within : (at n i : ℕ) (x l : List ℕ) → i + length x ≤ n → at + n ≤ length l → put at (put i x (bytesAt at n l)) l ≡ put (at + i) x l

@@ -1,5 +1,5 @@
 -- Bytes at a place of a list. A buffer is the list of its bytes. Assumes nothing.
-use mathlib.Core.List.{List, [], _∷_, _++_}
+use mathlib.Core.List.{List, [], _∷_}
 use mathlib.Core.Bool.{Bool, true, false}
 use Prim.Native.Nat.{ℕ, zero, suc}
 use lib.Dec.{eqb}
@@ -16,11 +16,6 @@ put at x [] = []
 put zero [] (b ∷ l) = b ∷ l
 put zero (v ∷ x) (b ∷ l) = v ∷ put zero x l
 put (suc at) x (b ∷ l) = b ∷ put at x l
-
--- x, n times over
-unfoldable pub repeat : ℕ → List ℕ → List ℕ
-repeat zero x = []
-repeat (suc n) x = x ++ repeat n x
 
 -- the same bytes
 unfoldable pub same : List ℕ → List ℕ → Bool

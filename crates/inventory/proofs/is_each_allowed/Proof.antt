@@ -2,7 +2,6 @@
 use mathlib.Core.Path.{_≡_}
 use mathlib.Core.Bool.{true}
 use Prim.Native.Nat.{_-_, _≤_}
-use native.Mathlib.Omega.{arith}
 use borrow.Author.Needs.{needs}
 use Rattle.inventory.specs.Queue.{queuesAllowed}
 use Rattle.inventory.proofs.Queue.{rows-few, each-start, each-stop, each-on, each-end}
