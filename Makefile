@@ -1,6 +1,6 @@
 # Two targets for a newcomer: `make run` and `make test`.
 
-.PHONY: run test lib install uninstall compare compare-faults bench bench-capture clean
+.PHONY: run test lib salvage install uninstall compare compare-faults bench bench-capture clean
 
 # A guest moves from one card to another, and nothing of it stays behind. The first run proves the crates, in minutes.
 run:
@@ -13,35 +13,50 @@ test:
 
 ARCHIVE := target/staticlib/libkajurnat.a
 
-# What the archive is made of; folders too, so that a file which is gone counts as a change.
-SOURCES := crates.txt $(shell find $(addprefix crates/,$(shell scripts/crates kajurnat)) -name must-fail -prune -o -print)
+# What a crate is made of; folders too, so that a file which is gone counts as a change.
+sources = crates.txt $(shell find $(addprefix crates/,$(shell scripts/crates $1)) -name must-fail -prune -o -print)
 
 # The archive, proved and built where a crate of it has changed.
 lib: $(ARCHIVE)
 	@echo $(ARCHIVE)
 
-$(ARCHIVE): $(SOURCES)
+$(ARCHIVE): $(call sources,kajurnat)
 	@scripts/prove kajurnat
 	@rt staticlib kajurnat >target/log/staticlib.out 2>&1 || { cat target/log/staticlib.out >&2; exit 1; }
+
+SALVAGE := target/bin/salvage_file
+
+# The program for a torn capture; scripts/kajurnat-salvage runs it.
+salvage: $(SALVAGE)
+	@echo scripts/kajurnat-salvage
+
+$(SALVAGE): $(call sources,salvage_file)
+	@scripts/prove salvage_file
+	@touch $@
 
 PREFIX ?= /usr/local
 DESTDIR ?=
 INSTALLED_HEADER := $(DESTDIR)$(PREFIX)/include/kajurnat.h
 INSTALLED_ARCHIVE := $(DESTDIR)$(PREFIX)/lib/libkajurnat.a
 INSTALLED_PC := $(DESTDIR)$(PREFIX)/lib/pkgconfig/kajurnat.pc
+INSTALLED_SALVAGE := $(DESTDIR)$(PREFIX)/bin/kajurnat-salvage
+INSTALLED_PROGRAM := $(DESTDIR)$(PREFIX)/libexec/kajurnat/salvage_file
 VERSION := $(shell sed -n 's/^\#define KAJURNAT_VERSION //p' include/kajurnat.h)
 
-# Archive, header and pkg-config file; PREFIX is where they are used, DESTDIR a folder to pack them from.
-install: $(ARCHIVE)
+# Archive, header, pkg-config file and the program for a torn capture; PREFIX is where they are used, DESTDIR a folder to
+# pack them from.
+install: $(ARCHIVE) $(SALVAGE)
 	install -D -m 644 include/kajurnat.h '$(INSTALLED_HEADER)'
 	install -D -m 644 $(ARCHIVE) '$(INSTALLED_ARCHIVE)'
+	install -D scripts/kajurnat-salvage '$(INSTALLED_SALVAGE)'
+	install -D $(SALVAGE) '$(INSTALLED_PROGRAM)'
 	install -d '$(dir $(INSTALLED_PC))'
 	@printf '%s\n' 'prefix=$(PREFIX)' 'Name: kajurnat' \
 		'Description: verified control plane of a virtio card' 'Version: $(VERSION)' \
 		'Cflags: -I$${prefix}/include' 'Libs: -L$${prefix}/lib -lkajurnat' >'$(INSTALLED_PC)'
 
 uninstall:
-	rm -f '$(INSTALLED_HEADER)' '$(INSTALLED_ARCHIVE)' '$(INSTALLED_PC)'
+	rm -f '$(INSTALLED_HEADER)' '$(INSTALLED_ARCHIVE)' '$(INSTALLED_PC)' '$(INSTALLED_SALVAGE)' '$(INSTALLED_PROGRAM)'
 
 COMPARE := cargo run --offline --quiet --manifest-path docs/src/Cargo.toml --package compare
 SEED ?= 1

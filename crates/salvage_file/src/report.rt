@@ -66,10 +66,10 @@ fn print_count(what: &[u8], n: u32) {
 
 pub fn show(queues: u8, kept: &[u8; ROWS], dropped: &[u32; 4], left: u32) {
     print_parts(queues, kept);
-    print_count(b"dropped as unknown: ", dropped[0]);
-    print_count(b"dropped as a copy after a kept one: ", dropped[1]);
-    print_count(b"dropped for its length: ", dropped[2]);
-    print_count(b"dropped for its value: ", dropped[3]);
+    print_count(b"dropped, unknown: ", dropped[0]);
+    print_count(b"dropped, copy of a kept part: ", dropped[1]);
+    print_count(b"dropped, wrong length: ", dropped[2]);
+    print_count(b"dropped, wrong value: ", dropped[3]);
     print_count(b"bytes left over: ", left);
 }
 

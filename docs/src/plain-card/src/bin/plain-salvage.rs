@@ -5,7 +5,7 @@ use std::error::Error;
 use std::io::{self, Read, Write};
 use std::process::ExitCode;
 
-use plain_card::part::inventory;
+use plain_card::part::{inventory, Part};
 use plain_card::salvage::{salvage, Salvaged};
 use plain_card::setups;
 
@@ -34,10 +34,22 @@ fn run() -> Result<(), Box<dyn Error>> {
 
 fn report(salvaged: &Salvaged, queues: u8) {
     for (part, kept) in inventory(queues).zip(&salvaged.kept) {
-        eprintln!("{part:?}: {}", if *kept { "kept" } else { "filled" });
+        eprintln!("{}: {}", name(part), if *kept { "kept" } else { "filled" });
     }
-    for (cause, count) in ["unknown", "copies", "size", "value"].iter().zip(salvaged.dropped) {
+    let causes = ["unknown", "copy of a kept part", "wrong length", "wrong value"];
+    for (cause, count) in causes.iter().zip(salvaged.dropped) {
         eprintln!("dropped, {cause}: {count}");
     }
     eprintln!("bytes left over: {}", salvaged.left);
+}
+
+fn name(part: Part) -> String {
+    match part {
+        Part::DeviceFeatures => "device features".into(),
+        Part::DriverFeatures => "driver features".into(),
+        Part::PciCommon(_) => format!("PCI common field at {}", part.selector()[0]),
+        Part::DeviceStatus => "device status".into(),
+        Part::Queue(index) => format!("queue {index}"),
+        Part::QueueNotify(index) => format!("queue notify {index}"),
+    }
 }
