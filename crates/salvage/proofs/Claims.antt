@@ -9,6 +9,7 @@ use Rattle.salvage.proofs.Flags.{length-one, length-byte}
 use Rattle.salvage.proofs.Values.{few, kept-stands, kept-none, list-passes, value-written}
 use Rattle.salvage.proofs.Totals.{report-total}
 use Rattle.salvage.proofs.Undamaged.{comes-back}
+use Rattle.salvage.proofs.Stops.{stops-at-cut}
 
 keeps-or-fills : KeepsOrFills
 keeps-or-fills q features l g i r =
@@ -26,4 +27,4 @@ adds-up q features l g =
     }
 
 pub claims : Claims
-claims = record { passes = list-passes; keeps-or-fills = keeps-or-fills; adds-up = adds-up; comes-back = comes-back }
+claims = record { passes = list-passes; keeps-or-fills = keeps-or-fills; adds-up = adds-up; comes-back = comes-back; stops-at-cut = stops-at-cut }

@@ -8,6 +8,7 @@ pub mod Whole
 pub mod Values
 pub mod Totals
 pub mod Undamaged
+pub mod Stops
 pub mod Claims
 pub mod Refusals
 pub mod Under

@@ -2,14 +2,15 @@
 use mathlib.Core.Path.{_≡_}
 use mathlib.Core.Bool.{Bool, true, false}
 use mathlib.Core.List.{List, []}
-use Prim.Native.Nat.{ℕ, _+_, _<_}
+use Prim.Native.Nat.{ℕ, _+_, _-_, _<_}
 use lib.Dec.{eqb}
 use lib.ListN.{length, replicate}
 use Rattle.theory.specs.Logic.{if_then_else_, _and_, _or_, within}
 use Rattle.theory.specs.Bytes.{same}
 use Rattle.inventory.specs.Inventory.{featuresSize, rowAt, rowCount, present, total, partCount}
 use Rattle.parts.specs.declared.ListForm.the-variants.{Parts}
-use Rattle.parts.specs.List.{PartList, end, cut, part, partsOf, among}
+use Rattle.parts.specs.declared.Step.the-variants.{Cut}
+use Rattle.parts.specs.List.{stepAt, PartList, end, cut, part, partsOf, whole, among}
 use Rattle.rules.specs.Rules.{causeOf, isAccepted}
 use Rattle.salvage.specs.Salvage.{leftOver, freshValue, isKeptRow, repaired, keptReport, droppedReport}
 
@@ -86,8 +87,17 @@ abbrev pub ComesBack : Type 0
 ComesBack = (queues : ℕ) (features list : List ℕ) → InSetup queues features → Undamaged queues features list
     → Back queues features list
 
+-- It stops at the end, and nothing is left over, or at a part that is cut: the bytes left over start with its header
+pub record Stops (damaged : List ℕ) : Type 0 where
+  pub at-end : whole (partsOf Parts damaged) ≡ true → leftOver damaged ≡ 0
+  pub at-cut : whole (partsOf Parts damaged) ≡ false → stepAt Parts damaged (length damaged - leftOver damaged) ≡ Cut
+
+abbrev pub StopsAtCut : Type 0
+StopsAtCut = (damaged : List ℕ) → Stops damaged
+
 pub record Claims : Type 0 where
   pub passes : Passes
   pub keeps-or-fills : KeepsOrFills
   pub adds-up : AddsUp
   pub comes-back : ComesBack
+  pub stops-at-cut : StopsAtCut
