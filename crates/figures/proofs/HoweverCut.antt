@@ -1,125 +1,93 @@
 -- The claim of specs/Claims.antt. Assumes nothing.
 use mathlib.Core.Path.{_≡_, refl, ap, sym, _∙_}
-use mathlib.Core.Bool.{false}
+use mathlib.Core.Bool.{true, false}
 use mathlib.Core.List.{List, [], _∷_, _++_, append-assoc, append-nil}
-use Prim.Native.Nat.{ℕ, zero, suc, _+_, _-_, _≤_, _<_}
-use native.Mathlib.Nat.{zero-add}
+use Prim.Native.Nat.{ℕ, _+_, _<_}
 use native.Mathlib.Omega.{arith}
-use borrow.Author.Tests.{lt-ltb, le-ltb, lt-leb, eqb-true, eqb-false}
+use borrow.Author.Tests.{ne-eqb}
 use lib.Dec.{eqb}
-use lib.ListN.{length, getD, take, replicate}
-use lib.Seq.{length-take-le}
-use Rattle.theory.specs.Logic.{unless_answer_then_}
-use Rattle.theory.proofs.Tests.{by-cases}
-use Rattle.tally.specs.Counts.{_plus_}
-use Rattle.tally.specs.Rows.{longest, rowCount}
-use Rattle.sheet.specs.Text.{figures, textOf}
-use Rattle.figures.specs.Stream.{Captures, torn, lengthSize, most, captureThen, capturesIn}
-use Rattle.figures.specs.Sheet.{totals, figuresOf, sheetOf}
-use Rattle.figures.specs.Progress.{readOf, longThen, restIn, withRest, figuresFrom, started, ended, endedIn, finishedOf, Ready}
+use lib.ListN.{length, take}
+use lib.Seq.{take-all, length-take-le}
+use Rattle.theory.specs.Logic.{if_then_else_, unless_answer_then_, _and_}
+use Rattle.theory.proofs.Tests.{by-cases, and-false, false-and}
+use Rattle.setups.specs.Setup.{featuresSize}
+use Rattle.setups.specs.Reading.{versionIn, headSize, headRight, isVersion1, takeVersion1, readVersion1}
+use Rattle.tally.specs.Rows.{longest}
+use Rattle.sheet.specs.Text.{textOf}
+use Rattle.stream.specs.Progress as captures
+use Rattle.stream.proofs.Ends.{at-end, stopped-same}
+use Rattle.figures.specs.Sheet.{setupSize, refusedText, sheetUnder, sheetOf}
+use Rattle.figures.specs.State.{waiting, sheetFrom, sheetIn, finishedOf, finishedIn, over, overIn, Ready}
 use Rattle.figures.specs.Claims.{Fed, none, next, joined, HoweverCut}
-use Rattle.figures.specs.declared.Item.{Item}
-use Rattle.figures.specs.declared.Item.the-variants as item
-use Rattle.figures.specs.declared.Progress.{Progress}
-use Rattle.figures.proofs.Totals.{length-totals, none-left, torn-left}
-use Rattle.figures.proofs.Takes.{rest-is, within-is, going-is}
+use Rattle.figures.specs.declared.Phase.{Phase}
+use Rattle.figures.specs.declared.Phase.the-variants as phase
+use Rattle.figures.specs.declared.State.{State}
+use Rattle.figures.proofs.Taking.{without-ready, sheet-is, standing-is}
 
--- ---- the start ----
+-- ---- under 19 bytes ----
 
-zero-at : (n i : ℕ) → _≡_ {A = ℕ} (getD (replicate n 0) i 0) 0
-zero-at zero i = refl
-zero-at (suc n) zero = refl
-zero-at (suc n) (suc i) = zero-at n i
+no-version-1 : (l : List ℕ) → length l < setupSize → isVersion1 l ≡ false
+unfolding isVersion1
+no-version-1 l h =
+    let n : length l ≡ headSize + featuresSize → ⊥ = λ e. omega arith in
+    rw (ne-eqb (length l) (headSize + featuresSize) n, and-false (eqb (versionIn l) 1)) (false-and (headRight l))
 
-started-ready : (b : List ℕ) → length b ≡ longest → Ready started b
-started-ready b h = record {
-  room = h;
-  more = omega arith;
-  counted = record { some = omega arith; bound = λ i. omega (arith, zero-at rowCount i); upTo = omega arith };
-  within = refl;
-  going = omega arith;
-}
+short-refused : (l rest : List ℕ) → length l < setupSize → sheetUnder (readVersion1 l) rest ≡ refusedText
+unfolding readVersion1 takeVersion1 if_then_else_ unless_answer_then_
+short-refused l rest h = by-cases (eqb (versionIn l) 2) (λ e. rw e) (λ e. rw (e, no-version-1 l h))
 
-zeros-plus : (n : ℕ) (x : List ℕ) → length x ≡ n → replicate n 0 plus x ≡ x
-unfolding _plus_
-zeros-plus zero [] e = refl
-zeros-plus zero (y ∷ x) e = absurd (omega arith)
-zeros-plus (suc n) [] e = absurd (omega arith)
-zeros-plus (suc n) (y ∷ x) e = rw (zero-add, zeros-plus n x (omega arith))
+short-sheet : (l : List ℕ) → length l < setupSize → sheetOf l ≡ refusedText
+unfolding sheetOf
+short-sheet l h = rw (take-all setupSize l (omega arith)) (short-refused l _ h)
 
-module _ (q : ℕ) (features : List ℕ) where
-  from-start : (b l : List ℕ) → figuresFrom q features started b l ≡ figuresOf q features (capturesIn most l)
-  unfolding withRest figuresOf
-  from-start b l = rw (zeros-plus rowCount (totals q features (capturesIn most l)) (length-totals q features (capturesIn most l)))
+-- ---- the end, and nothing more ----
 
-  -- ---- the end ----
+module _ (s : State) (b : List ℕ) (w : Ready s b) where
+  end-in : (ph : Phase) → s .phase ≡ ph → sheetIn ph s b [] ≡ finishedIn ph s
+  unfolding captures.finishedOf
+  end-in phase.Setup e =
+      let h : s .have < setupSize = standing-is s phase.Setup e b w in
+      let n : length (take (s .have) b) ≡ s .have = length-take-le (s .have) b (omega (arith, w .room)) in
+      rw append-nil (short-sheet (take (s .have) b) (omega arith))
+  end-in phase.Captures e =
+      ap textOf (at-end (s .queues) (s .features) (s .progress) b (standing-is s phase.Captures e b w))
+  end-in phase.Refused e = refl
 
-  length-end : (counts h : List ℕ) (m : ℕ) → 0 < m → length h < lengthSize
-      → withRest q features counts (capturesIn m (h ++ [])) ≡ figures counts (eqb (length h) 0)
-  unfolding capturesIn unless_answer_then_
-  length-end counts h zero k s = absurd (omega arith)
-  length-end counts h (suc m) k s =
-      by-cases (eqb (length h) 0)
-      (λ e.
-      let z : length h ≤ 0 = omega (arith, eqb-true (length h) 0 e) in
-      rw (append-nil, e, le-ltb 0 (length h) z) (none-left q features counts))
-      (λ e.
-      let n : length h ≡ 0 → ⊥ = eqb-false _ _ e in
-      let z : 0 < length h = omega arith in
-      rw (append-nil, e, lt-ltb 0 (length h) z, lt-leb lengthSize (length h) s) (torn-left q features counts))
+  ends-here : sheetFrom s b [] ≡ finishedOf s
+  ends-here = end-in (s .phase) refl
 
-  capture-end : (n : ℕ) (h : List ℕ) (rest : List ℕ → Captures) → length h < n → captureThen n (h ++ []) rest ≡ torn
-  unfolding captureThen unless_answer_then_
-  capture-end n h rest k = rw (append-nil, lt-leb n (length h) k)
+over-in : (ph : Phase) (s : State) (b l : List ℕ) → overIn ph s ≡ true → sheetIn ph s b l ≡ sheetIn ph s b []
+over-in phase.Setup s b l h = cc
+over-in phase.Captures s b l h = ap textOf (stopped-same (s .queues) (s .features) (s .progress) b l h)
+over-in phase.Refused s b l h = refl
 
-  long-end : (n : ℕ) (rest : List ℕ → Captures) → 0 < n → longThen n [] rest ≡ torn
-  unfolding longThen unless_answer_then_
-  long-end n rest k = rw (lt-leb n 0 k)
+-- ---- the chunks ----
 
-  at-end : (p : Progress) (b : List ℕ) → Ready p b → figuresFrom q features p b [] ≡ figures (p .counts) (ended p)
-  at-end p b w = cases (p .item) refl
-    where
-      torn-here : (i : Item) → p .item ≡ i → endedIn i (p .have) ≡ false
-          → restIn i (p .have) (p .left) (most - readOf (p .counts)) (take (p .have) b) [] ≡ torn
-          → figuresFrom q features p b [] ≡ figures (p .counts) (ended p)
-      torn-here i e n t =
-          ap (withRest q features (p .counts)) (rest-is p b i e [] ∙ t) ∙ torn-left q features (p .counts)
-          ∙ ap (figures (p .counts)) (sym n ∙ ap (λ j. endedIn j (p .have)) (sym e))
+fed-ready : {s r : State} {b after : List ℕ} {chunks : List (List ℕ)} → Fed s b chunks r after → Ready s b → Ready r after
+fed-ready none w = w
+fed-ready (next t f) w = fed-ready f (t .ready)
 
-      cases : (i : Item) → p .item ≡ i → figuresFrom q features p b [] ≡ figures (p .counts) (ended p)
-      cases item.Length e =
-          let f : p .have + p .left ≡ lengthSize = within-is p b item.Length e w in
-          let g : readOf (p .counts) < most = going-is p b item.Length e w in
-          let n : length (take (p .have) b) ≡ p .have = length-take-le (p .have) b (omega (arith, w .room)) in
-          ap (withRest q features (p .counts)) (rest-is p b item.Length e [])
-          ∙ length-end (p .counts) (take (p .have) b) (most - readOf (p .counts)) (omega arith) (omega (arith, w .more))
-          ∙ ap (λ k. figures (p .counts) (eqb k 0)) n ∙ ap (λ j. figures (p .counts) (endedIn j (p .have))) (sym e)
-      cases item.Capture e =
-          let f : p .have + p .left ≤ longest = within-is p b item.Capture e w in
-          let n : length (take (p .have) b) ≡ p .have = length-take-le (p .have) b (omega (arith, w .room)) in
-          torn-here item.Capture e refl (capture-end (p .have + p .left) (take (p .have) b) _ (omega (arith, w .more)))
-      cases item.Skipped e = torn-here item.Skipped e refl (long-end (p .left) _ (w .more))
-      cases item.Stopped e = torn-here item.Stopped e refl refl
+fed-same : {s r : State} {b after : List ℕ} {chunks : List (List ℕ)} → Fed s b chunks r after → (l : List ℕ)
+    → sheetFrom r after l ≡ sheetFrom s b (joined chunks ++ l)
+unfolding joined
+fed-same none l = refl
+fed-same {s} {b = b} (next {chunk = c} {chunks = cs} t f) l =
+    fed-same f l ∙ t .same (joined cs ++ l) ∙ ap (sheetFrom s b) (sym (append-assoc c (joined cs) l))
 
-  -- ---- the chunks ----
+start-ready : (b : List ℕ) → length b ≡ longest → Ready (waiting 0) b
+start-ready b h = without-ready phase.Setup 0 b h (omega arith)
 
-  fed-ready : {p r : Progress} {b after : List ℕ} {chunks : List (List ℕ)} → Fed q features p b chunks r after → Ready p b → Ready r after
-  fed-ready none w = w
-  fed-ready (next t f) w = fed-ready f (t .ready)
+module _ (b : List ℕ) (chunks : List (List ℕ)) (r : State) (after : List ℕ) (h : length b ≡ longest)
+    (f : Fed (waiting 0) b chunks r after) where
+  ends : finishedOf r ≡ sheetOf (joined chunks)
+  ends = sym (ends-here r after (fed-ready f (start-ready b h))) ∙ fed-same f [] ∙ ap sheetOf (append-nil (joined chunks))
 
-  fed-same : {p r : Progress} {b after : List ℕ} {chunks : List (List ℕ)} → Fed q features p b chunks r after → (l : List ℕ)
-      → figuresFrom q features r after l ≡ figuresFrom q features p b (joined chunks ++ l)
-  unfolding joined
-  fed-same none l = refl
-  fed-same {p} {b = b} (next {chunk = c} {chunks = cs} t f) l =
-      fed-same f l ∙ t .same (joined cs ++ l) ∙ ap (figuresFrom q features p b) (sym (append-assoc c (joined cs) l))
+  stops : (l : List ℕ) → over r ≡ true → finishedOf r ≡ sheetOf (joined chunks ++ l)
+  stops l o = sym (ends-here r after (fed-ready f (start-ready b h))) ∙ sym (over-in (r .phase) r after l o) ∙ fed-same f l
 
 pub however-cut : HoweverCut
-unfolding finishedOf sheetOf
 however-cut = record {
-  starts = started-ready;
-  ends = λ q features b chunks r after h f.
-      ap textOf
-      (sym (at-end q features r after (fed-ready q features f (started-ready b h))) ∙ fed-same q features f []
-      ∙ ap (figuresFrom q features started b) (append-nil (joined chunks)) ∙ from-start q features b (joined chunks));
+  starts = start-ready;
+  ends = λ b chunks r after h f. ends b chunks r after h f;
+  stops = λ b chunks r after l h f o. stops b chunks r after h f l o;
 }

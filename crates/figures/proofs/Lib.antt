@@ -1,6 +1,3 @@
-pub mod Totals
-pub mod Rest
-pub mod Takes
-pub mod Feeding
+pub mod Taking
 pub mod HoweverCut
 pub mod Example

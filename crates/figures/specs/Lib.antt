@@ -1,5 +1,3 @@
-pub mod Stream
 pub mod Sheet
-pub mod Progress
-pub mod Steps
+pub mod State
 pub mod Claims

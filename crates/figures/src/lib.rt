@@ -1,230 +1,177 @@
-// The figures of a stream of captures, 02, request 11. The stream behind its setup is taken in chunks that end anywhere: the
-// numbers by value, the bytes of the item under way in a lent buffer.
+// The sheet of a stream, 02, request 11: a setup of version 1, then captures. The stream is taken in chunks that end
+// anywhere: the state by value, the bytes of what is under way in a lent buffer.
 ghost use mathlib.Core.Path.{_≡_};
-ghost use Prim.Native.Nat.{_<_, _≤_};
+ghost use Prim.Native.Nat.{_≤_};
 ghost use lib.ListN.{length};
 ghost use Rattle.theory.specs.Bytes.{put};
-ghost use Rattle.wire.specs.Le.{number};
-ghost use Rattle.tally.specs.Counts.{_plus_};
-ghost use Rattle.tally.specs.Rows.{longest, addsOf};
+ghost use Rattle.tally.specs.Rows.{longest};
 ghost use Rattle.sheet.specs.Text.{sheetRoom};
-ghost use Rattle.figures.specs.Stream.{lengthSize};
-ghost use Rattle.figures.specs.Progress.{started, ended, finishedOf, Counted, Ready, Run, Took};
-ghost use Rattle.figures.specs.Steps.{awaiting, opened, skipped};
-use tally::LINES;
-use tally::LONGEST;
-use tally::READ;
+ghost use Rattle.stream.specs.Progress.{Counted};
+ghost use Rattle.figures.specs.declared.Phase.the-variants.{Setup};
+ghost use Rattle.figures.specs.Sheet.{refusedText};
+ghost use Rattle.figures.specs.State.{waiting, refused, counting, over, finishedOf, Ready, Took, TookBehind};
+use setups::FEATURES_SIZE;
+use stream::Progress;
 
-// Each capture stands behind its length, in four bytes.
-const LENGTH_SIZE: usize = 4;
+// A setup of version 1.
+const SETUP_SIZE: usize = 19;
 
-// As many captures are taken.
-const MOST: u64 = 4294967295;
-
-// What the stream is in the middle of: the length of a capture, a capture, a long capture, which is skipped. Or nothing
-// more is taken.
-pub enum Item {
-    Length,
-    Capture,
-    Skipped,
-    Stopped,
+// What the stream is in the middle of: its setup, or its captures. Or its setup is refused.
+pub enum Phase {
+    Setup,
+    Captures,
+    Refused,
 }
 
-// The item under way, how many of its bytes are held and how many are still to come, and the numbers of the sheet.
-pub struct Progress {
-    pub item: Item,
+// How many bytes of the setup are held; then what it says, and how far the captures are taken.
+pub struct State {
+    pub phase: Phase,
     pub have: usize,
-    pub left: usize,
-    pub counts: [u64; LINES],
+    pub queues: u8,
+    pub features: [u8; FEATURES_SIZE],
+    pub progress: Progress,
 }
 
-// ---- the end of an item ----
+// ---- the states ----
 
-// A capture has ended: a length comes next, or nothing more is taken.
-fn await_length(counts: [u64; LINES]) -> Progress
-    ensures { λ r. ⌜ r ≡ awaiting counts ⌝ }
+// So many bytes of the setup are held.
+fn await_setup(have: usize) -> State
+    ensures { λ r. ⌜ r ≡ waiting have ⌝ }
 {
-    if counts[READ] < MOST {
-        return Progress {
-            item: Item::Length,
-            have: 0,
-            left: LENGTH_SIZE,
-            counts,
-        };
+    State {
+        phase: Phase::Setup,
+        have,
+        queues: 0,
+        features: [0u8; FEATURES_SIZE],
+        progress: stream::start(),
     }
-    Progress {
-        item: Item::Stopped,
+}
+
+fn refuse() -> State
+    ensures { λ r. ⌜ r ≡ refused ⌝ }
+{
+    State {
+        phase: Phase::Refused,
         have: 0,
-        left: usize::MAX,
-        counts,
+        queues: 0,
+        features: [0u8; FEATURES_SIZE],
+        progress: stream::start(),
     }
 }
 
-// A capture has come whole.
-fn close_capture(counts: [u64; LINES], queues: u8, features: &[u8], capture: &[u8]) -> Progress
-    requires { ⌜ Counted counts × (length (now capture) ≤ longest) ⌝ }
-    ensures { λ r. ⌜ r ≡ awaiting (counts plus addsOf queues (now (features .entry)) (now (capture .entry))) ⌝ }
-{
-    await_length(tally::count_capture(counts, queues, features, capture))
-}
+// ---- a chunk ----
 
-// A length has come whole; its four bytes are the first ones held.
-fn open_capture(counts: [u64; LINES], queues: u8, features: &[u8], held: &[u8]) -> Progress
-    requires { ⌜ Counted counts × (lengthSize ≤ length (now held)) ⌝ }
-    ensures { λ r. ⌜ r ≡ opened queues (now (features .entry)) counts (number 0 lengthSize (now (held .entry))) ⌝ }
+// Bytes of captures, under a setup with so many queues and these features.
+fn take_captures(
+    p: Progress,
+    queues: u8,
+    features: [u8; FEATURES_SIZE],
+    buffer: &mut [u8],
+    chunk: &[u8],
+) -> State
+    requires { ⌜ Ready (counting queues features p) (now buffer) ⌝ }
+    ensures { λ r. ⌜ Took (counting queues features p) (now (buffer .entry)) (now (chunk .entry)) r (now (buffer .exit)) ⌝ }
 {
-    let n = wire::read_u32(held, 0) as usize;
-    if n == 0 {
-        return close_capture(counts, queues, features, &held[0..0]);
-    }
-    if n <= LONGEST {
-        return Progress {
-            item: Item::Capture,
-            have: 0,
-            left: n,
-            counts,
-        };
-    }
-    Progress {
-        item: Item::Skipped,
+    let progress = stream::feed(p, queues, &features, buffer, chunk);
+    State {
+        phase: Phase::Captures,
         have: 0,
-        left: n,
-        counts,
+        queues,
+        features,
+        progress,
     }
 }
 
-// ---- a run: bytes of a chunk, no more than the item under way still takes ----
-
-// Bytes of a length.
-fn take_length(p: Progress, queues: u8, features: &[u8], buffer: &mut [u8], run: &[u8]) -> Progress
-    requires { ⌜ Ready p (now buffer) × (p .item ≡ Item.Length) × Run (p .left) (length (now run)) (length (now run)) ⌝ }
-    ensures { λ r. ⌜ Took queues (now (features .entry)) p (now (buffer .entry)) (now (run .entry)) r (now (buffer .exit)) ⌝ }
+// The setup has come whole, at the front of the buffer, and this follows it.
+fn open_captures(buffer: &mut [u8], rest: &[u8]) -> State
+    requires { ⌜ length (now buffer) ≡ longest ⌝ }
+    ensures { λ r. ⌜ TookBehind (now (buffer .entry)) (now (rest .entry)) r (now (buffer .exit)) ⌝ }
 {
-    let have = p.have;
-    let left = p.left;
-    let counts = p.counts;
-    let n = run.len();
-    wire::copy(buffer, have, run);
-    if n < left {
-        return Progress {
-            item: Item::Length,
-            have: have + n,
-            left: left - n,
-            counts,
-        };
+    let outcome = setups::read_version_1(&buffer[0..SETUP_SIZE]);
+    let answer = outcome.answer;
+    if setups::read_number(answer) != 0 {
+        return refuse();
     }
-    open_capture(counts, queues, features, buffer)
+    let setup = outcome.setup;
+    let queues = setup.queues;
+    let features = setup.features;
+    take_captures(stream::start(), queues[0], features, buffer, rest)
 }
 
-// Bytes of a capture. One that lies whole in the chunk is not copied.
-fn take_capture(p: Progress, queues: u8, features: &[u8], buffer: &mut [u8], run: &[u8]) -> Progress
-    requires { ⌜ Ready p (now buffer) × (p .item ≡ Item.Capture) × Run (p .left) (length (now run)) (length (now run)) ⌝ }
-    ensures { λ r. ⌜ Took queues (now (features .entry)) p (now (buffer .entry)) (now (run .entry)) r (now (buffer .exit)) ⌝ }
+// Bytes of the setup, and what follows it.
+fn take_setup(s: State, buffer: &mut [u8], chunk: &[u8]) -> State
+    requires { ⌜ Ready s (now buffer) × (s .phase ≡ Setup) ⌝ }
+    ensures { λ r. ⌜ Took s (now (buffer .entry)) (now (chunk .entry)) r (now (buffer .exit)) ⌝ }
 {
-    let have = p.have;
-    let left = p.left;
-    let counts = p.counts;
-    let n = run.len();
-    if n < left {
-        wire::copy(buffer, have, run);
-        return Progress {
-            item: Item::Capture,
-            have: have + n,
-            left: left - n,
-            counts,
-        };
+    let have = s.have;
+    let left = SETUP_SIZE - have;
+    if chunk.len() < left {
+        wire::copy(buffer, have, chunk);
+        return await_setup(have + chunk.len());
     }
-    if have == 0 {
-        return close_capture(counts, queues, features, run);
-    }
-    wire::copy(buffer, have, run);
-    let end = have + n;
-    close_capture(counts, queues, features, &buffer[0..end])
-}
-
-// So many bytes of a long capture.
-fn skip_bytes(p: Progress, count: usize) -> Progress
-    requires { ⌜ Counted (p .counts) × (count ≤ p .left) ⌝ }
-    ensures { λ r. ⌜ r ≡ skipped p count ⌝ }
-{
-    let left = p.left;
-    let counts = p.counts;
-    if count < left {
-        return Progress {
-            item: Item::Skipped,
-            have: 0,
-            left: left - count,
-            counts,
-        };
-    }
-    await_length(tally::count_long(counts))
-}
-
-// Bytes of the item under way.
-fn take_run(p: Progress, queues: u8, features: &[u8], buffer: &mut [u8], run: &[u8]) -> Progress
-    requires { ⌜ Ready p (now buffer) × Run (p .left) (length (now run)) (length (now run)) ⌝ }
-    ensures { λ r. ⌜ Took queues (now (features .entry)) p (now (buffer .entry)) (now (run .entry)) r (now (buffer .exit)) ⌝ }
-{
-    let item = p.item;
-    match item {
-        Item::Capture => return take_capture(p, queues, features, buffer, run),
-        Item::Length => return take_length(p, queues, features, buffer, run),
-        Item::Skipped => return skip_bytes(p, run.len()),
-        Item::Stopped => return p,
-    }
-}
-
-// As many bytes of the rest of a chunk as the item under way still takes.
-fn run_size(left: usize, rest: usize) -> usize
-    requires { ⌜ (0 < left) × (0 < rest) ⌝ }
-    ensures { λ r. ⌜ Run left rest r ⌝ }
-{
-    if left < rest { left } else { rest }
+    wire::copy(buffer, have, &chunk[0..left]);
+    open_captures(buffer, &chunk[left..])
 }
 
 // ---- the stream ----
 
 // Nothing is taken yet.
-pub fn start() -> Progress
-    ensures { λ r. ⌜ r ≡ started ⌝ }
+pub fn start() -> State
+    ensures { λ r. ⌜ r ≡ waiting 0 ⌝ }
 {
-    await_length([0u64; LINES])
+    await_setup(0)
 }
 
 // A chunk, wherever it ends. The buffer is the one of the chunks before it.
-pub fn feed(p: Progress, queues: u8, features: &[u8], buffer: &mut [u8], chunk: &[u8]) -> Progress
-    requires { ⌜ Ready p (now buffer) ⌝ }
-    ensures { λ r. ⌜ Took queues (now (features .entry)) p (now (buffer .entry)) (now (chunk .entry)) r (now (buffer .exit)) ⌝ }
+pub fn feed(s: State, buffer: &mut [u8], chunk: &[u8]) -> State
+    requires { ⌜ Ready s (now buffer) ⌝ }
+    ensures { λ r. ⌜ Took s (now (buffer .entry)) (now (chunk .entry)) r (now (buffer .exit)) ⌝ }
 {
-    let mut s = p;
-    let mut at = 0;
-    while at < chunk.len() {
-        let left = s.left;
-        let end = at + run_size(left, chunk.len() - at);
-        s = take_run(s, queues, features, buffer, &chunk[at..end]);
-        at = end;
+    let phase = s.phase;
+    match phase {
+        Phase::Setup => return take_setup(s, buffer, chunk),
+        Phase::Captures => {
+            let queues = s.queues;
+            let features = s.features;
+            let progress = s.progress;
+            return take_captures(progress, queues, features, buffer, chunk);
+        }
+        Phase::Refused => return s,
     }
-    s
 }
 
-// Whether the stream can end here.
-fn is_whole(p: Progress) -> bool
-    ensures { λ r. ⌜ r ≡ ended p ⌝ }
+// Whether nothing more is taken, whatever follows.
+pub fn is_over(s: State) -> bool
+    ensures { λ r. ⌜ r ≡ over s ⌝ }
 {
-    let item = p.item;
-    match item {
-        Item::Length => p.have == 0,
-        Item::Capture => false,
-        Item::Skipped => false,
-        Item::Stopped => false,
+    let phase = s.phase;
+    let progress = s.progress;
+    match phase {
+        Phase::Setup => false,
+        Phase::Captures => stream::is_stopped(progress),
+        Phase::Refused => true,
     }
+}
+
+// That the setup is refused, from the start of the buffer. Answers how long that is.
+fn write_refused(out: &mut [u8]) -> usize
+    requires { ⌜ sheetRoom ≤ length (now out) ⌝ }
+    ensures { λ r. ⌜ (now (out .exit) ≡ put 0 refusedText (now (out .entry))) × (r ≡ length refusedText) ⌝ }
+{
+    wire::copy(out, 0, b"setup refused\n");
+    14
 }
 
 // The stream has ended: its sheet, from the start of the buffer. Answers how long it is.
-pub fn finish(p: Progress, out: &mut [u8]) -> usize
-    requires { ⌜ Counted (p .counts) × (sheetRoom ≤ length (now out)) ⌝ }
-    ensures { λ r. ⌜ (now (out .exit) ≡ put 0 (finishedOf p) (now (out .entry))) × (r ≡ length (finishedOf p)) ⌝ }
+pub fn finish(s: State, out: &mut [u8]) -> usize
+    requires { ⌜ Counted (s .progress .counts) × (sheetRoom ≤ length (now out)) ⌝ }
+    ensures { λ r. ⌜ (now (out .exit) ≡ put 0 (finishedOf s) (now (out .entry))) × (r ≡ length (finishedOf s)) ⌝ }
 {
-    let counts = p.counts;
-    sheet::write(out, counts, is_whole(p))
+    let phase = s.phase;
+    let progress = s.progress;
+    match phase {
+        Phase::Setup => return write_refused(out),
+        Phase::Captures => return stream::finish(progress, out),
+        Phase::Refused => return write_refused(out),
+    }
 }

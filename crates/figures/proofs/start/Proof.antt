@@ -1,8 +1,0 @@
--- `figures::start` meets its contract. Assumes nothing.
-use borrow.Author.Needs.{needs}
-use Rattle.figures.proofs.Feeding.{starts}
-use Rattle.figures.proofs.start.Statement.{statement}
-use Rattle.figures.proofs.start.Tie as tie
-
-pub start-spec : {M : Type 1} → statement M
-start-spec = tie.close (tie.spec (λ c κs. search needs) (λ c. search starts))

@@ -1,0 +1,4 @@
+pub mod Stream
+pub mod Totals
+pub mod Progress
+pub mod Steps
