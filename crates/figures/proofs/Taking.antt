@@ -15,9 +15,12 @@ use Rattle.setups.specs.declared.ReadOutcome.{ReadOutcome}
 use Rattle.setups.specs.Setup.{featuresSize}
 use Rattle.setups.specs.Reading.{readNumber, readVersion1}
 use Rattle.tally.specs.Rows.{longest}
-use Rattle.sheet.specs.Text.{textOf}
+use Rattle.sheet.specs.Text.{textOf, sheetRoom}
+use Rattle.sheet.proofs.Lines.{text-short}
 use Rattle.stream.specs.declared.Progress.{Progress}
+use Rattle.stream.specs.Progress.{Counted}
 use Rattle.stream.specs.Progress as captures
+use Rattle.stream.proofs.Feeding.{counts-fit}
 use Rattle.stream.proofs.Rest.{held-more}
 use Rattle.stream.proofs.Ends.{started-ready, from-start}
 use Rattle.figures.specs.Sheet.{setupSize, refusedText, firstCount, sheetAs, sheetUnder, sheetOf}
@@ -91,6 +94,12 @@ module _ (b rest : List ℕ) (h : length b ≡ longest) where
 
 -- ---- the phase under way ----
 
+finished-short : (ph : Phase) (s : State) → Counted (s .progress .counts) → length (finishedIn ph s) ≤ sheetRoom
+unfolding captures.finishedOf
+finished-short phase.Setup s w = omega arith
+finished-short phase.Captures s w = text-short (s .progress .counts) (counts-fit (s .progress .counts) w) (captures.ended (s .progress))
+finished-short phase.Refused s w = omega arith
+
 module _ (s : State) (ph : Phase) (e : s .phase ≡ ph) where
   pub sheet-is : (b l : List ℕ) → sheetFrom s b l ≡ sheetIn ph s b l
   sheet-is b l = ap (λ x. sheetIn x s b l) e
@@ -103,6 +112,9 @@ module _ (s : State) (ph : Phase) (e : s .phase ≡ ph) where
 
   pub finish-length : (r : ℕ) → r ≡ length (finishedIn ph s) → r ≡ length (finishedOf s)
   finish-length r f = f ∙ ap (λ x. length (finishedIn x s)) (sym e)
+
+  pub finish-fits : (r : ℕ) → r ≡ length (finishedIn ph s) → Counted (s .progress .counts) → r ≤ sheetRoom
+  finish-fits r f w = rw f (finished-short ph s w)
 
 module _ (s : State) (b chunk : List ℕ) (w : Ready s b) where
   pub captures-ready : s .phase ≡ phase.Captures → Ready (counting (s .queues) (s .features) (s .progress)) b

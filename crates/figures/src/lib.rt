@@ -165,7 +165,7 @@ fn write_refused(out: &mut [u8]) -> usize
 // The stream has ended: its sheet, from the start of the buffer. Answers how long it is.
 pub fn finish(s: State, out: &mut [u8]) -> usize
     requires { ⌜ Counted (s .progress .counts) × (sheetRoom ≤ length (now out)) ⌝ }
-    ensures { λ r. ⌜ (now (out .exit) ≡ put 0 (finishedOf s) (now (out .entry))) × (r ≡ length (finishedOf s)) ⌝ }
+    ensures { λ r. ⌜ (now (out .exit) ≡ put 0 (finishedOf s) (now (out .entry))) × (r ≡ length (finishedOf s)) × (r ≤ sheetRoom) ⌝ }
 {
     let phase = s.phase;
     let progress = s.progress;

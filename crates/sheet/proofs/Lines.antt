@@ -44,6 +44,12 @@ numbers-short counts v (suc k) i h =
     let s = line-short (nameAt i) (getD counts i 0) (v .at i) in
     rw length-append (omega arith)
 
+-- any sheet has room
+pub text-short : (counts : List ℕ) → Below (2 ^ 64) counts → (whole : Bool) → length (textOf (figures counts whole)) ≤ sheetRoom
+unfolding textOf
+text-short counts v true = rw length-append (omega (arith, numbers-short counts v rowCount 0 (omega arith)))
+text-short counts v false = rw length-append (omega (arith, numbers-short counts v rowCount 0 (omega arith)))
+
 module _ (counts : List ℕ) (v : Below (2 ^ 64) counts) (out : List ℕ) (h : sheetRoom ≤ length out) where
   pub numbers-fit : length (itemsFrom (numberLine counts) rowCount 0) ≤ length out
   numbers-fit = omega (arith, numbers-short counts v rowCount 0 (omega arith))
