@@ -1,6 +1,6 @@
 # Two targets for a newcomer: `make run` and `make test`.
 
-.PHONY: run test lib salvage install uninstall compare compare-faults bench bench-capture clean
+.PHONY: run test lib salvage install uninstall compare compare-faults bench bench-capture bench-figures clean
 
 # A guest moves from one card to another, and nothing of it stays behind. The first run proves the crates, in minutes.
 run:
@@ -80,6 +80,13 @@ bench-capture: $(ARCHIVE)
 bench: $(ARCHIVE)
 	@$(BENCH) calls
 	@$(BENCH) growth >target/bench.svg && mv target/bench.svg docs/bench.svg
+
+# The time of a year of captures: the program, the plain one, and reading alone. Two streams of 1 GB, one after the other, stand
+# in TMPDIR meanwhile.
+bench-figures: $(ARCHIVE)
+	@scripts/prove yearly_figures
+	@cargo build --offline --quiet --release --manifest-path docs/src/Cargo.toml --package plain-card --bin plain-figures
+	@$(COMPARE) --release --bin bench-figures -- target/bin/yearly_figures docs/src/target/release/plain-figures
 
 clean:
 	rm -rf target docs/src/target bindings/rust/target examples/c/target

@@ -14,6 +14,7 @@
 //! | [`halves`] | built requests, sent to a card, and its replies, read |
 //! | [`shrink`], [`show`] | the shortest sequence found that shows a difference, as text |
 //! | [`faults`] | planted faults that the above have to find |
+//! | [`sheets`] | the yearly sheet: streams, the program, and planted faults |
 //! | [`bench`], [`fast`] | the timing, and the fastest plain Rust over bytes for it |
 //! | [`arguments`] | the arguments of the programs |
 
@@ -39,6 +40,7 @@ pub mod part_bytes;
 pub mod random;
 pub mod round_trip;
 pub mod sequence;
+pub mod sheets;
 pub mod show;
 pub mod shrink;
 pub mod trial;

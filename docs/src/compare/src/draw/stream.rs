@@ -43,8 +43,15 @@ impl Stream {
 
     /// The next capture, with its length.
     pub fn next_capture(&mut self) -> Vec<u8> {
-        let capture = self.capture();
-        [&(capture.len() as u32).to_le_bytes(), &capture[..]].concat()
+        with_length(&self.capture())
+    }
+
+    /// The next capture as a card writes it, with its length.
+    pub fn next_full(&mut self) -> Vec<u8> {
+        let from = self.random.below(self.card.members.len());
+        let values = &self.card.members[from].values;
+        let parts = inventory(self.queues).map(|name| part(name, values.get(name)));
+        with_length(&parts.collect::<Vec<_>>().concat())
     }
 
     /// What stands at the end of the stream.
@@ -80,6 +87,10 @@ impl Stream {
             }
         }
     }
+}
+
+fn with_length(capture: &[u8]) -> Vec<u8> {
+    [&(capture.len() as u32).to_le_bytes(), capture].concat()
 }
 
 /// A capture around the longest length that is looked into, or far longer.
