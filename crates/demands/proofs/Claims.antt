@@ -25,6 +25,8 @@ use Rattle.demands.proofs.QueuesKept.{set-up-from-packed, queues-kept}
 use Rattle.demands.proofs.QueueCounts.{count-examples-hold}
 use Rattle.setups.proofs.Claims as packed
 use Rattle.setups.proofs.Examples.{setups-written, setups-read}
+use Rattle.figures.proofs.HoweverCut.{however-cut}
+use Rattle.figures.proofs.AddsUp.{adds-up}
 use Rattle.staging.proofs.SetsParts.{finish-is-parts-set}
 use Rattle.staging.proofs.Cut.{holds-joined, cut-anywhere}
 
@@ -72,4 +74,6 @@ claims = record {
   mergedSets = merged-sets;
   foundCaptured = found-captured;
   salvagedAccepted = salvaged-accepted;
+  howeverCut = however-cut;
+  addsUp = adds-up;
 }

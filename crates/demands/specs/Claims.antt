@@ -22,6 +22,7 @@ use Rattle.events.specs.Events.{setupWith, setUp, setUpFrom, resetMember}
 use Rattle.setups.specs.Writing.{written as packedIn}
 use Rattle.setups.specs.Claims.{Claims as PackedSetups}
 use Rattle.setups.specs.Examples.{SetupsWritten, SetupsRead}
+use Rattle.figures.specs.Claims.{HoweverCut, AddsUp}
 use Rattle.admin.specs.Command.{respond, commandOf}
 use Rattle.staging.specs.Staging.{dropOf}
 use Rattle.staging.specs.Claims.{FinishIsPartsSet, HoldsJoined, CutAnywhere}
@@ -257,6 +258,11 @@ QueuesKept = (c : List ℕ) (m : ℕ) → isMember c m ≡ true → (x : Call) �
 
 -- The worked examples Q1 to Q4: QueueCounts.antt
 
+-- ---- REQUEST 11, SPEC 13.11: a year of captures in figures ----
+
+-- However a stream is cut, feeding the chunks gives the sheet of the whole, and its lines add up: figures/specs/Claims.antt.
+-- Example: figures/proofs/Example.antt
+
 -- ---- all of them ----
 
 pub record Claims : Type 1 where
@@ -316,3 +322,6 @@ pub record Claims : Type 1 where
   pub foundCaptured : FoundCaptured
   -- request 8
   pub salvagedAccepted : SalvagedAccepted
+  -- request 11
+  pub howeverCut : HoweverCut
+  pub addsUp : AddsUp

@@ -1,3 +1,4 @@
 pub mod Taking
+pub mod AddsUp
 pub mod HoweverCut
 pub mod Example

@@ -1,13 +1,17 @@
--- However a stream is cut into chunks, feeding them and finishing gives the sheet of the whole: 02, request 11. Assumes nothing.
+-- What holds of every stream and its sheet: 02, request 11. Assumes nothing.
 use mathlib.Core.Path.{_≡_}
 use mathlib.Core.Bool.{true}
 use mathlib.Core.List.{List, [], _∷_, _++_}
-use Prim.Native.Nat.{ℕ}
-use lib.ListN.{length}
+use Prim.Native.Nat.{ℕ, _+_}
+use lib.ListN.{length, getD, take, drop}
 use Rattle.tally.specs.Rows.{longest}
+use Rattle.stream.specs.Stream.{Captures}
+use Rattle.stream.specs.Totals.{totals}
 use Rattle.figures.specs.Sheet.{sheetOf}
 use Rattle.figures.specs.State.{waiting, finishedOf, over, Ready, Took}
 use Rattle.figures.specs.declared.State.{State}
+
+-- ---- however a stream is cut into chunks, feeding them and finishing gives the sheet of the whole ----
 
 -- chunks that `feed` took one after the other, from the state s with the buffer b to r with after
 pub data Fed : State → List ℕ → List (List ℕ) → State → List ℕ → Type 0 where
@@ -32,3 +36,14 @@ pub record HoweverCut : Type 0 where
   pub stops : (buffer : List ℕ) (chunks : List (List ℕ)) (r : State) (after l : List ℕ)
       → length buffer ≡ longest → Fed (waiting 0) buffer chunks r after → over r ≡ true
       → finishedOf r ≡ sheetOf (joined chunks ++ l)
+
+-- ---- the lines add up ----
+
+unfoldable pub sum : List ℕ → ℕ
+sum [] = 0
+sum (n ∷ ns) = n + sum ns
+
+-- each capture that is read is accepted or has one cause: the first number is the sum of the eight that follow it
+abbrev pub AddsUp : Type 0
+AddsUp = (queues : ℕ) (features : List ℕ) (cs : Captures)
+    → getD (totals queues features cs) 0 0 ≡ sum (take 8 (drop 1 (totals queues features cs)))
