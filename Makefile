@@ -2,7 +2,8 @@
 
 .PHONY: run test lib salvage install uninstall compare compare-faults bench bench-capture bench-figures clean
 
-# A guest moves from one card to another, and nothing of it stays behind. The first run proves the crates, in minutes.
+# A guest moves from one card to another, and nothing of it stays behind; a torn capture of it is salvaged. The first run
+# proves the crates, in minutes.
 run:
 	@scripts/prove migrate
 	@./target/bin/migrate

@@ -1,18 +1,27 @@
-// A guest moves: it is stopped and captured on one card, restored on another from fragments and resumed there; its first
-// place is reset, and the next guest is shown to find nothing of it. A transcript goes to standard output.
+// A guest moves between two cards that are set up from one packed setup: it is stopped and captured on the first, restored
+// on the second from fragments and resumed there; its first place is handed back and wiped, and the next guest is shown to
+// find nothing of it. At the end its capture is torn, and what is salvaged of it is set. A transcript goes to standard output.
 use host::Outcome;
 use transcript::Request;
 
-// A card of four members with two queues each.
+// A card of four members; those of the story have two queues.
 const MEMBERS: u64 = 4;
 
-const QUEUES: [u8; 4] = [2, 2, 2, 2];
+const QUEUES: [u8; 4] = [1, 2, 2, 4];
 
 const CARD: usize = 5091;
-// A full capture: the reply's head and all parts.
+// Its setup, packed, and what of it stands before the features: SPEC 13.9.
+const SETUP: usize = 20;
+
+const SETUP_FRONT: usize = 4;
+// A full capture: the reply's head and the list of all parts.
 const CAPTURE: usize = 309;
 
+const LIST: usize = 301;
+
 const PARTS: usize = 11;
+// A capture that is cut here is torn in the device status.
+const TORN: usize = 158;
 // The head of a reply and the header of a part.
 const HEAD: usize = 8;
 
@@ -51,8 +60,8 @@ fn show_written(request: &[u8], reply: &[u8], written: usize) {
     }
 }
 
-// Sends a command and tells how it went; answers the bytes written.
-fn tell(name: &[u8], request: Request, card: &mut [u8], reply: &mut [u8]) -> usize {
+// Sends a command and tells how it went.
+fn tell(name: &[u8], request: Request, card: &mut [u8], reply: &mut [u8]) {
     let bytes = request.bytes;
     let len = request.len;
     let written = request.send(card, reply);
@@ -64,20 +73,64 @@ fn tell(name: &[u8], request: Request, card: &mut [u8], reply: &mut [u8]) -> usi
     transcript::print(b", ");
     transcript::print_number(written as u64);
     transcript::print(b" bytes\n");
-    written
+}
+
+// Sends a command and tells its status alone.
+fn tell_status(separator: &[u8], request: Request, card: &mut [u8], reply: &mut [u8]) {
+    let bytes = request.bytes;
+    let written = request.send(card, reply);
+    transcript::print(separator);
+    show_written(&bytes, reply, written);
+}
+
+fn get_all(name: &[u8], card: &mut [u8], member: u64, reply: &mut [u8]) {
+    tell(name, Request::get_all(member), card, reply);
+}
+
+// A get object 0 and a set object 1.
+fn objects(card: &mut [u8], member: u64, reply: &mut [u8]) {
+    tell_status(
+        b", ",
+        Request::create(member, 0, transcript::GET),
+        card,
+        reply,
+    );
+    tell_status(
+        b", ",
+        Request::create(member, 1, transcript::SET),
+        card,
+        reply,
+    );
+}
+
+// What makes a member ready for captures and restores.
+fn prepare(card: &mut [u8], member: u64, reply: &mut [u8]) {
+    transcript::print(b"  list use, create get 0, create set 1, mode set stop -> ");
+    tell_status(b"", Request::list_use(transcript::ALL), card, reply);
+    objects(card, member, reply);
+    tell_status(b", ", Request::mode_set(member, 1), card, reply);
+    transcript::print(b"\n");
+}
+
+// How a setup or a card event went.
+fn tell_event(name: &[u8], answer: u8) {
+    transcript::print(name);
+    if answer == 0 {
+        transcript::print(b"DONE");
+    } else {
+        transcript::print(b"REFUSED");
+    }
 }
 
 // How a call of a restore went: its answer is status + 65,536 x qualifier.
 fn tell_answer(answer: u32) {
-    transcript::print(b" -> ");
+    transcript::print(b" ");
     name_status((answer % 0x1_0000) as u16);
-    transcript::print(b"\n");
 }
 
 fn feed(card: &mut [u8], member: u64, fragment: &[u8]) {
-    transcript::print(b"  restore feed              ");
+    transcript::print(b", feed ");
     transcript::print_number(fragment.len() as u64);
-    transcript::print(b" bytes");
     tell_answer(kajurnat::kajurnat_restore_feed(card, member, fragment));
 }
 
@@ -86,45 +139,15 @@ fn restore(card: &mut [u8], member: u64, reply: &[u8]) {
     if reply.len() < CAPTURE {
         return;
     }
-    transcript::print(b"  restore begin           ");
+    transcript::print(b"  restore begin");
     tell_answer(kajurnat::kajurnat_restore_begin(card, member));
     feed(card, member, &reply[HEAD..9]);
     feed(card, member, &reply[9..108]);
     feed(card, member, &reply[108..108]);
     feed(card, member, &reply[108..CAPTURE]);
-    transcript::print(b"  restore finish, set 1   ");
+    transcript::print(b", finish through set 1");
     tell_answer(kajurnat::kajurnat_restore_finish(card, member, 1));
-}
-
-fn objects(card: &mut [u8], member: u64, reply: &mut [u8]) {
-    tell(
-        b"object create, get 0      ",
-        Request::create(member, 0, transcript::GET),
-        card,
-        reply,
-    );
-    tell(
-        b"object create, set 1      ",
-        Request::create(member, 1, transcript::SET),
-        card,
-        reply,
-    );
-}
-
-fn prepare(card: &mut [u8], member: u64, reply: &mut [u8]) {
-    tell(
-        b"list use, all ten         ",
-        Request::list_use(transcript::ALL),
-        card,
-        reply,
-    );
-    objects(card, member, reply);
-    tell(
-        b"mode set, stop            ",
-        Request::mode_set(member, 1),
-        card,
-        reply,
-    );
+    transcript::print(b"\n");
 }
 
 // A queue of 256 entries, vector 1, enabled, with its three areas in the guest's memory.
@@ -147,13 +170,13 @@ fn work(card: &mut [u8], member: u64) {
     kajurnat::kajurnat_store(card, member, 0x104, 1, &queue());
 }
 
-// ---- what differs between two captures ----
+// ---- parts by name, and what differs between two captures ----
 
 fn name_part(part_type: u16, selector: u64) {
     match part_type {
         0x100 => transcript::print(b"device features"),
         0x101 => transcript::print(b"driver features"),
-        0x102 => transcript::print(b"PCI common field at"),
+        0x102 => transcript::print(b"PCI field"),
         0x103 => transcript::print(b"device status"),
         0x104 => transcript::print(b"queue"),
         0x105 => transcript::print(b"queue notify"),
@@ -165,11 +188,9 @@ fn name_part(part_type: u16, selector: u64) {
     }
 }
 
-fn show_area(name: &[u8], address: u64) {
-    transcript::print(b"      ");
-    transcript::print(name);
+fn show_area(address: u64) {
+    transcript::print(b" ");
     transcript::print_address(address);
-    transcript::print(b"\n");
 }
 
 fn show_queue(value: &[u8]) {
@@ -182,10 +203,11 @@ fn show_queue(value: &[u8]) {
     transcript::print_number(wire::read(value, 2, 2));
     transcript::print(b", enabled ");
     transcript::print_number(wire::read(value, 4, 2));
+    transcript::print(b"\n      areas");
+    show_area(wire::read(value, 8, 8));
+    show_area(wire::read(value, 16, 8));
+    show_area(wire::read(value, 24, 8));
     transcript::print(b"\n");
-    show_area(b"descriptor area ", wire::read(value, 8, 8));
-    show_area(b"driver area     ", wire::read(value, 16, 8));
-    show_area(b"device area     ", wire::read(value, 24, 8));
 }
 
 fn show_value(part_type: u16, value: &[u8]) {
@@ -211,23 +233,35 @@ fn show_part(before: &[u8], after: &[u8]) {
     show_value(part_type, &after[HEADER..]);
 }
 
-// The part at this place of two captures; answers the place of the next one.
-fn show_change(at: usize, before: &[u8], after: &[u8]) -> usize {
-    if before.len() < CAPTURE {
-        return CAPTURE;
+// The place after the part at this place; the end where no whole part stands here.
+fn next_part(at: usize, list: &[u8]) -> usize {
+    let end = list.len();
+    if end < HEADER {
+        return end;
     }
-    if after.len() < CAPTURE {
-        return CAPTURE;
-    }
-    if CAPTURE - HEADER < at {
-        return CAPTURE;
+    if end - HEADER < at {
+        return end;
     }
     let value = at + HEADER;
-    let size = wire::read(after, at + 12, 4);
-    if ((CAPTURE - value) as u64) < size {
-        return CAPTURE;
+    let size = wire::read(list, at + 12, 4);
+    if ((end - value) as u64) < size {
+        return end;
     }
-    let next = value + size as usize;
+    value + size as usize
+}
+
+// The part at this place of two captures; answers the place of the next one.
+fn show_change(at: usize, before: &[u8], after: &[u8]) -> usize {
+    let next = next_part(at, after);
+    if next < at {
+        return next;
+    }
+    if before.len() < next {
+        return next;
+    }
+    if after.len() < next {
+        return next;
+    }
     show_part(&before[at..next], &after[at..next]);
     next
 }
@@ -242,6 +276,68 @@ fn show_changes(before: &[u8], after: &[u8]) {
     }
 }
 
+// ---- a torn capture ----
+
+fn name_part_at(at: usize, list: &[u8]) {
+    if list.len() < HEADER {
+        return;
+    }
+    if list.len() - HEADER < at {
+        return;
+    }
+    transcript::print(b"  ");
+    name_part(wire::read_u16(list, at), wire::read(list, at + 4, 8));
+}
+
+// The parts of the list of this fate: 1 kept, 0 filled.
+fn show_fate(name: &[u8], fate: u8, list: &[u8], kept: &[u8; PARTS]) {
+    transcript::print(name);
+    let mut at = 0;
+    let mut i = 0;
+    while i < PARTS {
+        if kept[i] == fate {
+            name_part_at(at, list);
+        }
+        at = next_part(at, list);
+        i += 1;
+    }
+    transcript::print(b"\n");
+}
+
+fn salvage(setup: &[u8], member: u64, torn: &[u8], list: &mut [u8], kept: &mut [u8]) {
+    let mut dropped = [0u32; 4];
+    let mut left = 0u32;
+    let written = kajurnat::kajurnat_salvage(
+        setup,
+        member,
+        torn,
+        list,
+        kept,
+        &mut dropped,
+        &mut left,
+    );
+    transcript::print(b"  salvage                   ");
+    transcript::print_number(torn.len() as u64);
+    transcript::print(b" bytes -> ");
+    transcript::print_number(written as u64);
+    transcript::print(b" bytes; left over at the end: ");
+    transcript::print_number(left as u64);
+    transcript::print(b"\n");
+}
+
+// What the torn capture still holds, as a list for the member; the capture comes with the reply's head.
+fn salvage_torn(setup: &[u8], member: u64, capture: &[u8], list: &mut [u8]) {
+    if capture.len() < CAPTURE {
+        return;
+    }
+    let mut kept = [0u8; PARTS];
+    salvage(setup, member, &capture[HEAD..TORN], list, &mut kept);
+    show_fate(b"    kept:", 1, list, &kept);
+    show_fate(b"    filled:", 0, list, &kept);
+}
+
+// ---- the story ----
+
 fn check(name: &[u8], holds: bool) {
     transcript::print(b"  ");
     transcript::print(name);
@@ -252,36 +348,43 @@ fn check(name: &[u8], holds: bool) {
     }
 }
 
-fn setup(card: &mut [u8]) {
-    kajurnat::kajurnat_setup(card, MEMBERS, &QUEUES, 1, 1, &VERSION_1);
+fn show_front(bytes: &[u8], n: usize) {
+    if n <= bytes.len() {
+        transcript::print_hex(&bytes[..n]);
+    }
 }
 
-fn get_all(card: &mut [u8], member: u64, reply: &mut [u8]) {
-    tell(
-        b"parts get, all            ",
-        Request::get_all(member),
-        card,
-        reply,
+// Both cards from the same packed setup.
+fn set_up(source: &mut [u8], target: &mut [u8], setup: &mut [u8]) {
+    kajurnat::kajurnat_setup_write(setup, MEMBERS, &QUEUES, 1, 1, &VERSION_1);
+    tell_event(
+        b"  setup from: first card ",
+        kajurnat::kajurnat_setup_from(source, setup),
     );
+    tell_event(
+        b", second card ",
+        kajurnat::kajurnat_setup_from(target, setup),
+    );
+    transcript::print(b"; the bytes before the features: ");
+    show_front(setup, SETUP_FRONT);
 }
 
 // Member 2 of the first card, before the guest and with it at work.
 fn first_place(card: &mut [u8], reply: &mut [u8], unused: &mut [u8], leaving: &mut [u8]) {
-    transcript::print(b"\nFirst card, member 2: before the guest\n");
+    transcript::print(b"\nFirst card, member 2: fresh, and then with a guest at work\n");
     prepare(card, 2, reply);
-    get_all(card, 2, unused);
-    transcript::print(b"\nFirst card, member 2: the guest at work\n");
+    get_all(b"parts get, all: fresh     ", card, 2, unused);
     work(card, 2);
-    get_all(card, 2, leaving);
+    get_all(b"parts get, all: the guest ", card, 2, leaving);
     show_changes(unused, leaving);
 }
 
 // Member 3 of the second card takes the guest over.
 fn second_place(card: &mut [u8], reply: &mut [u8], leaving: &[u8], arrived: &mut [u8]) {
-    transcript::print(b"\nSecond card, member 3: the guest arrives\n");
+    transcript::print(b"\nSecond card, member 3: the guest arrives in fragments\n");
     prepare(card, 3, reply);
     restore(card, 3, leaving);
-    get_all(card, 3, arrived);
+    get_all(b"parts get, all            ", card, 3, arrived);
     tell(
         b"mode set, resume          ",
         Request::mode_set(3, 0),
@@ -290,16 +393,47 @@ fn second_place(card: &mut [u8], reply: &mut [u8], leaving: &[u8], arrived: &mut
     );
 }
 
-// The first place again: a reset, and another guest.
-fn next_guest(card: &mut [u8], reply: &mut [u8], next: &mut [u8]) {
-    transcript::print(b"\nFirst card, member 2: reset, and the next guest\n");
-    kajurnat::kajurnat_hand_back(card, 2);
-    kajurnat::kajurnat_wipe(card, 2, 0);
-    prepare(card, 2, reply);
-    get_all(card, 2, next);
+// Between the two halves of a reset a command is refused.
+fn reset(card: &mut [u8], member: u64, reply: &mut [u8]) {
+    tell_event(
+        b"  hand back                 ",
+        kajurnat::kajurnat_hand_back(card, member),
+    );
+    transcript::print(b"\n");
+    get_all(b"parts get, all            ", card, member, reply);
+    tell_event(
+        b"  wipe                      ",
+        kajurnat::kajurnat_wipe(card, member, 0),
+    );
+    transcript::print(b"\n");
 }
 
-fn conclude(unused: &[u8], leaving: &[u8], arrived: &[u8], next: &[u8]) {
+// The first place again: handed back, wiped, and another guest.
+fn next_guest(card: &mut [u8], reply: &mut [u8], next: &mut [u8]) {
+    transcript::print(b"\nFirst card, member 2: handed back, wiped, and the next guest\n");
+    reset(card, 2, reply);
+    prepare(card, 2, reply);
+    get_all(b"parts get, all            ", card, 2, next);
+}
+
+// Member 2 of the second card takes what is salvaged; answers whether it then holds just that.
+fn torn_place(card: &mut [u8], reply: &mut [u8], setup: &[u8], leaving: &[u8]) -> bool {
+    let mut list = [0u8; LIST];
+    let mut taken = [0u8; CAPTURE];
+    transcript::print(b"\nSecond card, member 2: the guest's capture, torn in the middle\n");
+    prepare(card, 2, reply);
+    salvage_torn(setup, 2, leaving, &mut list);
+    tell(
+        b"parts set, what was saved ",
+        Request::set(2, 1, &list),
+        card,
+        reply,
+    );
+    get_all(b"parts get, all            ", card, 2, &mut taken);
+    wire::equal(&list, &taken[HEAD..])
+}
+
+fn conclude(unused: &[u8], leaving: &[u8], arrived: &[u8], next: &[u8], saved: bool) {
     transcript::print(b"\nWhat was checked\n");
     check(
         b"the guest had changed its member",
@@ -310,12 +444,16 @@ fn conclude(unused: &[u8], leaving: &[u8], arrived: &[u8], next: &[u8]) {
         wire::equal(leaving, arrived),
     );
     check(
-        b"the next guest finds the member as fresh as the first one did",
+        b"the next guest finds what a fresh member holds, byte for byte",
         wire::equal(unused, next),
+    );
+    check(
+        b"a stopped member took the salvaged list and holds just that",
+        saved,
     );
 }
 
-fn move_guest(source: &mut [u8], target: &mut [u8]) {
+fn move_guest(source: &mut [u8], target: &mut [u8], setup: &[u8]) {
     let mut reply = [0u8; CAPTURE];
     let mut unused = [0u8; CAPTURE];
     let mut leaving = [0u8; CAPTURE];
@@ -324,14 +462,17 @@ fn move_guest(source: &mut [u8], target: &mut [u8]) {
     first_place(source, &mut reply, &mut unused, &mut leaving);
     second_place(target, &mut reply, &leaving, &mut arrived);
     next_guest(source, &mut reply, &mut next);
-    conclude(&unused, &leaving, &arrived, &next);
+    let saved = torn_place(target, &mut reply, setup, &leaving);
+    conclude(&unused, &leaving, &arrived, &next, saved);
 }
 
 fn main() {
     let mut source = [0u8; CARD];
     let mut target = [0u8; CARD];
-    transcript::print(b"Two cards of four members with two queues each\n");
-    setup(&mut source);
-    setup(&mut target);
-    move_guest(&mut source, &mut target);
+    let mut setup = [0u8; SETUP];
+    transcript::print(
+        b"Two cards of four members with 1, 2, 2 and 4 queues, set up from 20 packed bytes\n",
+    );
+    set_up(&mut source, &mut target, &mut setup);
+    move_guest(&mut source, &mut target, &setup);
 }
