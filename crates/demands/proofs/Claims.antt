@@ -24,6 +24,8 @@ use Rattle.demands.proofs.Halves.{two-halves, marked-refused, halves-ex
 use Rattle.demands.proofs.QueuesKept.{set-up-from-packed, queues-kept}
 use Rattle.demands.proofs.QueueCounts.{count-examples-hold}
 use Rattle.setups.proofs.Claims as packed
+use Rattle.difference.proofs.Claims as difference
+use Rattle.salvage.proofs.Claims as salvage
 use Rattle.setups.proofs.Examples.{setups-written, setups-read}
 use Rattle.figures.proofs.HoweverCut.{however-cut}
 use Rattle.figures.proofs.AddsUp.{adds-up}
@@ -48,32 +50,34 @@ claims = record {
   missingIsZero = missing-is-zero;
   restIsIgnored = rest-is-ignored;
   lengthExamples = length-examples-hold;
-  placesFound = places-found;
-  ringsOnly = rings-only;
-  queueExamples = queue-examples-hold;
-  commutation = commutation;
-  commandsCommute = commands-commute;
-  finishIsPartsSet = finish-is-parts-set;
-  holdsJoined = holds-joined;
-  cutAnywhere = cut-anywhere;
-  holdingKept = holding-kept;
   responded = responded;
   nothingApplied = nothing-applied;
   onlyConfiguration = only-configuration;
   configurationKept = configuration-kept;
   messageExamples = message-examples-hold;
-  twoHalves = two-halves;
-  markedRefused = marked-refused;
-  halvesExamples = halves-examples-hold;
+  placesFound = places-found;
+  ringsOnly = rings-only;
+  queueExamples = queue-examples-hold;
+  finishIsPartsSet = finish-is-parts-set;
+  holdsJoined = holds-joined;
+  cutAnywhere = cut-anywhere;
+  holdingKept = holding-kept;
+  mergedLists = difference.claims;
+  mergedSets = merged-sets;
+  foundCaptured = found-captured;
+  salvagedLists = salvage.claims;
+  salvagedAccepted = salvaged-accepted;
   packedSetups = packed.claims;
   setupsWritten = setups-written;
   setupsRead = setups-read;
   setUpFromPacked = set-up-from-packed;
   queuesKept = queues-kept;
   countExamples = count-examples-hold;
-  mergedSets = merged-sets;
-  foundCaptured = found-captured;
-  salvagedAccepted = salvaged-accepted;
+  twoHalves = two-halves;
+  markedRefused = marked-refused;
+  halvesExamples = halves-examples-hold;
   howeverCut = however-cut;
   addsUp = adds-up;
+  commutation = commutation;
+  commandsCommute = commands-commute;
 }

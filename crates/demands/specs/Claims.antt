@@ -1,8 +1,9 @@
 -- WHAT IS CLAIMED OF THE CARD, by demand, SPEC 9, and by request, SPEC 13. Each claim is over the definitions that the
--- contracts of the exported functions cite: setUp, setUpFrom, commandOf (a command with its buffer; respond is the same without it),
--- handBack, wipe, resetCard, store, beginOf, feedOf, finishOf, dropOf and messageOf (of which answerOf is the same without
--- the buffer). The record Claims at the end lists all of them, and ../proofs/Claims.antt proves it. A claim with hypotheses
--- says which example meets them; where no file is named it is in ../proofs/ClaimsExample.antt. Assumes nothing.
+-- contracts of the exported functions cite: setUp, setUpFrom, commandOf (a command with its buffer; respond is the same
+-- without it), handBack, wipe, resetCard, store, beginOf, feedOf, finishOf, dropOf and messageOf (of which answerOf is
+-- the same without the buffer). The record Claims at the end lists all of them, and ../proofs/Claims.antt proves it. A
+-- claim with hypotheses says which example meets them; where no file is named it is in ../proofs/ClaimsExample.antt.
+-- Assumes nothing.
 use mathlib.Core.Path.{_≡_}
 use mathlib.Core.Logic.{_≢_}
 use mathlib.Core.Bool.{true, false}
@@ -24,6 +25,8 @@ use Rattle.setups.specs.Claims.{Claims as PackedSetups}
 use Rattle.setups.specs.Examples.{SetupsWritten, SetupsRead}
 use Rattle.figures.specs.Claims.{HoweverCut, AddsUp}
 use Rattle.admin.specs.Command.{respond, commandOf}
+use Rattle.difference.specs.Claims.{Claims as MergedLists}
+use Rattle.salvage.specs.Claims.{Claims as SalvagedLists}
 use Rattle.staging.specs.Staging.{dropOf}
 use Rattle.staging.specs.Claims.{FinishIsPartsSet, HoldsJoined, CutAnywhere}
 use Rattle.demands.specs.Calls.{Call, command, handBack, wipe, cardReset, cardStore, restoreBegin, restoreFeed, restoreFinish, restoreDrop, message, written, answered, responded, refused, step, names, Resets}
@@ -48,8 +51,8 @@ StaysSound = (c : List ℕ) (x : Call) → isSound c ≡ true → isSound (step 
 
 -- That every call ends and touches only what it was lent, the prover shows of each function.
 
--- With a reply buffer that is shorter than 8 bytes, or with a card that is not sound, nothing is written and the card stays:
--- step 1 of SPEC 6.1. Examples: short-buffer, unsound-card
+-- With a reply buffer that is shorter than 8 bytes, or with a card that is not sound, nothing is written and the card
+-- stays: step 1 of SPEC 6.1. Examples: short-buffer, unsound-card
 pub record NotWritten : Type 0 where
   pub shortBuffer : (c r b : List ℕ) → length b < 8 → commandOf c r b ≡ (0, (c, b))
   pub unsoundCard : (c r b : List ℕ) → isSound c ≡ false → commandOf c r b ≡ (0, (c, b))
@@ -65,9 +68,10 @@ pub record Delivers (c r b : List ℕ) : Type 0 where
 abbrev pub Delivered : Type 0
 Delivered = (c r b : List ℕ) → Delivers c r b
 
--- After a refusal the card is what it was, whatever bytes it is: SPEC 6.1 and 7.1. The exceptions, SPEC 13.6: a feed that
--- is too long and a finish that is refused leave it as a drop does, which is as it stood where nothing is begun, and else
--- with the holding place gone. Examples: refused-command; refused-feed and refused-finish in ../proofs/RestoreExample.antt
+-- After a refusal the card is what it was, whatever bytes it is: SPEC 6.1 and 7.1. The exceptions, SPEC 13.6: a feed
+-- that is too long and a finish that is refused leave it as a drop does, which is as it stood where nothing is begun,
+-- and else with the holding place gone. Examples: refused-command; refused-feed and refused-finish in
+-- ../proofs/RestoreExample.antt
 unfoldable pub afterRefusal : List ℕ → Call → List ℕ
 afterRefusal c (command r room) = c
 afterRefusal c (handBack m) = c
@@ -83,8 +87,8 @@ afterRefusal c (message x room) = c
 abbrev pub RefusalsChangeNothing : Type 0
 RefusalsChangeNothing = (c : List ℕ) (x : Call) → refused (step c x .1) ≡ true → step c x .0 ≡ afterRefusal c x
 
--- Setup, done, gives a sound card of this setup, with this queue count for each member; refused, it makes every byte of the buffer zero, and zeros are not sound:
--- SPEC 7.2. Examples: setup-done, setup-refused
+-- Setup, done, gives a sound card of this setup, with this queue count for each member; refused, it makes every byte of
+-- the buffer zero, and zeros are not sound: SPEC 7.2. Examples: setup-done, setup-refused
 pub record SetsUp : Type 0 where
   pub done : (b : List ℕ) (n : ℕ) (q : List ℕ) (g s : ℕ) (f : List ℕ) → setUp b n q g s f .0 ≡ Done
       → (isSound (setUp b n q g s f .1) ≡ true)
@@ -112,10 +116,11 @@ pub record SameOutside (at size : ℕ) (c d : List ℕ) : Type 0 where
 abbrev pub DifferAtMost : ℕ → List ℕ → List ℕ → Type 0
 DifferAtMost m c d = SameOutside (recordAt m) recordSize c d
 
--- Two sound cards differ in member m's record at most, and m's mark and its queue count are the same in both. Two sequences of calls, p₁ then r
--- then t on the one and p₂ then r then t on the other: r resets m, by its reply on the first card, t is any, and p₁ and p₂
--- are the same once every call that names m is struck out of both. No hand back and no wipe is. Then the replies, one by one, to all calls before r that do not name m are the same on both cards, and so are
--- the reply to r and to every call after it, and the whole card after r and after each later call. Example:
+-- Two sound cards differ in member m's record at most, and m's mark and its queue count are the same in both. Two
+-- sequences of calls, p₁ then r then t on the one and p₂ then r then t on the other: r resets m, by its reply on the
+-- first card, t is any, and p₁ and p₂ are the same once every call that names m is struck out of both. No hand back and
+-- no wipe is. Then the replies, one by one, to all calls before r that do not name m are the same on both cards, and so
+-- are the reply to r and to every call after it, and the whole card after r and after each later call. Example:
 -- ../proofs/IsolationExample.antt
 abbrev pub Isolation : Type 0
 Isolation =
@@ -126,7 +131,8 @@ Isolation =
     → (r : Call) → Resets m r (step (run step c₁ p₁) r .1) → (t : List Call)
     → seen (names m) (length p₁) (trace step c₁ (p₁ ++ r ∷ t)) ≡ seen (names m) (length p₂) (trace step c₂ (p₂ ++ r ∷ t))
 
--- Integrity, SPEC 9.4, beside isolation, on any card: what a call leaves alone. Examples: names-member, uses-list, sets-parts
+-- Integrity, SPEC 9.4, beside isolation, on any card: what a call leaves alone. Examples: names-member, uses-list,
+-- sets-parts
 pub record Integrity : Type 0 where
   -- one that names m, a hand back of m and a wipe of m changes m's record at most: the setup, the list in use and every
   -- other record stay
@@ -147,8 +153,8 @@ pub record Integrity : Type 0 where
 
 -- ---- REQUEST 2, SPEC 13.2: requests of any length ----
 
--- Whatever the card is, zeros more at the end of a request change neither the card after it nor its reply, as long as they
--- stay within the fixed fields of its command: what is missing reads as zero. Example: cut-create
+-- Whatever the card is, zeros more at the end of a request change neither the card after it nor its reply, as long as
+-- they stay within the fixed fields of its command: what is missing reads as zero. Example: cut-create
 abbrev pub MissingIsZero : Type 0
 MissingIsZero =
     (c r : List ℕ) (n room : ℕ) → 24 ≤ length r → length r + n ≤ 24 + fixedSize (opcodeOf r)
@@ -162,6 +168,11 @@ RestIsIgnored =
 
 -- The worked examples L1 to L15: Lengths.antt
 
+-- ---- REQUEST 3, SPEC 13.3: configuration by message ----
+
+-- What a message leaves, what it touches, what else touches a configuration, and the worked examples M1 to M12:
+-- Messages.antt
+
 -- ---- REQUEST 4, SPEC 13.4: the place of a part ----
 
 -- It is the p-th exactly if the p-th part of the member's inventory is the one asked for, and none exactly if no part is:
@@ -169,8 +180,88 @@ RestIsIgnored =
 
 -- ---- REQUEST 5, SPEC 13.5: queue sizes that no ring has ----
 
--- What a sound card holds, and the worked examples S1 to S6: QueueSizes.antt. That every call keeps it is StaysSound, and that
--- a capture can still be set RoundTrip.
+-- What a sound card holds, and the worked examples S1 to S6: QueueSizes.antt. That every call keeps it is StaysSound,
+-- and that a capture can still be set RoundTrip.
+
+-- ---- REQUEST 6, SPEC 13.6: a restore in fragments ----
+
+-- What finish does, what is held, and that it does not matter how the bytes are cut: staging/specs/Claims.antt. Example:
+-- ../proofs/RestoreExample.antt
+
+-- member m's holding place holds the same bytes in two cards, or is in neither
+pub record SameHolding (c d : List ℕ) (m : ℕ) : Type 0 where
+  pub held : memberIn d m .held ≡ memberIn c m .held
+  pub bytes : holdingIn d m ≡ holdingIn c m
+
+-- No command and no card store touches a holding place, whomever it is for: the four calls and both resets alone do.
+-- Example: member-begun in ../proofs/RestoreExample.antt
+pub record HoldingKept : Type 0 where
+  pub commands : (c : List ℕ) (m : ℕ) → isMember c m ≡ true → (r : List ℕ) (room : ℕ) → SameHolding c (step c (command r room) .0) m
+  pub cardStores : (c : List ℕ) (m : ℕ) → isMember c m ≡ true → (k t s : ℕ) (value : List ℕ) → SameHolding c (step c (cardStore k t s value) .0) m
+
+-- ---- REQUEST 7, SPEC 13.7: a night's difference ----
+
+-- The list made of two, and what is looked up in them: difference/specs/Claims.antt, on a member's values, and
+-- Lists.antt, on commands. Examples: difference/proofs/Example.antt, ../proofs/ListsExample.antt
+
+-- ---- REQUEST 8, SPEC 13.8: salvage of a torn capture ----
+
+-- What is written, kept, filled, dropped and left over: salvage/specs/Claims.antt; that a stopped member takes it:
+-- Lists.antt. Examples: salvage/proofs/Example.antt, ../proofs/ListsExample.antt
+
+-- ---- REQUEST 9, SPEC 13.9: setups that outlive a release ----
+
+-- What is written reads back the same, a refusal writes nothing, what is read is in range: setups/specs/Claims.antt,
+-- and the worked examples of setups/specs/Examples.antt.
+
+-- A setup that is written and then set up gives the card that setup gives for it, byte for byte: n bytes were written
+-- at the front of a buffer, which is b now. Example: ../proofs/QueueCounts.antt
+abbrev pub SetUpFromPacked : Type 0
+SetUpFromPacked =
+    (c buffer : List ℕ) (members : ℕ) (queues : List ℕ) (gets sets : ℕ) (features : List ℕ) (n : ℕ) (b : List ℕ)
+    → _≡_ {A = ℕ × List ℕ} (n, b) (packedIn buffer members queues gets sets features) → (n ≡ 0 → ⊥)
+    → setUpFrom c (take n b) ≡ setUp c members queues gets sets features
+
+-- No call changes a queue count, the resets included. Example: ../proofs/QueueCounts.antt
+abbrev pub QueuesKept : Type 0
+QueuesKept = (c : List ℕ) (m : ℕ) → isMember c m ≡ true → (x : Call) → memberIn (step c x .0) m .queues ≡ memberIn c m .queues
+
+-- The worked examples Q1 to Q4: QueueCounts.antt
+
+-- ---- REQUEST 10, SPEC 13.10: reset in two halves ----
+
+-- The two in a row do what member reset did: on a sound card, for a member that is not marked, both answer 0 and leave
+-- the card that `resetMember` gives. Example: ../proofs/HalvesExample.antt
+pub record DoesReset (c : List ℕ) (m generation : ℕ) : Type 0 where
+  pub handsBack : step c (handBack m) .1 ≡ answered 0
+  pub wipes : step (step c (handBack m) .0) (wipe m generation) ≡ (resetMember c m generation .1, answered 0)
+
+abbrev pub TwoHalves : Type 0
+TwoHalves =
+    (c : List ℕ) (m generation : ℕ) → isSound c ≡ true → isMember c m ≡ true → isMarked c m ≡ false → DoesReset c m generation
+
+-- Between them a command that names m, and whose opcode is in use, answers 11/7 in any buffer of 8 bytes or more, and a
+-- call of SPEC 13.6 for m answers 11/7; a message that names m gets the bus outcome; the card stays. Example:
+-- ../proofs/HalvesExample.antt
+abbrev pub refusesMarked : ℕ
+refusesMarked = 11 + 65536 * 7
+
+pub record Between (c : List ℕ) (m : ℕ) : Type 0 where
+  pub commands : (r : List ℕ) (room : ℕ) → names m (command r room) ≡ true → usable (inUseOf c) (opcodeOf r) ≡ true → 8 ≤ room
+      → step c (command r room) ≡ (c, written (headOf Marked))
+  pub begins : step c (restoreBegin m) ≡ (c, answered refusesMarked)
+  pub feeds : (x : List ℕ) → step c (restoreFeed m x) ≡ (c, answered refusesMarked)
+  pub finishes : (id : ℕ) → step c (restoreFinish m id) ≡ (c, answered refusesMarked)
+  pub drops : step c (restoreDrop m) ≡ (c, answered refusesMarked)
+  pub messages : (x : List ℕ) (room : ℕ) → names m (message x room) ≡ true → step c (message x room) ≡ (c, responded [])
+
+abbrev pub MarkedRefused : Type 0
+MarkedRefused = (c : List ℕ) (m : ℕ) → isSound c ≡ true → isMember c m ≡ true → isMarked c m ≡ true → Between c m
+
+-- ---- REQUEST 11, SPEC 13.11: a year of captures in figures ----
+
+-- However a stream is cut, feeding the chunks gives the sheet of the whole, and its lines add up:
+-- figures/specs/Claims.antt. Example: figures/proofs/Example.antt
 
 -- ---- REQUEST 12, SPEC 13.12: calls for different members, in any order ----
 
@@ -188,80 +279,6 @@ CommandsCommute =
     (c : List ℕ) (m k : ℕ) → m ≢ k → (q : List ℕ) (i : ℕ) (r : List ℕ) (j : ℕ)
     → names m (command q i) ≡ true → names k (command r j) ≡ true
     → (p t : List Call) → Swappable step c p (command q i) (command r j) t
-
--- ---- REQUEST 6, SPEC 13.6: a restore in fragments ----
-
--- What finish does, what is held, and that it does not matter how the bytes are cut: staging/specs/Claims.antt. Example:
--- ../proofs/RestoreExample.antt
-
--- member m's holding place holds the same bytes in two cards, or is in neither
-pub record SameHolding (c d : List ℕ) (m : ℕ) : Type 0 where
-  pub held : memberIn d m .held ≡ memberIn c m .held
-  pub bytes : holdingIn d m ≡ holdingIn c m
-
--- No command and no card store touches a holding place, whomever it is for: the four calls and both resets alone do. Example:
--- member-begun in ../proofs/RestoreExample.antt
-pub record HoldingKept : Type 0 where
-  pub commands : (c : List ℕ) (m : ℕ) → isMember c m ≡ true → (r : List ℕ) (room : ℕ) → SameHolding c (step c (command r room) .0) m
-  pub cardStores : (c : List ℕ) (m : ℕ) → isMember c m ≡ true → (k t s : ℕ) (value : List ℕ) → SameHolding c (step c (cardStore k t s value) .0) m
-
--- ---- REQUEST 3, SPEC 13.3: configuration by message ----
-
--- What a message leaves, what it touches, what else touches a configuration, and the worked examples M1 to M12: Messages.antt
-
--- ---- REQUEST 10, SPEC 13.10: reset in two halves ----
-
--- The two in a row do what member reset did: on a sound card, for a member that is not marked, both answer 0 and leave the
--- card that `resetMember` gives. Example: ../proofs/HalvesExample.antt
-pub record DoesReset (c : List ℕ) (m generation : ℕ) : Type 0 where
-  pub handsBack : step c (handBack m) .1 ≡ answered 0
-  pub wipes : step (step c (handBack m) .0) (wipe m generation) ≡ (resetMember c m generation .1, answered 0)
-
-abbrev pub TwoHalves : Type 0
-TwoHalves =
-    (c : List ℕ) (m generation : ℕ) → isSound c ≡ true → isMember c m ≡ true → isMarked c m ≡ false → DoesReset c m generation
-
--- Between them a command that names m, and whose opcode is in use, answers 11/7 in any buffer of 8 bytes or more, and a call
--- of SPEC 13.6 for m answers 11/7; a message that names m gets the bus outcome; the card stays. Example:
--- ../proofs/HalvesExample.antt
-abbrev pub refusesMarked : ℕ
-refusesMarked = 11 + 65536 * 7
-
-pub record Between (c : List ℕ) (m : ℕ) : Type 0 where
-  pub commands : (r : List ℕ) (room : ℕ) → names m (command r room) ≡ true → usable (inUseOf c) (opcodeOf r) ≡ true → 8 ≤ room
-      → step c (command r room) ≡ (c, written (headOf Marked))
-  pub begins : step c (restoreBegin m) ≡ (c, answered refusesMarked)
-  pub feeds : (x : List ℕ) → step c (restoreFeed m x) ≡ (c, answered refusesMarked)
-  pub finishes : (id : ℕ) → step c (restoreFinish m id) ≡ (c, answered refusesMarked)
-  pub drops : step c (restoreDrop m) ≡ (c, answered refusesMarked)
-  pub messages : (x : List ℕ) (room : ℕ) → names m (message x room) ≡ true → step c (message x room) ≡ (c, responded [])
-
-abbrev pub MarkedRefused : Type 0
-MarkedRefused = (c : List ℕ) (m : ℕ) → isSound c ≡ true → isMember c m ≡ true → isMarked c m ≡ true → Between c m
-
--- ---- REQUEST 9, SPEC 13.9: setups that outlive a release ----
-
--- What is written reads back the same, a refusal writes nothing, what is read is in range: setups/specs/Claims.antt, and the
--- worked examples of setups/specs/Examples.antt.
-
--- A setup that is written and then set up gives the card that setup gives for it, byte for byte: n bytes were written at the
--- front of a buffer, which is b now. Example: ../proofs/QueueCounts.antt
-abbrev pub SetUpFromPacked : Type 0
-SetUpFromPacked =
-    (c buffer : List ℕ) (members : ℕ) (queues : List ℕ) (gets sets : ℕ) (features : List ℕ) (n : ℕ) (b : List ℕ)
-    → _≡_ {A = ℕ × List ℕ} (n, b) (packedIn buffer members queues gets sets features) → (n ≡ 0 → ⊥)
-    → setUpFrom c (take n b) ≡ setUp c members queues gets sets features
-
--- No call changes a queue count, the resets included. Example: ../proofs/QueueCounts.antt
-abbrev pub QueuesKept : Type 0
-QueuesKept = (c : List ℕ) (m : ℕ) → isMember c m ≡ true → (x : Call) → memberIn (step c x .0) m .queues ≡ memberIn c m .queues
-
--- The worked examples Q1 to Q4: QueueCounts.antt
-
--- ---- REQUEST 11, SPEC 13.11: a year of captures in figures ----
-
--- However a stream is cut, feeding the chunks gives the sheet of the whole, and its lines add up: figures/specs/Claims.antt.
--- Example: figures/proofs/Example.antt
 
 -- ---- all of them ----
 
@@ -287,29 +304,29 @@ pub record Claims : Type 1 where
   pub missingIsZero : MissingIsZero
   pub restIsIgnored : RestIsIgnored
   pub lengthExamples : LengthExamplesHold
-  -- request 4
-  pub placesFound : PlacesFound
-  -- request 5
-  pub ringsOnly : RingsOnly
-  pub queueExamples : QueueExamplesHold
-  -- request 12
-  pub commutation : Commutation
-  pub commandsCommute : CommandsCommute
-  -- request 6
-  pub finishIsPartsSet : FinishIsPartsSet
-  pub holdsJoined : HoldsJoined
-  pub cutAnywhere : CutAnywhere
-  pub holdingKept : HoldingKept
   -- request 3
   pub responded : Responded
   pub nothingApplied : NothingApplied
   pub onlyConfiguration : OnlyConfiguration
   pub configurationKept : ConfigurationKept
   pub messageExamples : MessageExamplesHold
-  -- request 10
-  pub twoHalves : TwoHalves
-  pub markedRefused : MarkedRefused
-  pub halvesExamples : HalvesExamplesHold
+  -- request 4
+  pub placesFound : PlacesFound
+  -- request 5
+  pub ringsOnly : RingsOnly
+  pub queueExamples : QueueExamplesHold
+  -- request 6
+  pub finishIsPartsSet : FinishIsPartsSet
+  pub holdsJoined : HoldsJoined
+  pub cutAnywhere : CutAnywhere
+  pub holdingKept : HoldingKept
+  -- request 7
+  pub mergedLists : MergedLists
+  pub mergedSets : MergedSets
+  pub foundCaptured : FoundCaptured
+  -- request 8
+  pub salvagedLists : SalvagedLists
+  pub salvagedAccepted : SalvagedAccepted
   -- request 9
   pub packedSetups : PackedSetups
   pub setupsWritten : SetupsWritten
@@ -317,11 +334,13 @@ pub record Claims : Type 1 where
   pub setUpFromPacked : SetUpFromPacked
   pub queuesKept : QueuesKept
   pub countExamples : CountExamplesHold
-  -- request 7
-  pub mergedSets : MergedSets
-  pub foundCaptured : FoundCaptured
-  -- request 8
-  pub salvagedAccepted : SalvagedAccepted
+  -- request 10
+  pub twoHalves : TwoHalves
+  pub markedRefused : MarkedRefused
+  pub halvesExamples : HalvesExamplesHold
   -- request 11
   pub howeverCut : HoweverCut
   pub addsUp : AddsUp
+  -- request 12
+  pub commutation : Commutation
+  pub commandsCommute : CommandsCommute
