@@ -24,7 +24,8 @@ use Rattle.figures.proofs.HoweverCut.{however-cut}
 
 -- what computes where a proof says `unfolding model`
 unfoldable model : Unit {0}
-unfolding if_then_else_ unless_answer_then_ _and_ put bit bitsAt noCounts sixteen countsFrom setupAt headRight isVersion1 noSetup takeVersion1 readVersion1 capturesIn isWhole total totals figuresOf rows sheetOf
+unfolding if_then_else_ unless_answer_then_ _and_ put bit bitsAt noCounts sixteen countsFrom setupAt headRight isVersion1
+    noSetup takeVersion1 readVersion1 capturesIn isWhole total totals figuresOf rows sheetOf
 model = tt
 
 -- ---- sheets ----

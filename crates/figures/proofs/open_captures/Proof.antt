@@ -5,4 +5,8 @@ use Rattle.figures.proofs.open_captures.Statement.{statement}
 use Rattle.figures.proofs.open_captures.Tie as tie
 
 pub open-captures-spec : {M : Type 1} → statement M
-open-captures-spec = tie.close (tie.spec (λ c. search needs) (λ c. search needs) (λ c. search needs) (λ c κs. search needs) (λ c κs. search needs) (λ c κs. search needs) (λ c. search needs) (λ c. search (needs, open-refused)) (λ c κs. search needs) (λ c. search needs) (λ c κs. search (needs, open-ready)) (λ c. search needs) (λ c. search (needs, open-taken)))
+open-captures-spec =
+    tie.close
+    (tie.spec (λ c. search needs) (λ c. search needs) (λ c. search needs) (λ c κs. search needs) (λ c κs. search needs)
+    (λ c κs. search needs) (λ c. search needs) (λ c. search (needs, open-refused)) (λ c κs. search needs) (λ c. search needs)
+    (λ c κs. search (needs, open-ready)) (λ c. search needs) (λ c. search (needs, open-taken)))

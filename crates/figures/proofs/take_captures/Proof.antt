@@ -5,4 +5,6 @@ use Rattle.figures.proofs.take_captures.Statement.{statement}
 use Rattle.figures.proofs.take_captures.Tie as tie
 
 pub take-captures-spec : {M : Type 1} → statement M
-take-captures-spec = tie.close (tie.spec (λ c. search needs) (λ c κs. search needs) (λ c. search needs) (λ c. search captures-taken))
+take-captures-spec =
+    tie.close
+    (tie.spec (λ c. search needs) (λ c κs. search needs) (λ c. search needs) (λ c. search captures-taken))
