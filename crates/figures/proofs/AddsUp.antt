@@ -1,16 +1,14 @@
 -- The lines of a sheet add up. Assumes nothing.
 use mathlib.Core.Path.{_≡_, refl}
-use mathlib.Core.List.{List}
 use Prim.Native.Nat.{ℕ, _+_}
 use native.Mathlib.Omega.{arith}
 use lib.Dec.{eqb}
-use lib.ListN.{getD, take, drop}
 use Rattle.theory.specs.Logic.{indicator}
 use Rattle.rules.specs.declared.Cause.{Cause}
 use Rattle.rules.specs.declared.Cause.the-variants.{Accepted, Cut, Unknown, Length, Size, Features, Twice}
 use Rattle.rules.specs.Rules.{causeOf}
 use Rattle.tally.specs.Rows.{causeLine, rows}
-use Rattle.stream.specs.Stream.{Captures, whole, torn, capture, long}
+use Rattle.stream.specs.Stream.{whole, torn, capture, long}
 use Rattle.stream.specs.Totals.{total, totals}
 use Rattle.figures.specs.Claims.{sum, AddsUp}
 

@@ -1,7 +1,7 @@
 -- The claim of specs/Claims.antt. Assumes nothing.
 use mathlib.Core.Path.{_≡_, refl, ap, sym, _∙_}
 use mathlib.Core.Bool.{true, false}
-use mathlib.Core.List.{List, [], _∷_, _++_, append-assoc, append-nil}
+use mathlib.Core.List.{List, [], _++_, append-assoc, append-nil}
 use Prim.Native.Nat.{ℕ, _+_, _<_}
 use native.Mathlib.Omega.{arith}
 use borrow.Author.Tests.{ne-eqb}
@@ -22,7 +22,7 @@ use Rattle.figures.specs.Claims.{Fed, none, next, joined, HoweverCut}
 use Rattle.figures.specs.declared.Phase.{Phase}
 use Rattle.figures.specs.declared.Phase.the-variants as phase
 use Rattle.figures.specs.declared.State.{State}
-use Rattle.figures.proofs.Taking.{without-ready, sheet-is, standing-is}
+use Rattle.figures.proofs.Taking.{without-ready, standing-is}
 
 -- ---- under 19 bytes ----
 

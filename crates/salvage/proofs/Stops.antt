@@ -1,5 +1,5 @@
 -- Where the walk over a damaged list stops: at its end, or at a part that is cut. Assumes nothing.
-use mathlib.Core.Path.{_≡_, refl, sym, _∙_}
+use mathlib.Core.Path.{_≡_, refl, _∙_}
 use mathlib.Core.Bool.{Bool, true, false}
 use mathlib.Core.List.{List}
 use Prim.Native.Nat.{ℕ, zero, suc, _+_, _-_, _≤_}
@@ -17,7 +17,7 @@ use Rattle.parts.specs.declared.Step.the-variants as step
 use Rattle.parts.specs.List.{valueSize, headerAt, stepAt, PartList, part, partIn, partsFrom, partsOf, whole}
 use Rattle.parts.proofs.Walk.{step-end, step-part, parts-end, parts-cut, parts-part}
 use Rattle.salvage.specs.Salvage.{bytesRead, leftOver}
-use Rattle.salvage.specs.Claims.{Stops, StopsAtCut}
+use Rattle.salvage.specs.Claims.{StopsAtCut}
 
 -- only the end of the list is taken for it
 end-reached : (l : List ℕ) (at : ℕ) → stepAt Parts l at ≡ step.End → length l ≤ at
