@@ -1,6 +1,5 @@
 //! Which rows of the tables of documents 01 and 02 a comparison has reached.
 
-use std::collections::BTreeMap;
 use std::fmt;
 
 use plain_card::frame::u16_at;
@@ -11,162 +10,187 @@ use crate::call::Call;
 use crate::device::Seen;
 use crate::lists::Asked as Lists;
 
-/// Statuses in the order of their steps; 0 bytes written stand first.
-const STATUSES: [&str; 12] =
-    ["none", "22/1", "22/4", "22/2", "22/5", "22/3", "17/1", "6/1", "28/1", "11/7", "12/6", "0/0"];
-/// Answers of events in their order.
-const ANSWERS: [&str; 8] = ["9", "1", "2", "3", "5", "6", "4", "0"];
-/// What becomes of what is built, read, written or salvaged.
-const OUTCOMES: [&str; 2] = ["refused", "done"];
+/// A table: the kinds of calls, and the names and numbers of their answers.
+struct Table {
+    rows: &'static [&'static str],
+    columns: &'static [(&'static str, u32)],
+}
 
-const COMMANDS: [&str; 11] = [
-    "list query",
-    "list use",
-    "object create",
-    "object modify",
-    "object query",
-    "object destroy",
-    "parts metadata",
-    "parts get",
-    "parts set",
-    "mode set",
-    "other requests",
-];
-const RESTORES: [&str; 4] = ["restore begin", "restore feed", "restore finish", "restore drop"];
-/// Answers of these in their order.
-const RESTORE_ANSWERS: [&str; 9] =
-    ["9", "22/5", "17/1", "6/1", "22/1", "22/2", "22/3", "11/7", "0/0"];
-const EVENTS: [&str; 6] =
-    ["setup", "hand back", "wipe", "reset of the card", "card store", "is sound"];
-const MESSAGES: [&str; 3] = ["message: read", "message: write", "other messages"];
-/// What becomes of a message.
-const RESPONSES: [&str; 3] = ["none", "length 0", "data"];
-const HOST: [&str; 4] = ["request built", "reply read", "setup written", "list salvaged"];
-const READERS: [&str; 2] = ["setup, version 1", "setup, both"];
-/// What the readers of setups answer.
-const READ_ANSWERS: [&str; 3] = ["1", "2", "0"];
+/// The number of a status and its qualifier.
+const fn pair(status: u16, qualifier: u16) -> u32 {
+    status as u32 | (qualifier as u32) << 16
+}
+
+/// What stands for no bytes written.
+const NONE: u32 = u32::MAX;
+
+/// Commands and their statuses in the order of their steps; 0 bytes written
+/// stand first.
+const COMMANDS: Table = Table {
+    rows: &[
+        "list query",
+        "list use",
+        "object create",
+        "object modify",
+        "object query",
+        "object destroy",
+        "parts metadata",
+        "parts get",
+        "parts set",
+        "mode set",
+        "other requests",
+    ],
+    columns: &[
+        ("none", NONE),
+        ("22/1", pair(22, 1)),
+        ("22/4", pair(22, 4)),
+        ("22/2", pair(22, 2)),
+        ("22/5", pair(22, 5)),
+        ("22/3", pair(22, 3)),
+        ("17/1", pair(17, 1)),
+        ("6/1", pair(6, 1)),
+        ("28/1", pair(28, 1)),
+        ("11/7", pair(11, 7)),
+        ("12/6", pair(12, 6)),
+        ("0/0", pair(0, 0)),
+    ],
+};
+
+/// Calls of a restore and their answers in order.
+const RESTORES: Table = Table {
+    rows: &["restore begin", "restore feed", "restore finish", "restore drop"],
+    columns: &[
+        ("9", 9),
+        ("22/5", pair(22, 5)),
+        ("17/1", pair(17, 1)),
+        ("6/1", pair(6, 1)),
+        ("22/1", pair(22, 1)),
+        ("22/2", pair(22, 2)),
+        ("22/3", pair(22, 3)),
+        ("11/7", pair(11, 7)),
+        ("0/0", pair(0, 0)),
+    ],
+};
+
+/// Events and their answers in order.
+const EVENTS: Table = Table {
+    rows: &["setup", "hand back", "wipe", "reset of the card", "card store", "is sound"],
+    columns: &[("9", 9), ("1", 1), ("2", 2), ("3", 3), ("5", 5), ("6", 6), ("4", 4), ("0", 0)],
+};
+
+/// Messages and the bytes of what becomes of them; any data is more than 20.
+const MESSAGES: Table = Table {
+    rows: &["message: read", "message: write", "other messages"],
+    columns: &[("none", 0), ("length 0", 20), ("data", 21)],
+};
+
+/// What is built, read, written or salvaged, and whether it is done.
+const HOST: Table = Table {
+    rows: &["request built", "reply read", "setup written", "list salvaged"],
+    columns: &[("refused", 0), ("done", 1)],
+};
+
+/// The readers of setups and their answers.
+const READERS: Table =
+    Table { rows: &["setup, version 1", "setup, both"], columns: &[("1", 1), ("2", 2), ("0", 0)] };
 
 /// Calls on a pair of lists, and their answers in order.
-const PAIRS: [&str; 2] = ["part looked up", "one list made"];
-const PAIR_ANSWERS: [&str; 7] = ["1", "2", "3", "4", "5", "6", "0"];
+const PAIRS: Table = Table {
+    rows: &["part looked up", "one list made"],
+    columns: &[("1", 1), ("2", 2), ("3", 3), ("4", 4), ("5", 5), ("6", 6), ("0", 0)],
+};
 
-/// How often a kind of call was answered in one way.
+static TABLES: [Table; 7] = [COMMANDS, RESTORES, EVENTS, MESSAGES, HOST, READERS, PAIRS];
+/// The row that counts whether the card is sound.
+const SOUND: (usize, usize) = (2, 5);
+
+/// The most rows of a table.
+const ROWS: usize = 11;
+/// The most columns of a table, and one for answers that have none.
+const COLUMNS: usize = 13;
+
+/// How often a kind of call was answered in one way, by table, row and column.
 #[derive(Default)]
-pub struct Coverage(BTreeMap<(&'static str, String), u64>);
+pub struct Coverage([[[u64; COLUMNS]; ROWS]; 7]);
 
 impl Coverage {
     /// Counts a call and its answer, and whether the card after it is sound.
     pub fn note(&mut self, call: &Call, seen: &Seen) {
-        self.count(EVENTS[5], seen.sound.to_string());
-        let (kind, answer) = match call {
-            Call::CardBytes(_) | Call::Card(_) => return,
-            Call::Command { request, .. } => (command(request), status(seen)),
-            Call::Setup { .. } | Call::SetupFrom { .. } => (EVENTS[0], seen.answer.to_string()),
-            Call::Message { message, .. } => (message_kind(message), response(seen)),
-            Call::HandBack(_) => (EVENTS[1], seen.answer.to_string()),
-            Call::Wipe { .. } => (EVENTS[2], seen.answer.to_string()),
-            Call::ResetCard(_) => (EVENTS[3], seen.answer.to_string()),
-            Call::Store { .. } => (EVENTS[4], seen.answer.to_string()),
-            Call::Begin(_) => (RESTORES[0], restore(seen)),
-            Call::Feed { .. } => (RESTORES[1], restore(seen)),
-            Call::Finish { .. } => (RESTORES[2], restore(seen)),
-            Call::Drop(_) => (RESTORES[3], restore(seen)),
-            Call::Build { .. } => (HOST[0], outcome(seen.answer != 0)),
-            Call::Read { .. } => (HOST[1], outcome(seen.answer == 0)),
-            Call::WriteSetup { .. } => (HOST[2], outcome(seen.answer != 0)),
-            Call::ReadSetup { first, .. } => {
-                (READERS[usize::from(!first)], seen.answer.to_string())
-            }
+        self.count(SOUND, seen.sound.into());
+        let answer = seen.answer as u32;
+        match call {
+            Call::CardBytes(_) | Call::Card(_) => {}
+            Call::Command { request, .. } => self.count((0, command(request)), status(seen)),
+            Call::Begin(_) => self.count((1, 0), answer),
+            Call::Feed { .. } => self.count((1, 1), answer),
+            Call::Finish { .. } => self.count((1, 2), answer),
+            Call::Drop(_) => self.count((1, 3), answer),
+            Call::Setup { .. } | Call::SetupFrom { .. } => self.count((2, 0), answer),
+            Call::HandBack(_) => self.count((2, 1), answer),
+            Call::Wipe { .. } => self.count((2, 2), answer),
+            Call::ResetCard(_) => self.count((2, 3), answer),
+            Call::Store { .. } => self.count((2, 4), answer),
+            Call::Message { message, .. } => self.count((3, kind(message)), answer.min(21)),
+            Call::Build { .. } => self.count((4, 0), answer.min(1)),
+            Call::Read { .. } => self.count((4, 1), u32::from(answer == 0)),
+            Call::WriteSetup { .. } => self.count((4, 2), answer.min(1)),
+            Call::ReadSetup { first, .. } => self.count((5, usize::from(!first)), answer),
             Call::Lists(call) => match call.asked {
-                Lists::Find { .. } => (PAIRS[0], seen.answer.to_string()),
-                Lists::Merge { .. } => (PAIRS[1], (seen.answer % 256).to_string()),
-                Lists::Salvage { .. } => (HOST[3], outcome(seen.answer != 0)),
+                Lists::Find { .. } => self.count((6, 0), answer),
+                Lists::Merge { .. } => self.count((6, 1), answer % 256),
+                Lists::Salvage { .. } => self.count((4, 3), answer.min(1)),
             },
-        };
-        self.count(kind, answer);
-    }
-
-    fn count(&mut self, kind: &'static str, answer: String) {
-        *self.0.entry((kind, answer)).or_default() += 1;
-    }
-
-    /// A table of the counts.
-    fn table(
-        &self,
-        f: &mut fmt::Formatter,
-        rows: &[&'static str],
-        columns: &[&str],
-    ) -> fmt::Result {
-        let digits = self.0.values().max().map_or(1, |most| most.to_string().len());
-        let widest = columns.iter().map(|column| column.len()).max().unwrap_or(0);
-        let width = digits.max(widest) + 1;
-        write!(f, "{:<18}", "")?;
-        columns.iter().try_for_each(|column| write!(f, "{column:>width$}"))?;
-        writeln!(f)?;
-        for row in rows {
-            write!(f, "{row:<18}")?;
-            for column in columns {
-                let count = self.0.get(&(*row, column.to_string())).copied().unwrap_or(0);
-                write!(f, "{count:>width$}")?;
-            }
-            writeln!(f)?;
         }
-        Ok(())
+    }
+
+    fn count(&mut self, (table, row): (usize, usize), answer: u32) {
+        let column = TABLES[table].columns.iter().position(|(_, known)| *known == answer);
+        self.0[table][row][column.unwrap_or(COLUMNS - 1)] += 1;
     }
 }
 
-/// The command that a request's opcode is of.
-fn command(request: &[u8]) -> &'static str {
+/// The row of the command that a request's opcode is of.
+fn command(request: &[u8]) -> usize {
     let opcode = (request.len() >= 2).then(|| u16_at(request, 0));
     let row = Opcode::ALL.iter().position(|known| Some(*known as u16) == opcode);
-    COMMANDS[row.unwrap_or(COMMANDS.len() - 1)]
+    row.unwrap_or(Opcode::ALL.len())
 }
 
-/// The kind of a message, if it is a whole request.
-fn message_kind(message: &[u8]) -> &'static str {
+/// The row of a message's kind, if it is a whole request.
+fn kind(message: &[u8]) -> usize {
     match Message::read(message).map(|message| message.asked) {
-        Some(Asked::Read(..)) => MESSAGES[0],
-        Some(Asked::Write(..)) => MESSAGES[1],
-        None => MESSAGES[2],
+        Some(Asked::Read(..)) => 0,
+        Some(Asked::Write(..)) => 1,
+        None => 2,
     }
 }
 
-fn response(seen: &Seen) -> String {
-    let row = match seen.answer {
-        0 => 0,
-        20 => 1,
-        _ => 2,
-    };
-    RESPONSES[row].into()
-}
-
-fn outcome(done: bool) -> String {
-    OUTCOMES[usize::from(done)].into()
-}
-
-fn status(seen: &Seen) -> String {
+fn status(seen: &Seen) -> u32 {
+    let reply = seen.reply.bytes();
     match seen.answer {
-        0 => "none".into(),
-        _ => format!("{}/{}", u16_at(&seen.reply, 0), u16_at(&seen.reply, 2)),
-    }
-}
-
-/// The answer of a call of a restore in fragments.
-fn restore(seen: &Seen) -> String {
-    match seen.answer {
-        9 => "9".into(),
-        answer => format!("{}/{}", answer & 0xffff, answer >> 16),
+        0 => NONE,
+        _ => pair(u16_at(reply, 0), u16_at(reply, 2)),
     }
 }
 
 impl fmt::Display for Coverage {
     fn fmt(&self, f: &mut fmt::Formatter) -> fmt::Result {
-        self.table(f, &COMMANDS, &STATUSES)?;
-        self.table(f, &RESTORES, &RESTORE_ANSWERS)?;
-        self.table(f, &EVENTS, &ANSWERS)?;
-        self.table(f, &MESSAGES, &RESPONSES)?;
-        self.table(f, &HOST, &OUTCOMES)?;
-        self.table(f, &READERS, &READ_ANSWERS)?;
-        self.table(f, &PAIRS, &PAIR_ANSWERS)
+        let most = self.0.as_flattened().as_flattened().iter().max();
+        let digits = most.map_or(1, |most| most.to_string().len());
+        for (Table { rows, columns }, counts) in TABLES.iter().zip(&self.0) {
+            let widest = columns.iter().map(|(name, _)| name.len()).max().unwrap_or(0);
+            let width = digits.max(widest) + 1;
+            write!(f, "{:<18}", "")?;
+            columns.iter().try_for_each(|(name, _)| write!(f, "{name:>width$}"))?;
+            writeln!(f)?;
+            for (name, counts) in rows.iter().zip(counts) {
+                write!(f, "{name:<18}")?;
+                counts[..columns.len()]
+                    .iter()
+                    .try_for_each(|count| write!(f, "{count:>width$}"))?;
+                writeln!(f)?;
+            }
+        }
+        Ok(())
     }
 }

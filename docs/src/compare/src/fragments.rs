@@ -58,7 +58,7 @@ impl Trial for Fragments {
         let place = Place::BeforePage;
         let request = Buffer { bytes: self.parts_set(), place };
         let (_, reply) = side.reply(&Call::Command { request, room: Room { length: 8, place } });
-        let expected = (u32_at(&reply, 0) as usize, self.without_place(&side.card()));
+        let expected = (u32_at(&reply, 0) as usize, self.without_place(side.card()));
         for (way, cuts) in ["first", "second"].iter().zip(&self.cuts) {
             let mut side = Side::new(make, &self.card);
             if side.reply(&Call::Begin(self.member)).0 != 0 {
@@ -101,7 +101,7 @@ impl Trial for Fragments {
 
 /// Places of a list of this length, in order: a few, or each of them.
 fn cuts(random: &mut Random, length: usize) -> Vec<usize> {
-    if random.chance(5) {
+    if random.chance(2) {
         return (0..length).collect();
     }
     let mut cuts: Vec<usize> = (0..random.below(9)).map(|_| random.below(length + 1)).collect();

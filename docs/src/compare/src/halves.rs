@@ -141,13 +141,14 @@ impl fmt::Display for Halves {
 #[cfg(test)]
 mod tests {
     use super::*;
-    use crate::device::{Device, Plain};
+    use crate::device::Device;
+    use crate::faults::Faulty;
     use plain_card::frame::u16_at;
     use std::collections::BTreeSet;
 
     #[test]
     fn every_command_is_tried_with_success_and_refusal() {
-        let plain = || -> Box<dyn Device> { Box::new(Plain::default()) };
+        let plain = || -> Box<dyn Device> { Box::new(Faulty::default()) };
         let mut tried = BTreeSet::new();
         for index in 0..5_000 {
             let halves = Halves::draw(&mut Random::new(1, index));

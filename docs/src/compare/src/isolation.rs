@@ -85,11 +85,11 @@ impl Trial for Pair {
         if reset.answer != 0 {
             return None; // no reset
         }
-        if reset != other {
+        if reset != other || left.card() != right.card() {
             return Some(format!("different replies or cards of the reset: {}", self.reset));
         }
         for call in &self.after {
-            if left.see(call) != right.see(call) {
+            if left.see(call) != right.see(call) || left.card() != right.card() {
                 return Some(format!("different replies or cards after the reset: {call}"));
             }
         }

@@ -5,7 +5,7 @@
 //! | [`call`], [`fields`], [`lists`], [`device`] | calls, and the two cards that hear them |
 //! | [`memory`] | the buffers of a call, where what it does beside them shows |
 //! | [`draw`], [`part_bytes`], [`random`] | random calls, biased to deep states |
-//! | [`sequence`], [`coverage`] | the comparison: random sequences on both cards, and what they reach |
+//! | [`sequence`], [`agreed`], [`coverage`] | the comparison: random sequences on both cards, and what they reach |
 //! | [`trial`], [`limit`] | how properties are tried on one device, and for how long |
 //! | [`isolation`] | demand 3, tried on random pairs of sequences |
 //! | [`round_trip`] | the round trip of demand 2, tried on random cards |
@@ -20,6 +20,7 @@
 
 #![deny(unsafe_code)]
 
+pub mod agreed;
 pub mod arguments;
 pub mod bench;
 pub mod call;

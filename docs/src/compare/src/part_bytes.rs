@@ -18,6 +18,13 @@ pub fn any_part(part_type: u16, flags: u8, selector: u64, value: &[u8]) -> Vec<u
     bytes
 }
 
+/// Puts more bytes in a list, ahead of the byte at `at`.
+pub fn put_in(list: &mut Vec<u8>, at: usize, more: &[u8]) {
+    let rest = list.split_off(at);
+    list.extend_from_slice(more);
+    list.extend_from_slice(&rest);
+}
+
 /// The selector bytes that the type does not use.
 pub fn unread_selector(part_type: u16) -> std::ops::Range<usize> {
     match part_type {

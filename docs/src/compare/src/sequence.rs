@@ -8,9 +8,10 @@ use plain_card::bytes::{
 };
 use plain_card::Card;
 
+use crate::agreed::Agreed;
 use crate::call::Call;
 use crate::coverage::Coverage;
-use crate::device::{see, Device, Make, Plain, Seen};
+use crate::device::{see, Device, Make, Seen};
 use crate::draw::{self, Favoured};
 use crate::faults::{Fault, Faulty};
 use crate::limit::Limit;
@@ -47,9 +48,14 @@ pub fn compare(seed: u64, limit: Limit, fault: Option<&'static Fault>, make: Mak
             break;
         }
         let mut pair = Pair::new(fault, make);
-        let calls = pair.run(&mut Random::new(seed, index), &mut comparison.coverage);
-        comparison.calls += calls.len() as u64;
+        pair.run(&mut Random::new(seed, index), |call, seen| {
+            comparison.calls += 1;
+            comparison.coverage.note(call, seen);
+        });
         if pair.difference.is_some() {
+            let mut calls = vec![];
+            let mut random = Random::new(seed, index);
+            Pair::new(fault, make).run(&mut random, |call, _| calls.push(call.clone()));
             comparison.difference = Some(Difference::shortest(index, calls, fault, make));
         }
     }
@@ -106,27 +112,28 @@ fn with_simpler_card(calls: &[Call], at: usize, shows: impl Fn(&[Call]) -> bool)
 struct Pair {
     plain: Faulty,
     device: Box<dyn Device>,
+    agreed: Agreed,
     difference: Option<String>,
 }
 
 impl Pair {
     fn new(fault: Option<&'static Fault>, make: Make) -> Pair {
-        Pair { plain: Faulty::new(fault), device: make(), difference: None }
+        let agreed = Agreed::default();
+        Pair { plain: Faulty::new(fault), device: make(), agreed, difference: None }
     }
 
-    /// Makes random calls up to the first difference and tells them.
-    fn run(&mut self, random: &mut Random, coverage: &mut Coverage) -> Vec<Call> {
+    /// Makes random calls up to the first difference and tells each.
+    fn run(&mut self, random: &mut Random, mut tell: impl FnMut(&Call, &Seen)) {
         let length = 1 + random.below(80);
         let favoured = Favoured::draw(random);
-        let mut calls = vec![draw::first(random)];
-        loop {
-            let call = &calls[calls.len() - 1];
-            let (seen, card) = self.make(call);
-            coverage.note(call, &seen);
-            if self.difference.is_some() || calls.len() == length {
-                return calls;
+        let mut call = draw::first(random);
+        for left in (0..length).rev() {
+            let seen = self.make(&call);
+            tell(&call, &seen);
+            if self.difference.is_some() || left == 0 {
+                return;
             }
-            calls.push(draw::next(random, card.as_ref(), favoured));
+            call = draw::next(random, self.plain.plain.card(), seen.sound == 1, favoured);
         }
     }
 
@@ -142,25 +149,29 @@ impl Pair {
     }
 
     /// Makes a call on both and notes a difference. Tells what is seen of the
-    /// device and the card that its bytes say.
-    fn make(&mut self, call: &Call) -> (Seen, Option<Card>) {
+    /// device.
+    fn make(&mut self, call: &Call) -> Seen {
         let expected = see(&mut self.plain, call);
         let seen = see(self.device.as_mut(), call);
-        let read = Plain::from_bytes(&seen.card);
-        if expected != seen {
-            let answer = differs("answer or bytes written", expected.answer, seen.answer);
-            let reply = first_difference("reply", &expected.reply, &seen.reply);
-            let card = first_difference("card", &expected.card, &seen.card);
-            let sound = differs("is sound", expected.sound, seen.sound);
-            let violations = seen.violations.iter().map(|what| format!("  {what}\n")).collect();
-            self.difference = Some([answer, reply, card, sound, violations].concat());
-        } else if read != self.plain.plain {
-            self.difference = Some("the card read from the bytes differs".into());
+        let agree = self.agreed.on(&self.plain.plain, self.device.card());
+        if expected != seen || !agree {
+            self.difference = Some(self.difference(&expected, &seen));
         }
-        match read {
-            Plain::Card(card) => (seen, Some(card)),
-            Plain::NoCard(_) => (seen, None),
+        seen
+    }
+
+    /// What differs.
+    fn difference(&mut self, expected: &Seen, seen: &Seen) -> String {
+        let answer = differs("answer or bytes written", expected.answer, seen.answer);
+        let reply = first_difference("reply", expected.reply.bytes(), seen.reply.bytes());
+        let card = first_difference("card", self.plain.card(), self.device.card());
+        let sound = differs("is sound", expected.sound, seen.sound);
+        let violations = seen.violations.iter().map(|what| format!("  {what}\n")).collect();
+        let all = [answer, reply, card, sound, violations].concat();
+        if all.is_empty() {
+            return "  the card read from the bytes differs\n".into();
         }
+        all
     }
 }
 

@@ -73,11 +73,12 @@ pub fn draw_calls(
 
 /// Makes a call on a plain card, for the calls that are drawn next.
 pub fn apply(card: &mut Card, call: &Call) {
-    let mut plain = Plain::Card(card.clone());
+    let Card { setup, in_use, members } = card;
+    let taken = Card { setup: setup.clone(), in_use: *in_use, members: std::mem::take(members) };
+    let mut plain = Plain::Card(taken);
     plain.hear(call, &mut vec![0; call.room().length]);
-    if let Plain::Card(after) = plain {
-        *card = after;
-    }
+    let Plain::Card(after) = plain else { unreachable!("no such call is drawn on a card") };
+    *card = after;
 }
 
 /// A device in a trial, with a card of its own.
@@ -95,7 +96,7 @@ impl Side {
         side
     }
 
-    /// The reply and the card, with the reply read over the bytes written.
+    /// What a call shows, with the reply read over the bytes written.
     pub fn see(&mut self, call: &Call) -> Seen {
         let mut seen = see(self.device.as_mut(), call);
         if let Call::Command { .. } | Call::Message { .. } = call {
@@ -108,11 +109,11 @@ impl Side {
     /// The reply alone.
     pub fn reply(&mut self, call: &Call) -> (usize, Vec<u8>) {
         let seen = self.see(call);
-        (seen.answer, seen.reply)
+        (seen.answer, seen.reply.bytes().to_vec())
     }
 
     /// The card.
-    pub fn card(&self) -> Vec<u8> {
+    pub fn card(&mut self) -> &[u8] {
         self.device.card()
     }
 

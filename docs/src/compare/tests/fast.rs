@@ -52,8 +52,8 @@ impl Device for Fast {
         }
     }
 
-    fn card(&self) -> Vec<u8> {
-        self.0.clone()
+    fn card(&mut self) -> &[u8] {
+        &self.0
     }
 
     fn is_sound(&mut self) -> u8 {

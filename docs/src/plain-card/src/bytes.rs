@@ -63,7 +63,8 @@ pub fn read(bytes: &[u8]) -> Option<Card> {
     Some(Card { setup, in_use: u64_at(header, IN_USE), members })
 }
 
-fn read_record(record: &[u8]) -> Option<Member> {
+/// The member that a record says; a byte out of range says none.
+pub fn read_record(record: &[u8]) -> Option<Member> {
     Some(Member {
         mode: if read_bit(record[MODE])? { Mode::Stopped } else { Mode::Running },
         marked: read_bit(record[MARK])?,
@@ -110,18 +111,25 @@ fn read_values(mut bytes: &[u8]) -> Values {
 
 /// The bytes of a card: what [`read`] turns into the same card.
 pub fn write(card: &Card) -> Vec<u8> {
-    let mut bytes = Vec::with_capacity(HEADER + RECORD * card.members.len());
+    let mut bytes = vec![];
+    write_to(card, &mut bytes);
+    bytes
+}
+
+/// Writes the bytes of a card behind others.
+pub fn write_to(card: &Card, bytes: &mut Vec<u8>) {
+    bytes.reserve(HEADER + RECORD * card.members.len());
     let Common { members, gets, sets, features } = &card.setup;
     bytes.extend([members, gets, sets]);
     bytes.extend(features);
     bytes.extend(card.in_use.to_le_bytes());
     for member in &card.members {
-        write_record(&mut bytes, member);
+        write_record(bytes, member);
     }
-    bytes
 }
 
-fn write_record(bytes: &mut Vec<u8>, member: &Member) {
+/// Writes the record of a member behind other bytes.
+pub fn write_record(bytes: &mut Vec<u8>, member: &Member) {
     bytes.push((member.mode == Mode::Stopped).into());
     bytes.push(member.marked.into());
     bytes.push(member.queues);

@@ -111,7 +111,7 @@ impl Device for Archive {
             misuse(call, &mut Lending { card: &mut self.card, inputs: &mut inputs, reply });
         }
         for ((name, sent), mut input) in sent.into_iter().zip(inputs) {
-            if *input.bytes() != **sent {
+            if !input.holds(sent) {
                 self.violations.push(format!("bytes of the {name} were changed"));
             }
             self.violations.extend(input.violations(name));
@@ -119,8 +119,8 @@ impl Device for Archive {
         answer
     }
 
-    fn card(&self) -> Vec<u8> {
-        self.card.bytes().to_vec()
+    fn card(&mut self) -> &[u8] {
+        self.card.bytes()
     }
 
     fn is_sound(&mut self) -> u8 {

@@ -18,7 +18,7 @@ pub trait Device {
     fn call(&mut self, call: &Call, reply: &mut Lent) -> usize;
 
     /// The card's bytes.
-    fn card(&self) -> Vec<u8>;
+    fn card(&mut self) -> &[u8];
 
     /// 1 if it says that the card is sound, 0 if not.
     fn is_sound(&mut self) -> u8;
@@ -32,16 +32,14 @@ pub trait Device {
 /// Makes a device that has no card yet.
 pub type Make<'a> = &'a dyn Fn() -> Box<dyn Device>;
 
-/// Everything that a call shows.
-#[derive(Clone, Debug, PartialEq, Eq)]
+/// Everything that a call shows but the card.
+#[derive(PartialEq, Eq)]
 pub struct Seen {
     /// The bytes written, or the answer.
     pub answer: usize,
     /// The whole buffer that is written besides the card.
-    pub reply: Vec<u8>,
-    /// The card after the call.
-    pub card: Vec<u8>,
-    /// 1 if the device says that this card is sound, 0 if not.
+    pub reply: Lent,
+    /// 1 if the device says that the card after the call is sound, 0 if not.
     pub sound: u8,
     /// What was done to memory that may not be accessed or changed.
     pub violations: Vec<String>,
@@ -75,5 +73,5 @@ pub fn see(device: &mut dyn Device, call: &Call) -> Seen {
     let sound = device.is_sound();
     let mut violations = device.violations();
     violations.extend(reply.violations("reply buffer"));
-    Seen { answer, reply: reply.bytes().to_vec(), card: device.card(), sound, violations }
+    Seen { answer, reply, sound, violations }
 }

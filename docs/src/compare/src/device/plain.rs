@@ -5,9 +5,8 @@ use plain_card::exported::{self, Numbers};
 use plain_card::status::{answer, restore_answer, EventError, RestoreError};
 use plain_card::{command, message, Card};
 
-use super::{lists, read_into, read_setup_into, Device};
+use super::{lists, read_into, read_setup_into};
 use crate::call::Call;
-use crate::memory::Lent;
 
 /// The plain card, or bytes that say no card.
 #[derive(Clone, Debug, PartialEq, Eq)]
@@ -26,9 +25,25 @@ impl Plain {
 
     /// The card's bytes.
     pub fn to_bytes(&self) -> Vec<u8> {
+        let mut bytes = vec![];
+        self.write_to(&mut bytes);
+        bytes
+    }
+
+    /// Writes the card's bytes in place of others.
+    pub fn write_to(&self, bytes: &mut Vec<u8>) {
+        bytes.clear();
         match self {
-            Plain::Card(card) => bytes::write(card),
-            Plain::NoCard(bytes) => bytes.clone(),
+            Plain::Card(card) => bytes::write_to(card, bytes),
+            Plain::NoCard(own) => bytes.extend(own),
+        }
+    }
+
+    /// The card, if the bytes say one.
+    pub fn card(&self) -> Option<&Card> {
+        match self {
+            Plain::Card(card) => Some(card),
+            Plain::NoCard(_) => None,
         }
     }
 
@@ -118,19 +133,5 @@ impl Plain {
 impl Default for Plain {
     fn default() -> Self {
         Plain::NoCard(Vec::new())
-    }
-}
-
-impl Device for Plain {
-    fn call(&mut self, call: &Call, reply: &mut Lent) -> usize {
-        self.hear(call, reply.bytes_mut())
-    }
-
-    fn card(&self) -> Vec<u8> {
-        self.to_bytes()
-    }
-
-    fn is_sound(&mut self) -> u8 {
-        Plain::is_sound(self).into()
     }
 }

@@ -3,7 +3,6 @@
 use plain_card::bytes::{
     self, FEATURES, HEADER, HELD, HOLDING, IN_USE, MARK, MODE, OBJECTS, QUEUES, RECORD, VALUES,
 };
-use plain_card::configuration::Configuration;
 use plain_card::holding::ROOM;
 use plain_card::member::{Member, Mode};
 use plain_card::object::{Kind, IDS};
@@ -21,7 +20,7 @@ const FIRST_QUEUE: usize = 45;
 
 /// The numbers N, G and S of a setup in range, more often at an end of it.
 pub fn setup_numbers(random: &mut Random) -> [u64; 3] {
-    let members = match random.weighted(&[60, 10, 30]) {
+    let members = match random.weighted(&[92, 2, 6]) {
         0 => random.pick(&[1, 1, 2, 2, 2, 3]),
         1 => 16,
         _ => 1 + random.below(16) as u64,
@@ -96,17 +95,19 @@ pub fn record(random: &mut Random, setup: &Common, queues: u8, marked: bool) -> 
         member.holding.room = if random.chance(30) { room } else { [0; ROOM] };
     }
     if random.chance(70) {
-        let bytes = std::array::from_fn(|_| random.byte());
-        member.configuration = Configuration { bytes, generation: generation(random) };
+        random.fill(&mut member.configuration.bytes);
+        member.configuration.generation = generation(random);
     }
     for part in inventory(MAX_QUEUES).filter(|part| *part != Part::DeviceFeatures) {
         if random.chance(50) {
-            let value = match part {
+            let value = member.values.get_mut(part);
+            match part {
                 // No part of the member: soundness does not look at it.
-                Part::Queue(index) if index >= queues => value::any(random, part),
-                _ => value::good(random, part),
-            };
-            member.values.get_mut(part).copy_from_slice(&value);
+                Part::Queue(index) if index >= queues => {
+                    value.copy_from_slice(&value::any(random, part));
+                }
+                _ => value::fill(random, part, value),
+            }
         }
     }
     member

@@ -8,7 +8,7 @@ use super::list::{add_noise, insert, make_bad, unknown_part};
 use super::{list, noisy_name, place, placed, setup, spoil_name, value};
 use crate::lists::{Asked, OnLists};
 use crate::memory::{Buffer, Room};
-use crate::part_bytes::{any_part, part};
+use crate::part_bytes::{any_part, part, put_in};
 use crate::random::Random;
 
 /// A part looked up in a pair, or one list made of it.
@@ -60,7 +60,7 @@ pub fn card(random: &mut Random, setup: &Setup) -> Card {
     let mut card = Card::new(setup);
     for record in &mut card.members {
         for part in inventory(MAX_QUEUES).filter(|part| *part != Part::DeviceFeatures) {
-            record.values.get_mut(part).copy_from_slice(&value::good(random, part));
+            value::fill(random, part, record.values.get_mut(part));
         }
     }
     card
@@ -111,10 +111,11 @@ pub fn full(random: &mut Random, card: &Card, queues: u8) -> Vec<u8> {
 
 /// Brings a list to over 4,064 or 65,536 bytes by a part that is skipped.
 fn make_longer(random: &mut Random, list: &mut Vec<u8>) {
-    let length = random.pick(&[4_049, 5_000, 65_520, 70_000]);
+    let over = if random.chance(80) { [4_049, 5_000] } else { [65_520, 70_000] };
+    let length = random.pick(&over);
     let skipped = any_part(0x5ff, OPTIONAL, 0, &vec![0; length]);
     let at = if random.chance(50) { 0 } else { list.len() };
-    list.splice(at..at, skipped);
+    put_in(list, at, &skipped);
 }
 
 /// A part looked up: of the inventory, or now and then outside it.

@@ -12,7 +12,7 @@ const POWERS: [usize; 4] = [1 << 8, 1 << 9, 1 << 12, 1 << 16];
 /// A wrong length: at a power of two or beside it, or a multiple of it and the
 /// valid length, which is what is left if the length is cut.
 pub fn wrong(random: &mut Random, valid: usize) -> usize {
-    let power = random.pick(&POWERS);
+    let power = power(random);
     let near = around(random, power);
     if random.chance(30) && near != valid {
         near
@@ -24,7 +24,7 @@ pub fn wrong(random: &mut Random, valid: usize) -> usize {
 /// A length for a reply buffer: at a power of two or beside it, or a multiple
 /// of it and a few bytes, which are too few if the length is cut.
 pub fn long_room(random: &mut Random, need: usize) -> usize {
-    let power = random.pick(&POWERS);
+    let power = power(random);
     match random.below(4) {
         0 => around(random, power),
         1 => 70_000 - random.below(70_000 - power),
@@ -56,14 +56,19 @@ pub fn other_data(random: &mut Random, request: &mut Vec<u8>) {
     request.extend(more);
 }
 
+/// One of the powers, less often the last.
+fn power(random: &mut Random) -> usize {
+    POWERS[random.weighted(&[3, 3, 3, 1])]
+}
+
 fn around(random: &mut Random, power: usize) -> usize {
     random.pick(&[power - 1, power, power + 1])
 }
 
-/// A multiple of the power; low ones are as likely as all others.
+/// A multiple of the power; low ones are more likely than all others.
 fn multiple(random: &mut Random, power: usize) -> usize {
     let most = (2 << 16) / power;
-    let times = if random.chance(50) { 1 + random.below(2) } else { 1 + random.below(most) };
+    let times = if random.chance(80) { 1 + random.below(2) } else { 1 + random.below(most) };
     power * times
 }
 

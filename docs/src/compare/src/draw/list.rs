@@ -61,7 +61,7 @@ pub fn given(random: &mut Random, card: &Card, queues: u8) -> Vec<u8> {
             Some(record) if captured || name == Part::DeviceFeatures => {
                 part(name, record.values.get(name))
             }
-            _ => part(name, &value::good(random, name)),
+            _ => value::good_part(random, name),
         })
         .collect();
     if random.chance(25) {
@@ -106,10 +106,9 @@ pub fn add_noise(random: &mut Random, part: &mut [u8]) {
     part[2] = random.byte();
     part[3] = random.byte();
     let part_type = u16::from_le_bytes([part[0], part[1]]);
-    for at in unread_selector(part_type) {
-        if random.chance(50) {
-            part[4 + at] = random.byte();
-        }
+    let (noise, noisy) = (random.bits().to_le_bytes(), random.byte());
+    for at in unread_selector(part_type).filter(|at| noisy >> at & 1 == 1) {
+        part[4 + at] = noise[at];
     }
 }
 
@@ -205,7 +204,7 @@ fn make_long(random: &mut Random, queues: u8, parts: &mut Vec<Vec<u8>>) {
     let room = LONGEST - SET_LIST;
     let fits = |parts: &[Vec<u8>]| {
         let skipped = HEADER * count.saturating_sub(parts.len());
-        skipped + parts.concat().len() <= room
+        skipped + parts.iter().map(Vec::len).sum::<usize>() <= room
     };
     while !fits(parts) {
         parts.pop();
@@ -220,7 +219,7 @@ fn make_long(random: &mut Random, queues: u8, parts: &mut Vec<Vec<u8>>) {
 
 /// Brings the request to the longest length, or one byte beyond.
 fn fill_up(random: &mut Random, parts: &mut Vec<Vec<u8>>) {
-    let length = SET_LIST + parts.concat().len();
+    let length = SET_LIST + parts.iter().map(Vec::len).sum::<usize>();
     let target = random.pick(&[4095, 4096, 4097]);
     if length + 16 <= target {
         parts.push(any_part(0x5ff, OPTIONAL, 0, &vec![0; target - length - 16]));

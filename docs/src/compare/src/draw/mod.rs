@@ -90,8 +90,7 @@ pub fn first(random: &mut Random) -> Call {
 
 /// The next call; `card` is what the bytes say, if they say a card. A sequence
 /// does not stay long with a card that is not sound.
-pub fn next(random: &mut Random, card: Option<&Card>, favoured: Favoured) -> Call {
-    let sound = card.is_some_and(Card::is_sound);
+pub fn next(random: &mut Random, card: Option<&Card>, sound: bool, favoured: Favoured) -> Call {
     if random.chance(if sound { 1 } else { 30 }) {
         return first(random);
     }

@@ -202,8 +202,22 @@ fn header_length(bytes: &[u8]) -> Option<usize> {
 fn random_part(random: &mut Random, target: Target, parts: &[Part]) -> Vec<u8> {
     match random.pick(parts) {
         name @ Part::DeviceFeatures => part(name, target.features),
-        name => part(name, &value::good(random, name)),
+        name => value::good_part(random, name),
     }
+}
+
+/// The first bytes, so many, of a list of all parts in any order and one more that
+/// is skipped.
+fn start_of_list(random: &mut Random, target: Target, length: usize) -> Vec<u8> {
+    let mut parts: Vec<Part> = inventory(target.queues).collect();
+    random.shuffle(&mut parts);
+    let mut list = Vec::with_capacity(ROOM);
+    while let Some(part) = parts.pop().filter(|_| list.len() < length) {
+        list.extend_from_slice(&random_part(random, target, &[part]));
+    }
+    fill_up(&mut list, ROOM);
+    list.truncate(length);
+    list
 }
 
 /// A holding place: open with the start of a list or any bytes, often at an end
@@ -216,20 +230,16 @@ pub fn holding(random: &mut Random, target: Target) -> Holding {
             1 => random.below(ROOM + 1),
             _ => random.pick(&[0, 0, 1, ROOM - 1, ROOM]),
         };
-        let mut parts: Vec<Part> = inventory(target.queues).collect();
-        random.shuffle(&mut parts);
-        let mut list: Vec<u8> =
-            parts.iter().flat_map(|part| random_part(random, target, &[*part])).collect();
-        fill_up(&mut list, ROOM);
-        if random.chance(20) {
-            list = random.bytes(ROOM);
-        }
         holding.held = Some(length as u16);
-        holding.room[..length].copy_from_slice(&list[..length]);
+        let held = &mut holding.room[..length];
+        match random.chance(20) {
+            true => random.fill(held),
+            false => held.copy_from_slice(&start_of_list(random, target, length)),
+        }
     }
     if random.chance(10) {
         let held = usize::from(holding.held.unwrap_or(0));
-        holding.room[held..].iter_mut().for_each(|byte| *byte = random.byte());
+        random.fill(&mut holding.room[held..]);
     }
     holding
 }

@@ -2,12 +2,13 @@
 
 use plain_card::part::{inventory, Part};
 use plain_card::salvage::LONGEST;
+use plain_card::Card;
 
 use super::card::any_setup;
 use super::difference::{any_member, card, full, packed, room};
 use super::{list, placed, value};
 use crate::lists::{Asked, OnLists};
-use crate::part_bytes::part;
+use crate::part_bytes::{part, put_in};
 use crate::random::Random;
 
 /// A damaged capture to salvage.
@@ -22,8 +23,7 @@ pub fn call(random: &mut Random) -> OnLists {
     };
     damaged.truncate(LONGEST);
     while random.chance(60) {
-        let again = full(random, &card, queues);
-        damage(random, queues, &again, &mut damaged);
+        damage(random, &card, queues, &mut damaged);
     }
     if random.chance(6) {
         let length = random.pick(&[LONGEST - 1, LONGEST, LONGEST + 1, 4_096, 66_000]);
@@ -46,7 +46,7 @@ pub fn call(random: &mut Random) -> OnLists {
 
 /// Damages a list in one way: bytes flipped, the end or a piece cut off, a piece
 /// doubled, bytes or parts of another list put in.
-fn damage(random: &mut Random, queues: u8, again: &[u8], list: &mut Vec<u8>) {
+fn damage(random: &mut Random, card: &Card, queues: u8, list: &mut Vec<u8>) {
     let at = random.below(list.len() + 1);
     let piece = at..(at + random.below(60)).min(list.len());
     match random.below(9) {
@@ -59,20 +59,23 @@ fn damage(random: &mut Random, queues: u8, again: &[u8], list: &mut Vec<u8>) {
         3 => drop(list.drain(piece)),
         4 => {
             let double = list[piece].to_vec();
-            list.splice(at..at, double);
+            put_in(list, at, &double);
         }
         5 => {
             let count = 1 + random.below(20);
             let noise = random.bytes(count);
-            list.splice(at..at, noise);
+            put_in(list, at, &noise);
         }
-        6 => list.extend(&again[..random.below(again.len() + 1)]),
-        7 => drop(list.splice(..0, again.iter().copied())),
+        6 => {
+            let again = full(random, card, queues);
+            list.extend(&again[..random.below(again.len() + 1)]);
+        }
+        7 => put_in(list, 0, &full(random, card, queues)),
         _ => {
             let parts: Vec<Part> = inventory(queues).collect();
             let part = another(random, &parts);
             let at = if random.chance(50) { 0 } else { list.len() };
-            list.splice(at..at, part);
+            put_in(list, at, &part);
         }
     }
 }

@@ -1,22 +1,37 @@
 //! Random values of parts. A queue part has a size that a ring can have, or
 //! mostly so.
 
-use plain_card::part::Part;
+use plain_card::part::{Part, HEADER};
 use plain_card::queue::LARGEST;
 
 use crate::random::Random;
 
 /// A value that the part may have.
 pub fn good(random: &mut Random, part: Part) -> Vec<u8> {
-    let mut value = random.bytes(part.length() as usize);
+    let mut value = vec![0; part.length() as usize];
+    fill(random, part, &mut value);
+    value
+}
+
+/// Puts a value that the part may have in its place.
+pub fn fill(random: &mut Random, part: Part, value: &mut [u8]) {
+    random.fill(value);
     if let Part::Queue(_) = part {
         let (size, enabled) = match random.below(17) {
             16 => (0, 0),
             power => (1 << power, enabled(random)),
         };
-        put(&mut value, size, enabled);
+        put(value, size, enabled);
     }
-    value
+}
+
+/// The part with a value that it may have.
+pub fn good_part(random: &mut Random, name: Part) -> Vec<u8> {
+    let mut part = vec![0; name.size()];
+    let (header, value) = part.split_at_mut(HEADER);
+    header.copy_from_slice(&name.header());
+    fill(random, name, value);
+    part
 }
 
 /// A value of the part's length, mostly one that it may have.

@@ -117,6 +117,8 @@ pub struct Memory {
 pub struct Faulty {
     /// The plain card.
     pub plain: Plain,
+    /// Room for its bytes.
+    bytes: Vec<u8>,
     fault: Option<&'static Fault>,
     memory: Memory,
 }
@@ -214,8 +216,9 @@ impl Device for Faulty {
         self.hear(call, reply.bytes_mut())
     }
 
-    fn card(&self) -> Vec<u8> {
-        self.plain.to_bytes()
+    fn card(&mut self) -> &[u8] {
+        self.plain.write_to(&mut self.bytes);
+        &self.bytes
     }
 
     fn is_sound(&mut self) -> u8 {

@@ -22,8 +22,30 @@ const GUARD: usize = 64;
 pub const LONGEST: usize = ROOM - 2 * GUARD - 16;
 
 /// What byte `at` of a buffer holds before it is written.
-pub fn pattern(at: usize) -> u8 {
+pub const fn pattern(at: usize) -> u8 {
     0xa5 ^ (at as u8).wrapping_mul(29)
+}
+
+/// After so many bytes the pattern is the same again.
+const PERIOD: usize = 256;
+/// The pattern from byte 0 on, twice.
+static PATTERN: [u8; 2 * PERIOD] = {
+    let mut bytes = [0; 2 * PERIOD];
+    let mut at = 0;
+    while at < bytes.len() {
+        bytes[at] = pattern(at);
+        at += 1;
+    }
+    bytes
+};
+
+/// Whether the bytes are the same. A few are compared one by one: `memcmp` may read
+/// 32 with a mask, which takes long where some of them are a guard page's.
+fn same(these: &[u8], those: &[u8]) -> bool {
+    if these.len() > 32 {
+        return these == those;
+    }
+    these.len() == those.len() && these.iter().zip(those).all(|(this, that)| this == that)
 }
 
 /// Where a buffer lies.
@@ -108,21 +130,22 @@ impl Lent {
     /// A buffer that holds the pattern.
     pub fn patterned(room: Room) -> Lent {
         let mut lent = Lent { pages: Pages::take(), range: room.place.range(room.length) };
-        let start = lent.range.start;
-        for range in [lent.before(), lent.range.clone(), lent.behind()] {
-            for (at, byte) in range.clone().zip(&mut lent.pages.bytes_mut()[range]) {
-                *byte = pattern(at.wrapping_sub(start));
-            }
-        }
+        lent.fill(lent.before().start..lent.behind().end);
         lent
     }
 
     /// A buffer that holds these bytes.
     pub fn holding(buffer: &Buffer) -> Lent {
-        let room = Room { length: buffer.len(), place: buffer.place };
-        let mut lent = Lent::patterned(room);
+        let mut lent = Lent { pages: Pages::take(), range: buffer.place.range(buffer.len()) };
+        lent.fill(lent.before());
         lent.bytes_mut().copy_from_slice(buffer);
+        lent.fill(lent.behind());
         lent
+    }
+
+    /// Whether the buffer holds these bytes.
+    pub fn holds(&self, bytes: &[u8]) -> bool {
+        same(self.bytes(), bytes)
     }
 
     /// The buffer.
@@ -134,6 +157,11 @@ impl Lent {
     pub fn bytes_mut(&mut self) -> &mut [u8] {
         let range = self.range.clone();
         &mut self.pages.bytes_mut()[range]
+    }
+
+    /// Leaves off what is behind the first so many bytes of the buffer.
+    pub fn truncate(&mut self, length: usize) {
+        self.range.end = self.range.end.min(self.range.start + length);
     }
 
     /// Reads a byte by its distance from the buffer's start, as a wrong
@@ -178,12 +206,36 @@ impl Lent {
         self.range.end..(self.range.end + GUARD).min(ROOM)
     }
 
+    /// The pattern of bytes in and beside the buffer, from `start` on: a period of
+    /// it.
+    fn pattern(&self, start: usize) -> &'static [u8] {
+        let at = start.wrapping_sub(self.range.start) % PERIOD;
+        &PATTERN[at..at + PERIOD]
+    }
+
+    /// Puts the pattern in bytes in and beside the buffer.
+    fn fill(&mut self, range: Range<usize>) {
+        let pattern = self.pattern(range.start);
+        for piece in self.pages.bytes_mut()[range].chunks_mut(PERIOD) {
+            piece.copy_from_slice(&pattern[..piece.len()]);
+        }
+    }
+
     /// Whether bytes beside the buffer hold the pattern.
     fn stands(&self, range: Range<usize>) -> bool {
-        let bytes = &self.pages.bytes()[range.clone()];
-        range.zip(bytes).all(|(at, byte)| *byte == pattern(at.wrapping_sub(self.range.start)))
+        let pattern = &self.pattern(range.start)[..range.len()];
+        same(&self.pages.bytes()[range], pattern)
     }
 }
+
+impl PartialEq for Lent {
+    /// Whether the bytes are the same, wherever they lie.
+    fn eq(&self, other: &Lent) -> bool {
+        same(self.bytes(), other.bytes())
+    }
+}
+
+impl Eq for Lent {}
 
 #[cfg(test)]
 mod tests {

@@ -5,6 +5,7 @@
 
 #![allow(unsafe_code)]
 
+use std::cell::RefCell;
 use std::ffi::{c_int, c_void};
 use std::ptr;
 use std::sync::atomic::{AtomicBool, AtomicUsize, Ordering};
@@ -32,7 +33,8 @@ pub struct Pages {
 impl Pages {
     /// Pages that are free. There are more than are ever lent at a time.
     pub fn take() -> Pages {
-        Pages { index: free().pop().expect("there are free pages") }
+        let index = SPARE.with_borrow_mut(|spare| spare.0.pop());
+        Pages { index: index.unwrap_or_else(|| free().pop().expect("there are free pages")) }
     }
 
     /// The bytes between the two guard pages.
@@ -64,8 +66,9 @@ impl Pages {
     /// Whether a guard page was accessed since last asked. It cannot be
     /// accessed again afterwards.
     pub fn accessed(&mut self) -> bool {
-        let accessed = ACCESSED[self.index].swap(false, Ordering::SeqCst);
+        let accessed = ACCESSED[self.index].load(Ordering::SeqCst);
         if accessed {
+            ACCESSED[self.index].store(false, Ordering::SeqCst);
             close(self.index);
         }
         accessed
@@ -85,7 +88,21 @@ impl Pages {
 impl Drop for Pages {
     fn drop(&mut self) {
         self.accessed();
-        free().push(self.index);
+        SPARE.with_borrow_mut(|spare| spare.0.push(self.index));
+    }
+}
+
+/// The indices of pages that a thread has dropped, for its next buffers.
+struct Spare(Vec<usize>);
+
+thread_local! {
+    static SPARE: RefCell<Spare> = const { RefCell::new(Spare(vec![])) };
+}
+
+impl Drop for Spare {
+    /// The thread ends; others may have them.
+    fn drop(&mut self) {
+        free().append(&mut self.0);
     }
 }
 
