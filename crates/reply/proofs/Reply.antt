@@ -37,16 +37,17 @@ head-written a s q l l₁ l₂ l₃ es eq e₁ e₂ e₃ =
 
 -- ---- step 11 ----
 
+-- the code was told b of the answer
 module _ (a : Answer) (size room : ℕ) (b : Bool) (said : b ≡ isDone a) where
-  pub final-refused : not b ≡ true → a ≡ finalOf a size room
+  final-refused : not b ≡ true → finalOf a size room ≡ a
   unfolding finalOf if_then_else_
   final-refused n = rw (sym said ∙ not-true b n)
 
-  pub final-short : not b ≡ false → 8 ≤ room → room - 8 < size → ShortReply ≡ finalOf a size room
+  final-short : not b ≡ false → 8 ≤ room → room - 8 < size → finalOf a size room ≡ ShortReply
   unfolding finalOf if_then_else_ unless_answer_then_
   final-short n h k = rw (sym said ∙ not-false b n, lt-leb (8 + size) room (omega arith))
 
-  pub final-fits : not b ≡ false → 8 ≤ room → size ≤ room - 8 → a ≡ finalOf a size room
+  final-fits : not b ≡ false → 8 ≤ room → size ≤ room - 8 → finalOf a size room ≡ a
   unfolding finalOf if_then_else_ unless_answer_then_
   final-fits n h k = rw (sym said ∙ not-false b n, le-leb (8 + size) room (omega arith))
 
@@ -76,38 +77,39 @@ pub reply-done : (a : Answer) (x : List ℕ) → isDone a ≡ true → replyOf a
 unfolding replyOf if_then_else_
 reply-done a x d = rw d
 
--- the answer in the end is `last`, of which the code was told b; x is the result
-module _ (a last : Answer) (x l : List ℕ) (size : ℕ) (b : Bool)
-    (settled : last ≡ finalOf a size (length l)) (sized : size ≡ length x) (said : b ≡ isDone last) where
-  pub refused-written : (y : ℕ × List ℕ) → not b ≡ true → y ≡ written (replyOf last []) l
-      → y ≡ written (replied a x (length l)) l
+-- x is the result, and the code was told b of the answer
+module _ (a : Answer) (x l : List ℕ) (b : Bool) (said : b ≡ isDone a) where
+  pub refused-written : (y : ℕ × List ℕ) → not b ≡ true → y ≡ written (replyOf a []) l → y ≡ written (replied a x (length l)) l
   unfolding replied
   refused-written y n e =
       let d = sym said ∙ not-true b n in
-      e ∙ rw (← sized, ← settled, reply-refused last x d, reply-refused last [] d)
+      e ∙ rw (final-refused a (length x) (length l) b said n, reply-refused a x d, reply-refused a [] d)
 
-  pub result-written : (l₁ l₂ : List ℕ) → not b ≡ false → l₁ ≡ put 0 (headOf last) l → l₂ ≡ put headSize x l₁
-      → (headSize + size, l₂) ≡ written (replied a x (length l)) l
-  unfolding replied written
-  result-written l₁ l₂ n e₁ e₂ =
-      let p : put 0 (headOf last ++ x) l ≡ put headSize x (put 0 (headOf last) l) = put-append 0 (headOf last) x l ∙ rw (head-long last) in
-      rw (← sized, ← settled, e₂, e₁, reply-done last x (sym said ∙ not-false b n), length-append, head-long last, p, sized)
+  module _ (n : not b ≡ false) (h : headSize ≤ length l) (size : ℕ) (sized : size ≡ length x) where
+    pub short-written : (y : ℕ × List ℕ) → length l - headSize < size → y ≡ written (replyOf ShortReply []) l → y ≡ written (replied a x (length l)) l
+    unfolding replied
+    short-written y k e =
+        e ∙ rw (← sized, final-short a size (length l) b said n h k, reply-refused ShortReply x refl, reply-refused ShortReply [] refl)
+
+    pub result-written : (l₁ l₂ : List ℕ) → size ≤ length l - headSize → l₁ ≡ put 0 (headOf a) l → l₂ ≡ put headSize x l₁
+        → (headSize + size, l₂) ≡ written (replied a x (length l)) l
+    unfolding replied written
+    result-written l₁ l₂ k e₁ e₂ =
+        let p : put 0 (headOf a ++ x) l ≡ put headSize x (put 0 (headOf a) l) = put-append 0 (headOf a) x l ∙ rw (head-long a) in
+        rw (← sized, final-fits a size (length l) b said n h k, e₂, e₁, reply-done a x (sym said ∙ not-false b n), length-append, head-long a, p, sized)
 
 -- there is room for the result, in the buffer as the head left it and in the tail that is lent to the result's writer
-module _ (a last : Answer) (l l′ : List ℕ) (size : ℕ) (b : Bool) (settled : last ≡ finalOf a size (length l))
-    (said : b ≡ isDone last) (n : not b ≡ false) (e : l′ ≡ put 0 (headOf last) l) where
-  pub reply-fits : 8 + size ≤ length l
-  reply-fits = final-room a size (length l) (rw (← settled) (sym said ∙ not-false b n))
-
+module _ (a : Answer) (l l′ : List ℕ) (size : ℕ) (h : headSize ≤ length l) (k : size ≤ length l - headSize) (e : l′ ≡ put 0 (headOf a) l) where
   pub result-fits : 8 + size ≤ length l′
-  result-fits = rw (e, length-put) reply-fits
+  result-fits = rw (e, length-put) (omega arith)
 
   pub tail-fits : (q : ℕ) (list v : List ℕ) (body : Body) → size ≡ length (resultOf q list v body)
       → length (resultOf q list v body) ≤ length (take (length l′ - 8) (drop 8 l′))
-  tail-fits q list v body s = let h = result-fits in rw (length-tail 8 l′, ← s) (omega arith)
+  tail-fits q list v body s = let f = result-fits in rw (length-tail 8 l′, ← s) (omega arith)
 
-pub fits-word : (n k : ℕ) → n ≤ k → Fits w64 k → Fits w64 n
-fits-word n k h f = omega arith
+-- and its length is a word
+pub reply-word : (room size : ℕ) → headSize ≤ room → size ≤ room - headSize → Fits w64 room → Fits w64 (headSize + size)
+reply-word room size h k f = omega arith
 
 -- a reply with no result, which always fits
 pub answer-only : (a : Answer) (l l′ : List ℕ) → l′ ≡ put 0 (headOf a) l → (headSize, l′) ≡ written (replyOf a []) l

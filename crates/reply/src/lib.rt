@@ -19,22 +19,10 @@ const ZEROS_AT: usize = 4;
 
 pub const HEAD_SIZE: usize = 8;
 
-// A number in a result: 4 bytes and 4 zero bytes.
-const NUMBER_SIZE: usize = 8;
+// A mask in a result; a number, which is 4 bytes and 4 zero bytes.
+const MASK_SIZE: usize = 8;
 
-// Step 11: a success has room for its result.
-fn settle(a: Answer, size: usize, room: usize) -> Answer
-    requires { ⌜ headSize ≤ room ⌝ }
-    ensures { λ r. ⌜ r ≡ finalOf a size room ⌝ }
-{
-    if !protocol::is_done(a) {
-        return a;
-    }
-    if room - HEAD_SIZE < size {
-        return Answer::ShortReply;
-    }
-    a
-}
+const NUMBER_SIZE: usize = 8;
 
 fn write_head(a: Answer, out: &mut [u8])
     requires { ⌜ headSize ≤ length (now out) ⌝ }
@@ -59,14 +47,12 @@ pub fn write_mask(mask: u64, reply: &mut [u8]) -> usize
     requires { ⌜ headSize ≤ length (now reply) ⌝ }
     ensures { λ r. ⌜ (r, now (reply .exit)) ≡ written (replied Answer.Done (bytes 8 mask) (length (now (reply .entry)))) (now (reply .entry)) ⌝ }
 {
-    let size: usize = 8;
-    let last = settle(Answer::Done, size, reply.len());
-    if !protocol::is_done(last) {
-        return write_answer(last, reply);
+    if reply.len() - HEAD_SIZE < MASK_SIZE {
+        return write_answer(Answer::ShortReply, reply);
     }
-    write_head(last, reply);
-    wire::write(reply, HEAD_SIZE, 8, mask);
-    HEAD_SIZE + size
+    write_head(Answer::Done, reply);
+    wire::write(reply, HEAD_SIZE, MASK_SIZE, mask);
+    HEAD_SIZE + MASK_SIZE
 }
 
 // The bytes of a result, whatever the values are.
@@ -119,7 +105,7 @@ fn write_result(body: Body, queues: u8, list: &[u8], values: &[u8], out: &mut [u
 
 // Steps 11 and 12 of a command with a result: the tail from byte 8 is lent to its writer.
 pub fn write_reading(
-    a: Answer,
+    answer: Answer,
     body: Body,
     queues: u8,
     list: &[u8],
@@ -127,14 +113,16 @@ pub fn write_reading(
     reply: &mut [u8],
 ) -> usize
     requires { ⌜ (queues < 5) × (length (now values) ≡ valuesSize) × (headSize ≤ length (now reply)) ⌝ }
-    ensures { λ r. ⌜ (r, now (reply .exit)) ≡ written (replied a (resultOf queues (now (list .entry)) (now (values .entry)) body) (length (now (reply .entry)))) (now (reply .entry)) ⌝ }
+    ensures { λ r. ⌜ (r, now (reply .exit)) ≡ written (replied answer (resultOf queues (now (list .entry)) (now (values .entry)) body) (length (now (reply .entry)))) (now (reply .entry)) ⌝ }
 {
-    let size = result_bytes(body, queues, list);
-    let last = settle(a, size, reply.len());
-    if !protocol::is_done(last) {
-        return write_answer(last, reply);
+    if !protocol::is_done(answer) {
+        return write_answer(answer, reply);
     }
-    write_head(last, reply);
+    let size = result_bytes(body, queues, list);
+    if reply.len() - HEAD_SIZE < size {
+        return write_answer(Answer::ShortReply, reply);
+    }
+    write_head(answer, reply);
     write_result(body, queues, list, values, &mut reply[HEAD_SIZE..]);
     HEAD_SIZE + size
 }
