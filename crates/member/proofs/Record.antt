@@ -20,10 +20,9 @@ use Rattle.protocol.specs.Answers.{modeOf}
 use Rattle.protocol.specs.declared.Mode.{Mode}
 use Rattle.protocol.specs.declared.Mode.the-variants.{Running, Stopped}
 use Rattle.objects.specs.declared.Slot.{Slot}
-use Rattle.objects.specs.declared.ObjectRecord.{ObjectRecord}
 use Rattle.objects.specs.declared.Found.{Found}
 use Rattle.objects.specs.declared.Found.the-variants.{Nothing}
-use Rattle.objects.specs.Objects.{objectsSize, objectOf, objectByte, foundIn}
+use Rattle.objects.specs.Objects.{objectsSize, slotOf, objectOf, objectByte, foundIn}
 use Rattle.objects.proofs.Objects.{objects-back}
 use Rattle.member.specs.declared.Member.{Member}
 use Rattle.member.specs.Record.{modeAt, markAt, queuesAt, objectsAt, heldAt, valuesAt, memberSize, modeByte, objectBytes, memberOf, memberBytes}
@@ -172,10 +171,9 @@ fresh-values f e = put-front f (replicate valuesSize 0) (omega arith) ∙ rw e
 -- ---- a record read where it stands ----
 
 module _ (r : List ℕ) (n : length r ≡ memberSize) (id : ℕ) where
-  pub record-lookup : (f : Found) (o : ObjectRecord) → id < objectsSize → o ≡ objectOf (getD r (objectsAt + id) 0)
-      → f ≡ foundIn (o .slot) → f ≡ lookupOf (memberOf r) id
+  pub record-lookup : (f : Found) → id < objectsSize → f ≡ foundIn (slotOf (getD r (objectsAt + id) 0)) → f ≡ lookupOf (memberOf r) id
   unfolding memberOf lookupOf
-  record-lookup f o h q e = rw (List·getD-map objectOf (objectBytes r) id 0, getD-bytesAt objectsAt objectsSize id r h) (e ∙ ap (λ (x : ObjectRecord). foundIn (x .slot)) q)
+  record-lookup f h e = rw (List·getD-map objectOf (objectBytes r) id 0, getD-bytesAt objectsAt objectsSize id r h) e
 
   pub record-lookup-out : objectsSize ≤ id → Nothing ≡ lookupOf (memberOf r) id
   record-lookup-out h = lookup-out (memberOf r) id objectsSize (member-ids r n) h

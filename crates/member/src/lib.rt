@@ -215,9 +215,7 @@ pub fn lookup_in(bytes: &[u8], id: usize) -> Found
     if IDS <= id {
         return Found::Nothing;
     }
-    let o = objects::object_in(bytes[OBJECTS_AT + id]);
-    let slot = o.slot;
-    objects::found_in(slot)
+    objects::found_at(bytes[OBJECTS_AT + id])
 }
 
 pub fn values_of(bytes: &[u8]) -> &[u8]

@@ -1,6 +1,6 @@
 -- Objects come back from their bytes, and bytes up to 2 from their objects; each return of the functions on one byte or
 -- one slot, in the shape in which it is asked. Assumes nothing.
-use mathlib.Core.Path.{_≡_, refl}
+use mathlib.Core.Path.{_≡_, refl, ap}
 use mathlib.Core.Bool.{true}
 use mathlib.Core.List.{List, [], _∷_, map}
 use Prim.Native.Nat.{ℕ, zero, suc, _≤_}
@@ -19,6 +19,9 @@ pub object-other : (b : ℕ) → (b ≡ 0 → ⊥) → (b ≡ 1 → ⊥) → rec
 object-other zero n m = absurd (n refl)
 object-other (suc zero) n m = absurd (m refl)
 object-other (suc (suc b)) n m = refl
+
+pub found-other : (b : ℕ) → (b ≡ 0 → ⊥) → (b ≡ 1 → ⊥) → Live kind.Set ≡ foundIn (slotOf b)
+found-other b n m = ap (λ (o : ObjectRecord). foundIn (o .slot)) (object-other b n m)
 
 pub found-get : (s : Slot) → s ≡ Get → Live kind.Get ≡ foundIn s
 found-get s e = rw e

@@ -6,7 +6,7 @@ ghost use Prim.Native.Nat.{_+_, _≤_, _<_};
 ghost use lib.Dec.{leb, eqb};
 ghost use lib.ListN.{length, drop, set};
 ghost use Rattle.theory.specs.Logic.{_and_, indicator};
-ghost use Rattle.objects.specs.Objects.{objectsSize, objectOf, objectByte, free, slotFor, foundIn, count, allUpTo, allWithin, mostOf, withinLimits};
+ghost use Rattle.objects.specs.Objects.{objectsSize, slotOf, objectOf, objectByte, free, slotFor, foundIn, count, allUpTo, allWithin, mostOf, withinLimits};
 use protocol::ObjectKind;
 
 // One object record for each id that any setup allows: G + S is at most 16.
@@ -67,13 +67,24 @@ pub enum Found {
 
 // ---- a byte and what it stands for ----
 
-pub fn object_in(b: u8) -> ObjectRecord
+fn object_in(b: u8) -> ObjectRecord
     ensures { λ r. ⌜ r ≡ objectOf b ⌝ }
 {
     match b {
         0 => ObjectRecord { slot: Slot::Free },
         1 => ObjectRecord { slot: Slot::Get },
         _ => ObjectRecord { slot: Slot::Set },
+    }
+}
+
+// The object that it stands for: found with no record in between, which the compiler would not leave out.
+pub fn found_at(b: u8) -> Found
+    ensures { λ r. ⌜ r ≡ foundIn (slotOf b) ⌝ }
+{
+    match b {
+        0 => Found::Nothing,
+        1 => Found::Live(ObjectKind::Get),
+        _ => Found::Live(ObjectKind::Set),
     }
 }
 

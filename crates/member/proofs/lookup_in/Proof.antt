@@ -7,5 +7,5 @@ use Rattle.member.proofs.lookup_in.Tie as tie
 pub lookup-in-spec : {M : Type 1} → statement M
 lookup-in-spec =
     tie.close
-    (tie.spec (λ c. search (needs, record-lookup-out)) (λ c. search needs) (λ c. search needs) (λ c κs. search needs) (λ c κs. search needs)
+    (tie.spec (λ c. search (needs, record-lookup-out)) (λ c. search needs) (λ c. search needs) (λ c κs. search needs)
     (λ c. search (needs, record-lookup)))
