@@ -1,7 +1,7 @@
 -- What keeps a member sound. `SoundMember` says in plain facts what the test on its record says; each law is over a sound
 -- member. Assumes nothing.
 use mathlib.Core.Path.{_≡_, refl, ap, sym, _∙_}
-use mathlib.Core.Bool.{Bool, true, false, not}
+use mathlib.Core.Bool.{Bool, true, false, not, _&&_}
 use mathlib.Core.List.{List, _++_, map}
 use Prim.Native.Nat.{ℕ, zero, suc, _+_, _-_, _*_, _≤_, _<_}
 use native.Mathlib.Omega.{arith}
@@ -11,8 +11,8 @@ use lib.Seq.{take-at, drop-set-lt, drop-append-add}
 use borrow.Author.Tests.{not-true, not-false, leb-true, le-leb, lt-leb, eqb-true, eq-eqb}
 use Rattle.theory.specs.Logic.{_and_, _or_, indicator, within}
 use Rattle.theory.specs.Bytes.{bytesAt, same}
-use Rattle.theory.proofs.Tests.{by-cases, both, either, and-i, true-and, and-true, and-assoc, and-false, false-and, true-or, false-or, inside, same-true, eq-same}
-use Rattle.theory.proofs.Bytes.{bytesAt-bytesAt}
+use Rattle.theory.proofs.Tests.{by-cases, both, not-both, either, and-bits, and-i, true-and, and-true, and-assoc, and-false, false-and, true-or, false-or, inside, same-true, eq-same}
+use Rattle.theory.proofs.Bytes.{length-bytesAt, bytesAt-bytesAt}
 use Rattle.wire.specs.Le.{le, number}
 use Rattle.wire.proofs.Le.{number-none, number-step}
 use Rattle.inventory.specs.Inventory.{valuesSize, offsetOf, rows}
@@ -26,11 +26,11 @@ use Rattle.protocol.specs.declared.Mode.{Mode}
 use Rattle.protocol.specs.declared.Mode.the-variants.{Stopped}
 use Rattle.objects.specs.declared.Slot.{Slot}
 use Rattle.objects.specs.declared.Slot.the-variants.{Free}
-use Rattle.objects.specs.Objects.{objectsSize, objectOf, objectByte, allUpTo, withinLimits}
+use Rattle.objects.specs.Objects.{objectsSize, objectOf, objectByte, allUpTo, allWithin, mostOf, withinLimits}
 use Rattle.objects.proofs.Objects.{objects-low, bytes-of-objects}
-use Rattle.objects.proofs.Counts.{map-set, all-drop-set, all-drop, limits-set, none-live, none-counted}
+use Rattle.objects.proofs.Counts.{map-set, all-drop-set, all-drop, limits-set, none-live, none-counted, both-tests}
 use Rattle.member.specs.declared.Member.{Member}
-use Rattle.member.specs.Record.{modeAt, markAt, queuesAt, heldAt, valuesAt, memberSize, holdingSize, objectBytes, memberOf, memberBytes}
+use Rattle.member.specs.Record.{modeAt, markAt, queuesAt, objectsAt, heldAt, valuesAt, memberSize, holdingSize, objectBytes, memberOf, memberBytes}
 use Rattle.member.specs.Objects.{roomIn, withObject}
 use Rattle.member.specs.Member.{featuresSize, freshOf, featuresIn, withMode, withValues, withHeld, handedBack, withPart}
 use Rattle.member.specs.Sound.{soundEnd, soundMark, soundFront, soundRecord}
@@ -256,33 +256,52 @@ module _ (r : List ℕ) (n : ℕ) (e : n ≡ number modeAt 2 r) where
 -- ---- the test, one step after the other ----
 
 module _ (gets sets : ℕ) (features r : List ℕ) where
-  abbrev soundObjects : List ℕ → Bool
-  soundObjects os = allUpTo 2 os and allUpTo 0 (drop (gets + sets) os) and withinLimits gets sets os
+  abbrev lowObjects : List ℕ → Bool
+  lowObjects os = allUpTo 2 os and allUpTo 0 (drop (gets + sets) os)
 
   steps : soundFront r and (leb (number heldAt 2 r) (1 + holdingSize)
-      and (soundObjects (objectBytes r) and (same (bytesAt valuesAt featuresSize r) features and queuesAllowed (getD r queuesAt 0) (bytesAt valuesAt valuesSize r))))
+      and ((lowObjects (objectBytes r) and withinLimits gets sets (objectBytes r))
+      and (same (bytesAt valuesAt featuresSize r) features and queuesAllowed (getD r queuesAt 0) (bytesAt valuesAt valuesSize r))))
       ≡ soundRecord gets sets features r
   unfolding soundRecord
   steps = simp and-assoc
 
-  module _ (f : Bool) (ef : f ≡ same (bytesAt valuesAt featuresSize r) features) where
-    pub bad-features : not f ≡ true → false ≡ soundRecord gets sets features r
-    bad-features h = rw (← steps, ← ef, not-true f h) (simp (false-and, and-false))
+  -- f tested the features, w the object bytes os against what each may be at most
+  module _ (most : List ℕ) (long : length r ≡ memberSize) (few : gets + sets ≤ objectsSize) (i : most ≡ mostOf (gets + sets))
+      (f : Bool) (ef : f ≡ same (bytesAt valuesAt featuresSize r) features)
+      (os : List ℕ) (w : Bool) (eo : os ≡ objectBytes r) (ew : w ≡ allWithin most os) where
+    low-tested : w ≡ lowObjects (objectBytes r)
+    low-tested =
+        ew ∙ ap (allWithin most) eo
+        ∙ both-tests (gets + sets) most few i (objectBytes r) (length-bytesAt objectsAt objectsSize r (omega arith))
 
-    module _ (x : Bool) (ex : x ≡ soundFront r) where
-      pub bad-front : not x ≡ true → false ≡ soundRecord gets sets features r
-      bad-front h = rw (← steps, ← ex, not-true x h) (sym (false-and _))
+    pub bad-vectors : not (f && w) ≡ true → false ≡ soundRecord gets sets features r
+    bad-vectors h =
+        not-both f w (sym (and-bits f w) ∙ not-true (f && w) h)
+        (λ e. rw (← steps, ← ef, e) (simp (false-and, and-false)))
+        (λ e. rw (← steps, ← low-tested, e) (simp (false-and, and-false)))
 
-      module _ (z : Bool) (ez : z ≡ queuesAllowed (getD r queuesAt 0) (bytesAt valuesAt valuesSize r)) where
-        pub bad-queues : not z ≡ true → false ≡ soundRecord gets sets features r
-        bad-queues h = rw (← steps, ← ez, not-true z h) (simp and-false)
+    module _ (h : not (f && w) ≡ false) where
+      good : (f ≡ true) × (w ≡ true)
+      good = both f w (sym (and-bits f w) ∙ not-false (f && w) h)
 
-        module _ (held : ℕ) (g : held ≡ number heldAt 2 r) where
-          pub bad-held : 1 + holdingSize < held → false ≡ soundRecord gets sets features r
-          bad-held h = rw (← steps, ← g, lt-leb _ _ h) (simp (false-and, and-false))
+      pub all-low : allUpTo 2 os ≡ true
+      all-low = rw eo (both _ _ (sym low-tested ∙ good .1) .0)
 
-          pub objects-last : not f ≡ false → not x ≡ false → not z ≡ false → held ≤ 1 + holdingSize
-              → (os : List ℕ) (b : Bool) → os ≡ objectBytes r → b ≡ soundObjects os → b ≡ soundRecord gets sets features r
-          unfolding _and_
-          objects-last h i j k os b p q =
-              rw (← steps, ← ex, not-false x i, ← g, le-leb _ _ k, ← ef, not-false f h, ← ez, not-false z j, ← p) (q ∙ sym (and-true _))
+      module _ (x : Bool) (ex : x ≡ soundFront r) where
+        pub bad-front : not x ≡ true → false ≡ soundRecord gets sets features r
+        bad-front j = rw (← steps, ← ex, not-true x j) (sym (false-and _))
+
+        module _ (z : Bool) (ez : z ≡ queuesAllowed (getD r queuesAt 0) (bytesAt valuesAt valuesSize r)) where
+          pub bad-queues : not z ≡ true → false ≡ soundRecord gets sets features r
+          bad-queues j = rw (← steps, ← ez, not-true z j) (simp and-false)
+
+          module _ (held : ℕ) (g : held ≡ number heldAt 2 r) where
+            pub bad-held : 1 + holdingSize < held → false ≡ soundRecord gets sets features r
+            bad-held j = rw (← steps, ← g, lt-leb _ _ j) (simp (false-and, and-false))
+
+            pub limits-last : not x ≡ false → not z ≡ false → held ≤ 1 + holdingSize → (b : Bool) → b ≡ withinLimits gets sets os
+                → b ≡ soundRecord gets sets features r
+            limits-last j k l b q =
+                rw (← steps, ← ex, not-false x j, ← g, le-leb _ _ l, ← low-tested, good .1, ← ef, good .0, ← ez, not-false z k, ← eo, ← q)
+                (simp (true-and, and-true))

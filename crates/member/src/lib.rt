@@ -273,13 +273,15 @@ fn is_front_sound(bytes: &[u8]) -> bool
     is_end_sound(bytes)
 }
 
-// Most holds what each object byte may be at most: see objects. The order of the tests decides which of them the compiler
-// makes vector instructions.
+// Most holds what each object byte may be at most: see objects. Features and objects are two vectors with one test. The order
+// of the tests decides which of them the compiler makes vector instructions.
 pub fn is_sound_record(bytes: &[u8], gets: u8, sets: u8, most: &[u8], features: &[u8]) -> bool
     requires { ⌜ (length (now bytes) ≡ memberSize) × (gets + sets ≤ objectsSize) × (now most ≡ mostOf (gets + sets)) ⌝ }
     ensures { λ r. ⌜ r ≡ soundRecord gets sets (now (features .entry)) (now (bytes .entry)) ⌝ }
 {
-    if !wire::equal(&bytes[VALUES_AT..FEATURES_END], features) {
+    let kept = wire::equal(&bytes[VALUES_AT..FEATURES_END], features);
+    let low = objects::are_within(most, &bytes[OBJECTS_AT..HELD_AT]);
+    if !(kept & low) {
         return false;
     }
     if !is_front_sound(bytes) {
@@ -291,7 +293,7 @@ pub fn is_sound_record(bytes: &[u8], gets: u8, sets: u8, most: &[u8], features: 
     if HELD_MOST < wire::read_u16(bytes, HELD_AT) {
         return false;
     }
-    objects::are_objects_sound(&bytes[OBJECTS_AT..HELD_AT], most, gets, sets)
+    objects::is_within_limits(&bytes[OBJECTS_AT..HELD_AT], gets, sets)
 }
 
 // ---- from a member's bytes to the member ----

@@ -1,7 +1,7 @@
 -- Counting the bytes of a list, and whether each is at most a number: one byte changed, and what a loop has counted
 -- so far. Assumes nothing.
 use mathlib.Core.Path.{_≡_, refl, ap, sym, _∙_}
-use mathlib.Core.Bool.{Bool, true, false, not}
+use mathlib.Core.Bool.{Bool, true, false}
 use mathlib.Core.List.{List, [], _∷_, _++_, map}
 use Prim.Native.Nat.{ℕ, zero, suc, _+_, _-_, _/_, _%_, _≤_, _<_}
 use native.Mathlib.Omega.{arith}
@@ -10,7 +10,7 @@ use native.Mathlib.Numerals.{add-one}
 use native.Mathlib.Nat.{zero-add, suc-add}
 use lib.ListN.{length, getD, take, drop-of-length-le, drop, set, replicate, length-append, length-replicate}
 use lib.Seq.{drop-cons, drop-set-lt, drop-set-add, drop-append-le, take-append-add}
-use borrow.Author.Tests.{leb-true, le-leb, ne-eqb, not-true, not-false}
+use borrow.Author.Tests.{leb-true, le-leb, ne-eqb}
 use Rattle.theory.specs.Logic.{_and_, indicator}
 use Rattle.theory.specs.Bytes.{bytesAt}
 use Rattle.theory.proofs.Tests.{by-cases, both, and-i, and-true, true-and, and-false, false-and, and-assoc, indicator-false, indicator-le, tests}
@@ -148,25 +148,14 @@ within-most zero n bs h = let e : n ≡ length bs = omega arith in rw e (all-fre
 within-most (suc ids) n [] h = absurd (omega arith)
 within-most (suc ids) n (b ∷ bs) h = rw (within-most ids n bs (omega arith)) (sym (and-assoc _ _ _))
 
-module _ (ids : ℕ) (most bs : List ℕ) (h : ids ≤ objectsSize) (e : most ≡ mostOf ids) (n : length bs ≡ objectsSize) where
+module _ (ids : ℕ) (most : List ℕ) (h : ids ≤ objectsSize) (e : most ≡ mostOf ids) where
   pub length-most : length most ≡ objectsSize
   unfolding mostOf
   length-most = rw (e, length-append, length-replicate, length-replicate) (omega arith)
 
-  module _ (b : Bool) (q : b ≡ allWithin most bs) where
-    both-tests : b ≡ allUpTo 2 bs and allUpTo 0 (drop ids bs)
-    unfolding mostOf
-    both-tests = q ∙ rw e (within-most ids (objectsSize - ids) bs (omega arith))
-
-    pub bad-within : not b ≡ true → (x : Bool) → false ≡ allUpTo 2 bs and allUpTo 0 (drop ids bs) and x
-    bad-within t x = rw (← both-tests, not-true b t) (sym (false-and x))
-
-    module _ (t : not b ≡ false) where
-      pub all-low : allUpTo 2 bs ≡ true
-      all-low = both _ _ (sym both-tests ∙ not-false b t) .0
-
-      pub limits-last : (x y : Bool) → x ≡ y → x ≡ allUpTo 2 bs and allUpTo 0 (drop ids bs) and y
-      limits-last x y d = rw (← both-tests, not-false b t) (d ∙ sym (true-and y))
+  pub both-tests : (bs : List ℕ) → length bs ≡ objectsSize → allWithin most bs ≡ allUpTo 2 bs and allUpTo 0 (drop ids bs)
+  unfolding mostOf
+  both-tests bs n = rw e (within-most ids (objectsSize - ids) bs (omega arith))
 
 -- a window of the table is that for so many ids
 drop-replicate : (k n x : ℕ) → drop k (replicate (k + n) x) ≡ replicate n x

@@ -178,8 +178,8 @@ pub fn are_up_to(n: u8, bytes: &[u8]) -> bool
     all
 }
 
-// Whether each byte is at most the number beside it.
-fn are_within(most: &[u8], bytes: &[u8]) -> bool
+// Whether each byte is at most the number beside it: of a part of MOST, which is the same for all members.
+pub fn are_within(most: &[u8], bytes: &[u8]) -> bool
     requires { ⌜ (length (now most) ≡ objectsSize) × (length (now bytes) ≡ objectsSize) ⌝ }
     ensures { λ r. ⌜ r ≡ allWithin (now (most .entry)) (now (bytes .entry)) ⌝ }
 {
@@ -190,18 +190,6 @@ fn are_within(most: &[u8], bytes: &[u8]) -> bool
         i += 1;
     }
     all
-}
-
-// Most holds what each byte may be at most, in a card with so many get and set objects: a part of MOST, which is the same
-// for all members.
-pub fn are_objects_sound(bytes: &[u8], most: &[u8], gets: u8, sets: u8) -> bool
-    requires { ⌜ (length (now bytes) ≡ objectsSize) × (gets + sets ≤ objectsSize) × (now most ≡ mostOf (gets + sets)) ⌝ }
-    ensures { λ r. ⌜ r ≡ allUpTo 2 (now (bytes .entry)) and allUpTo 0 (drop (gets + sets) (now (bytes .entry))) and withinLimits gets sets (now (bytes .entry)) ⌝ }
-{
-    if !are_within(most, bytes) {
-        return false;
-    }
-    is_within_limits(bytes, gets, sets)
 }
 
 // ---- slots ----

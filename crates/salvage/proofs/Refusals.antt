@@ -8,16 +8,10 @@ use borrow.Author.Tests.{eqb-true, leb-true, not-false}
 use lib.Dec.{leb, eqb}
 use lib.ListN.{length}
 use Rattle.theory.specs.Logic.{_and_, within}
-use Rattle.theory.proofs.Tests.{both, within-high}
+use Rattle.theory.proofs.Tests.{and-bits, both, within-high}
 use Rattle.inventory.specs.Inventory.{featuresSize, partCount, partsSize}
 use Rattle.salvage.specs.Salvage.{longestList, isTaken}
 use Rattle.salvage.specs.Walk.{Fits}
-
--- the code's tests, joined by `&`
-and-bits : (a b : Bool) → (a && b) ≡ a and b
-unfolding _and_
-and-bits true b = refl
-and-bits false b = refl
 
 pub taken-tests : (q f d l k n size count : ℕ) → size ≡ partsSize q → count ≡ partCount q
     → ((((((leb 1 q && leb q 4) && eqb f featuresSize) && leb d longestList) && leb size l) && leb count k) && leb 4 n) ≡ isTaken q f d l k n

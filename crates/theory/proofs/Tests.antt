@@ -1,6 +1,6 @@
 -- Case analysis on a test, and the laws of the choices and tests of specs/Logic.antt and of `same`. Assumes nothing.
 use mathlib.Core.Path.{_≡_, refl, ap}
-use mathlib.Core.Bool.{Bool, true, false}
+use mathlib.Core.Bool.{Bool, true, false, _&&_}
 use mathlib.Core.List.{List, [], _∷_}
 use Prim.Native.Nat.{ℕ, _+_, _≤_, _<_}
 use native.Mathlib.Numerals.{add-one}
@@ -57,6 +57,12 @@ pub and-assoc : (a b c : Bool) → a and b and c ≡ a and (b and c)
 unfolding _and_
 and-assoc true b c = refl
 and-assoc false b c = refl
+
+-- the code's tests, joined by `&`
+pub and-bits : (a b : Bool) → (a && b) ≡ a and b
+unfolding _and_
+and-bits true b = refl
+and-bits false b = refl
 
 pub true-or : (b : Bool) → true or b ≡ true
 unfolding _or_
