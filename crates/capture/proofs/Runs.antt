@@ -2,10 +2,12 @@
 use mathlib.Core.Path.{_≡_, refl, sym, _∙_}
 use mathlib.Core.Bool.{Bool, true, false}
 use mathlib.Core.List.{List, [], _∷_, _++_, append-assoc}
-use Prim.Native.Nat.{ℕ, zero, suc, _+_, _*_, _≤_, _<_}
-use native.Mathlib.Nat.{add-zero, add-assoc}
+use Prim.Native.Nat.{ℕ, zero, suc, _+_, _-_, _*_, _≤_, _<_}
+use native.Mathlib.Nat.{add-zero, add-assoc, mul-one, mul-add, mul-le-mul}
 use native.Mathlib.Omega.{arith}
 use borrow.Author.Tests.{eqb-true, ltb-true, leb-true, le-ltb, lt-leb}
+use mir.Syntax.{w32}
+use mir.Val.{Fits}
 use lib.Dec.{T, leb, ltb, eqb, ltb→lt}
 use lib.ListN.{length, getD}
 use Rattle.theory.specs.Logic.{_and_, _or_}
@@ -26,17 +28,18 @@ use Rattle.capture.proofs.Writes.{row-small, wrote-next}
 
 -- ---- one run ----
 
--- i parts are written; the next goes to `at`, and its value starts at `from`
-pub record Running (v : List ℕ) (first count b : ℕ) (out₀ out : List ℕ) (at from i : ℕ) : Type 0 where
+-- i parts are written; the next goes to `at`, its value starts at `from`, and its selector is s
+pub record Running (v : List ℕ) (first count selector step b : ℕ) (out₀ out : List ℕ) (at from s i : ℕ) : Type 0 where
   pub written : Written (λ j. partAt v (first + j)) count b out₀ out at i
   pub starts : from ≡ offsetOf (first + i)
+  pub chosen : s ≡ selector + step * i
 
-pub run-end : (v : List ℕ) (first count b : ℕ) (out₀ out : List ℕ) (at from i : ℕ) → Running v first count b out₀ out at from i → count ≤ i
-    → Wrote (runOf v first count) b out₀ out at
-run-end v first count b out₀ out at from i w h =
+pub run-end : (v : List ℕ) (first count selector step b : ℕ) (out₀ out : List ℕ) (at from s i : ℕ)
+    → Running v first count selector step b out₀ out at from s i → count ≤ i → Wrote (runOf v first count) b out₀ out at
+run-end v first count selector step b out₀ out at from s i w h =
     record { buffer = written-end _ _ _ _ _ _ _ (w .written) h; place = written-at _ _ _ _ _ _ _ (w .written) h }
 
-module _ (v : List ℕ) (first count type size offset : ℕ) (a : RowsAlike first count type size offset) (e : length v ≡ valuesSize) where
+module _ (v : List ℕ) (first count type selector step size offset : ℕ) (a : RowsAlike first count type selector step size offset) (e : length v ≡ valuesSize) where
   abbrev item : ℕ → List ℕ
   item j = partAt v (first + j)
 
@@ -49,11 +52,12 @@ module _ (v : List ℕ) (first count type size offset : ℕ) (a : RowsAlike firs
   pub run-length : length (runOf v first count) ≡ count * (headerSize + size)
   run-length = length-items item (λ j. headerSize + size) count count 0 (omega arith) run-item ∙ sum-same (headerSize + size) count 0
 
-  pub run-start : (b : ℕ) (out : List ℕ) → b + count * (headerSize + size) ≤ length out → Running v first count b out out b offset 0
-  run-start b out h = record { written = written-start item count b out (omega (arith, run-length)); starts = a .starts ∙ rw add-zero }
+  pub run-start : (b : ℕ) (out : List ℕ) → b + count * (headerSize + size) ≤ length out → Running v first count selector step b out out b offset selector 0
+  run-start b out h =
+      record { written = written-start item count b out (omega (arith, run-length)); starts = a .starts ∙ rw add-zero; chosen = omega arith }
 
   -- a turn: row first + i is the next
-  module _ (b : ℕ) (out₀ out : List ℕ) (at from i : ℕ) (w : Running v first count b out₀ out at from i) (h : i < count) where
+  module _ (b : ℕ) (out₀ out : List ℕ) (at from s i : ℕ) (w : Running v first count selector step b out₀ out at from s i) (h : i < count) where
     row-there : first + i < rowCount
     row-there = inside i h
 
@@ -66,18 +70,32 @@ module _ (v : List ℕ) (first count type size offset : ℕ) (a : RowsAlike firs
     pub run-room : at + (headerSize + size) ≤ length out
     run-room = written-room item count b out₀ out at i (w .written) (headerSize + size) h (run-item i h)
 
-    next-item : item i ≡ headerOf (row type (getD selectors (first + i) 0) size) ++ bytesAt from size v
+    next-item : item i ≡ headerOf (row type s size) ++ bytesAt from size v
     unfolding partAt
-    next-item = rw (w .starts, ← a .typed i h, selector-at (first + i), ← a .sized i h)
+    next-item = rw (w .starts, w .chosen, ← a .typed i h, ← a .selected i h, ← a .sized i h)
 
     next-starts : from + size ≡ offsetOf (first + (i + 1))
     next-starts = rw (w .starts, ← a .sized i h, ← add-assoc) (sym (offset-next (first + i) row-there))
 
-    pub run-on : (out′ : List ℕ) (next : ℕ)
-        → Wrote (headerOf (row type (getD selectors (first + i) 0) size) ++ bytesAt from size v) at out out′ next
-        → Running v first count b out₀ out′ next (from + size) (i + 1)
-    run-on out′ next d =
-        record { written = wrote-next item count b out₀ out out′ _ at next i (w .written) h next-item d; starts = next-starts }
+    next-chosen : s + step ≡ selector + step * (i + 1)
+    next-chosen = let d : step * (i + 1) ≡ step * i + step = mul-add step i 1 ∙ rw mul-one in let c = w .chosen in omega arith
+
+    -- and no sum is too large
+    pub run-low : Fits w32 (s + step)
+    run-low =
+        let n : i + 1 ≤ rowCount = (let t = row-there in omega arith) in
+        let m : step * (i + 1) ≤ 256 * rowCount = mul-le-mul (a .low .1) n in
+        let l = a .low .0 in
+        let c = next-chosen in
+        omega arith
+
+    pub run-on : (out′ : List ℕ) (next : ℕ) → Wrote (headerOf (row type s size) ++ bytesAt from size v) at out out′ next
+        → Running v first count selector step b out₀ out′ next (from + size) (s + step) (i + 1)
+    run-on out′ next d = record {
+      written = wrote-next item count b out₀ out out′ _ at next i (w .written) h next-item d;
+      starts = next-starts;
+      chosen = next-chosen;
+    }
 
 -- ---- the table of the runs ----
 
@@ -97,42 +115,57 @@ firstOf k = getD firsts k 0
 abbrev pub countOf : ℕ → ℕ → ℕ
 countOf q k = getD (counts q) k 0
 
--- row i is like the first of the run, or not in the run
-abbrev alikeAt : ℕ → ℕ → ℕ → Row → Bool
-alikeAt first count i r =
-    (ltb i first or leb (first + count) i) or (eqb (r .partType) (rowAt first .partType) and eqb (r .size) (rowAt first .size))
+-- from one selector to the next
+abbrev steps : List ℕ
+steps = 0 ∷ 0 ∷ 8 ∷ 6 ∷ 0 ∷ 1 ∷ 1 ∷ []
 
-abbrev alikeRun : ℕ → ℕ → Bool
-alikeRun first count = ltb first rowCount and leb (first + count) rowCount and every (alikeAt first count) 0 rows
+abbrev pub stepOf : ℕ → ℕ
+stepOf k = getD steps k 0
 
--- a run has the type, the size and the offset that the tables have at its first row
-abbrev Alike : ℕ → ℕ → Type 0
-Alike first count = RowsAlike first count (getD types first 0) (getD sizes first 0) (getD offsets first 0)
+-- row i is the next of the run by its selector and like the first in all else, or not in the run
+abbrev alikeAt : ℕ → ℕ → ℕ → ℕ → Row → Bool
+alikeAt first count step i r =
+    (ltb i first or leb (first + count) i)
+    or (eqb (r .partType) (rowAt first .partType) and eqb (r .selector) (rowAt first .selector + step * (i - first)) and eqb (r .size) (rowAt first .size))
 
-alike : (first count : ℕ) → alikeRun first count ≡ true → Alike first count
-alike first count t =
+abbrev alikeRun : ℕ → ℕ → ℕ → Bool
+alikeRun first count step =
+    ltb first rowCount and leb (first + count) rowCount and leb (getD selectors first 0) 256 and leb step 256 and every (alikeAt first count step) 0 rows
+
+-- a run has the type, the first selector, the size and the offset that the tables have at its first row
+abbrev Alike : ℕ → ℕ → ℕ → Type 0
+Alike first count step = RowsAlike first count (getD types first 0) (getD selectors first 0) step (getD sizes first 0) (getD offsets first 0)
+
+alike : (first count step : ℕ) → alikeRun first count step ≡ true → Alike first count step
+alike first count step t =
     let b = both _ _ t in
-    let c = both _ _ (b .0) in
+    let d = both _ _ (b .0) in
+    let l = both _ _ (d .0) in
+    let c = both _ _ (l .0) in
     let n : first + count ≤ rowCount = leb-true _ _ (c .1) in
-    let row-alike : (j : ℕ) → j < count
-    → (eqb (rowAt (first + j) .partType) (rowAt first .partType) ≡ true) × (eqb (rowAt (first + j) .size) (rowAt first .size) ≡ true) =
+    let next-alike : (j : ℕ) → j < count
+    → eqb (rowAt (first + j) .partType) (rowAt first .partType) and eqb (rowAt (first + j) .selector) (rowAt first .selector + step * j)
+    and eqb (rowAt (first + j) .size) (rowAt first .size) ≡ true =
     λ j h.
     let y : ltb (first + j) first ≡ false = le-ltb (first + j) first (omega arith) in
     let z : leb (first + count) (first + j) ≡ false = lt-leb (first + count) (first + j) (omega arith) in
-    both _ _ (simp (y, z, false-or) at (every-row (alikeAt first count) (b .1) (first + j) (omega arith))) in
+    let x : first + j - first ≡ j = omega arith in
+    simp (y, z, false-or, x) at (every-row (alikeAt first count step) (b .1) (first + j) (omega arith)) in
     record {
       there = n;
-      typed = λ j h. eqb-true _ _ (row-alike j h .0) ∙ sym (type-at first);
-      sized = λ j h. eqb-true _ _ (row-alike j h .1) ∙ sym (size-at first);
+      typed = λ j h. eqb-true _ _ (both _ _ (both _ _ (next-alike j h) .0) .0) ∙ sym (type-at first);
+      selected = λ j h. eqb-true _ _ (both _ _ (both _ _ (next-alike j h) .0) .1) ∙ rw (selector-at first);
+      low = (leb-true _ _ (l .1), leb-true _ _ (d .1));
+      sized = λ j h. eqb-true _ _ (both _ _ (next-alike j h) .1) ∙ sym (size-at first);
       starts = offset-at first (ltb-true _ _ (c .0));
     }
 
 -- one test over the table: each run is of rows alike, whatever the queues
-run-alike : (q k : ℕ) → q < 5 → k < runCount → Alike (firstOf k) (countOf q k)
+run-alike : (q k : ℕ) → q < 5 → k < runCount → Alike (firstOf k) (countOf q k) (stepOf k)
 unfolding table
 run-alike q k f h =
-    let t = every-count (λ q. every (λ j n. alikeRun (firstOf j) n) 0 (counts q)) refl q f in
-    alike _ _ (at (λ j n. alikeRun (firstOf j) n) 0 (counts q) t k h)
+    let t = every-count (λ q. every (λ j n. alikeRun (firstOf j) n (stepOf j)) 0 (counts q)) refl q f in
+    alike _ _ _ (at (λ j n. alikeRun (firstOf j) n (stepOf j)) 0 (counts q) t k h)
 
 -- ---- all parts, as runs ----
 
@@ -168,11 +201,12 @@ module _ {q : ℕ} {v out₀ : List ℕ} where
       abbrev few : k < runCount
       few = ltb→lt k runCount h
 
-      pub run-asks : RunFits v (firstOf k) (countOf q k) (getD types (firstOf k) 0) (getD sizes (firstOf k) 0) (getD offsets (firstOf k) 0) at out
+      pub run-asks : RunFits v (firstOf k) (countOf q k) (getD types (firstOf k) 0) (getD selectors (firstOf k) 0) (stepOf k) (getD sizes (firstOf k) 0)
+          (getD offsets (firstOf k) 0) at out
       run-asks =
           let p = w .fits in
           let a = run-alike q k (p .few) few in
-          record { alike = a; long = p .long; room = written-room _ _ _ _ _ _ _ (w .written) _ few (run-length v _ _ _ _ _ a (p .long)) }
+          record { alike = a; long = p .long; room = written-room _ _ _ _ _ _ _ (w .written) _ few (run-length v _ _ _ _ _ _ _ a (p .long)) }
 
       pub upto-next : {out′ : List ℕ} {next : ℕ} → Wrote (run q v k) at out out′ next → Upto q v out₀ (k + 1) out′ next
       upto-next d = record { fits = w .fits; written = wrote-next _ _ _ _ _ _ _ _ _ _ (w .written) few refl d }

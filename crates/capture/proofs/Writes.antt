@@ -6,7 +6,7 @@ use Prim.Native.Nat.{ℕ, _+_, _-_, _^_, _≤_, _<_}
 use native.Mathlib.Nat.{add-sub-cancel-left, sub-zero}
 use native.Mathlib.Omega.{arith}
 use borrow.Author.Tests.{leb-true}
-use mir.Syntax.{w64}
+use mir.Syntax.{w32, w64}
 use mir.Val.{Fits}
 use lib.Dec.{leb}
 use lib.ListN.{length, getD, take, drop, length-append}
@@ -17,7 +17,7 @@ use Rattle.theory.proofs.Items.{Written, written-room, written-next, written-sk
 use Rattle.inventory.specs.Inventory.{Row, row, rowAt, rowCount, present, valuesSize}
 use Rattle.inventory.specs.Header.{headerOf, headerSize}
 use Rattle.inventory.proofs.Columns.{types, selectors, sizes, offsets, type-at, selector-at, size-at, offset-at, row-at}
-use Rattle.inventory.proofs.Rules.{table, every-row, row-within, length-header}
+use Rattle.inventory.proofs.Rules.{table, every-row, row-within, selector-below, length-header}
 use Rattle.capture.specs.Capture.{Selection, All, Asked, headerItem, partAt, asks, partItem}
 use Rattle.capture.specs.Runs.{largestValue, Wrote}
 use Rattle.capture.proofs.Sizes.{itemSize, size-most}
@@ -54,6 +54,10 @@ row-inside i v h e = omega (arith, offset-at i h, size-at i, row-within i h)
 pub row-small : (i : ℕ) → i < rowCount → getD sizes i 0 ≤ largestValue
 unfolding table
 row-small i h = rw (size-at i) (leb-true _ _ (every-row (λ j r. leb (r .size) largestValue) refl i h))
+
+-- a selector as a wider number
+pub selector-fits : (i : ℕ) → i < rowCount → Fits w32 (getD selectors i 0)
+selector-fits i h = rw (selector-at i) (omega (arith, selector-below i h))
 
 -- what is written is the next item
 pub wrote-next : (item : ℕ → List ℕ) (n b : ℕ) (out₀ out out′ x : List ℕ) (at next i : ℕ) → Written item n b out₀ out at i → i < n

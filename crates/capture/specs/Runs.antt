@@ -13,10 +13,12 @@ use Rattle.capture.specs.Capture.{partAt}
 abbrev pub largestValue : ℕ
 largestValue = 32
 
--- rows of one type whose values are of one size, from an offset on, and their parts
-pub record RowsAlike (first count type size offset : ℕ) : Type 0 where
+-- rows of one type whose selectors are a step apart and whose values are of one size, from an offset on, and their parts
+pub record RowsAlike (first count type selector step size offset : ℕ) : Type 0 where
   pub there : first + count ≤ rowCount
   pub typed : (j : ℕ) → j < count → rowAt (first + j) .partType ≡ type
+  pub selected : (j : ℕ) → j < count → rowAt (first + j) .selector ≡ selector + step * j
+  pub low : (selector ≤ 256) × (step ≤ 256)
   pub sized : (j : ℕ) → j < count → rowAt (first + j) .size ≡ size
   pub starts : offset ≡ offsetOf first
 
@@ -24,8 +26,8 @@ abbrev pub runOf : List ℕ → ℕ → ℕ → List ℕ
 runOf values first count = itemsFrom (λ j. partAt values (first + j)) count 0
 
 -- there is room for their parts
-pub record RunFits (values : List ℕ) (first count type size offset at : ℕ) (out : List ℕ) : Type 0 where
-  pub alike : RowsAlike first count type size offset
+pub record RunFits (values : List ℕ) (first count type selector step size offset at : ℕ) (out : List ℕ) : Type 0 where
+  pub alike : RowsAlike first count type selector step size offset
   pub long : length values ≡ valuesSize
   pub room : at + count * (headerSize + size) ≤ length out
 

@@ -34,7 +34,7 @@ pub fn write_headers(out: &mut [u8], queues: u8)
     let mut i = 0;
     while i < ROWS {
         if inventory::is_present(queues, types[i], selectors[i]) {
-            inventory::write_header(out, at, types[i], selectors[i], sizes[i]);
+            inventory::write_header(out, at, types[i], selectors[i] as u32, sizes[i]);
             at += HEADER_SIZE;
             i += 1;
             continue;
@@ -59,7 +59,7 @@ fn write_part(
     at: usize,
     values: &[u8],
     row_type: u16,
-    row_selector: u8,
+    row_selector: u32,
     size: u8,
     offset: u8,
 ) -> usize
@@ -77,8 +77,8 @@ fn write_part(
 
 // ---- all parts ----
 
-// The parts of `count` rows from `first` on, all of one type and size, with values from `offset` on. Each value is where
-// the one before it ends.
+// The parts of `count` rows from `first` on, all of one type and size, with selectors that are a step apart and values from
+// `offset` on. Each value is where the one before it ends. No table is read in the loop, so that a selector is one store.
 fn write_run(
     out: &mut [u8],
     at: usize,
@@ -86,38 +86,53 @@ fn write_run(
     first: usize,
     count: usize,
     row_type: u16,
+    selector: u32,
+    step: u32,
     size: u8,
     offset: u8,
 ) -> usize
-    requires { ⌜ RunFits (now values) first count «row_type» size offset at (now out) ⌝ }
+    requires { ⌜ RunFits (now values) first count «row_type» selector step size offset at (now out) ⌝ }
     ensures { λ r. ⌜ Wrote (runOf (now (values .entry)) first count) at (now (out .entry)) (now (out .exit)) r ⌝ }
 {
-    let selectors = SELECTORS;
     let mut end = at;
     let mut from = offset;
+    let mut next = selector;
     let mut i = 0;
     while i < count {
-        end = write_part(out, end, values, row_type, selectors[first + i], size, from);
+        end = write_part(out, end, values, row_type, next, size, from);
         from += size;
+        next += step;
         i += 1;
     }
     end
 }
 
-// All parts of a member, at the front of what is lent, run by run: a run's first row, how many rows it has, and what the
-// tables have at its first row. The rows are written out, since the compiler folds a table that is read at a constant.
+// All parts of a member, at the front of what is lent, run by run: a run's first row, how many rows it has, their type, the
+// first selector and the step to the next, size and offset. The rows are written out, since the compiler folds a table that
+// is read at a constant.
 pub fn write_all(out: &mut [u8], values: &[u8], queues: u8)
     requires { ⌜ CaptureFits queues (now values) (now out) ⌝ }
     ensures { λ _. ⌜ now (out .exit) ≡ put 0 (captureOf queues (now (values .entry))) (now (out .entry)) ⌝ }
 {
     let n = queues as usize;
-    let mut at = write_run(out, 0, values, 0, 1, TYPES[0], SIZES[0], OFFSETS[0]);
-    at = write_run(out, at, values, 1, 1, TYPES[1], SIZES[1], OFFSETS[1]);
-    at = write_run(out, at, values, 2, 2, TYPES[2], SIZES[2], OFFSETS[2]);
-    at = write_run(out, at, values, 4, 2, TYPES[4], SIZES[4], OFFSETS[4]);
-    at = write_run(out, at, values, 6, 1, TYPES[6], SIZES[6], OFFSETS[6]);
-    at = write_run(out, at, values, 7, n, TYPES[7], SIZES[7], OFFSETS[7]);
-    write_run(out, at, values, 11, n, TYPES[11], SIZES[11], OFFSETS[11]);
+    let mut at = write_run(out, 0, values, 0, 1, TYPES[0], 0, 0, SIZES[0], OFFSETS[0]);
+    at = write_run(out, at, values, 1, 1, TYPES[1], 0, 0, SIZES[1], OFFSETS[1]);
+    at = write_run(out, at, values, 2, 2, TYPES[2], 0, 8, SIZES[2], OFFSETS[2]);
+    at = write_run(out, at, values, 4, 2, TYPES[4], 16, 6, SIZES[4], OFFSETS[4]);
+    at = write_run(out, at, values, 6, 1, TYPES[6], 0, 0, SIZES[6], OFFSETS[6]);
+    at = write_run(out, at, values, 7, n, TYPES[7], 0, 1, SIZES[7], OFFSETS[7]);
+    write_run(
+        out,
+        at,
+        values,
+        11,
+        n,
+        TYPES[11],
+        0,
+        1,
+        SIZES[11],
+        OFFSETS[11],
+    );
 }
 
 // ---- the parts that a list asks for ----
@@ -150,7 +165,7 @@ pub fn write_asked(out: &mut [u8], values: &[u8], queues: u8, asked: &[u8])
                 at,
                 values,
                 types[i],
-                selectors[i],
+                selectors[i] as u32,
                 sizes[i],
                 offsets[i],
             );

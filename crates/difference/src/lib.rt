@@ -290,7 +290,7 @@ fn write_part<'a>(
     requires { ⌜ at + length (madePart (now full) (now later) (row «row_type» «row_selector» size)) ≤ length (now out) ⌝ }
     ensures { λ r. ⌜ Wrote (madePart (now (full .entry)) (now (later .entry)) (row «row_type» «row_selector» size)) at (now (out .entry)) (now (out .exit)) r ⌝ }
 {
-    inventory::write_header(out, at, row_type, row_selector, size);
+    inventory::write_header(out, at, row_type, row_selector as u32, size);
     let value = part_at(
         full,
         later,

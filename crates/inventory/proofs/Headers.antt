@@ -27,7 +27,7 @@ unfolding bytes indicator
 flags-two true = refl
 flags-two false = refl
 
-module _ (t s n : ℕ) (h : t < 2 ^ 16) (k : s < 256) where
+module _ (t s n : ℕ) (h : t < 2 ^ 16) (k : s < 2 ^ 32) where
   abbrev flags : ℕ
   flags = indicator (eqb t deviceFeatures)
 

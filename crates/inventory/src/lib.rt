@@ -210,8 +210,8 @@ pub fn place_of(queues: u8, t: u16, selector: u64) -> Place
     Place::Absent
 }
 
-// The first eight bytes of a header, as a number: type, flags and selector, which takes no more than a byte.
-fn first_word(row_type: u16, row_selector: u8) -> u64
+// The first eight bytes of a header, as a number: type, flags and selector, which takes no more than four of its bytes.
+fn first_word(row_type: u16, row_selector: u32) -> u64
     ensures { λ r. ⌜ r ≡ «row_type» + 2 ^ 16 * (indicator (eqb «row_type» deviceFeatures) + 2 ^ 16 * «row_selector») ⌝ }
 {
     let flags = (row_type == DEVICE_FEATURES) as u64;
@@ -219,7 +219,7 @@ fn first_word(row_type: u16, row_selector: u8) -> u64
 }
 
 // The header of a row's part, written at a place: two words, which are two stores.
-pub fn write_header(out: &mut [u8], at: usize, row_type: u16, row_selector: u8, size: u8)
+pub fn write_header(out: &mut [u8], at: usize, row_type: u16, row_selector: u32, size: u8)
     requires { ⌜ at + headerSize ≤ length (now out) ⌝ }
     ensures { λ _. ⌜ now (out .exit) ≡ put at (headerOf (row «row_type» «row_selector» size)) (now (out .entry)) ⌝ }
 {

@@ -6,7 +6,7 @@ use borrow.Author.Needs.{needs}
 use Rattle.theory.proofs.Items.{Written, written-start, written-end}
 use Rattle.inventory.specs.Inventory.{rows, rowCount}
 use Rattle.capture.specs.Capture.{Asked, partItem, partsWritten}
-use Rattle.capture.proofs.Writes.{row-small, row-inside, parts-room, parts-on, parts-skip}
+use Rattle.capture.proofs.Writes.{selector-fits, row-small, row-inside, parts-room, parts-on, parts-skip}
 use Rattle.capture.proofs.write_asked.Statement.{statement}
 use Rattle.capture.proofs.write_asked.Tie as tie
 
@@ -22,7 +22,7 @@ unfolding partsWritten rows
 write-asked-spec =
     tie.close
     (tie.spec Inv-loop μ-loop (λ c. search (needs, written-start)) (λ c. omega arith) (λ c. omega arith) (λ c. omega arith)
-    (λ c κs. search needs) (λ c. omega arith) (λ c. omega arith) (λ c. omega arith) (λ c. omega arith) (λ c. omega arith)
+    (λ c κs. search needs) (λ c. omega arith) (λ c. omega arith) (λ c. omega arith) (λ c. search (needs, selector-fits)) (λ c. omega arith) (λ c. omega arith)
     (λ c κs. (search (needs, row-small), search (needs, row-inside), search (needs, parts-room))) (λ c. omega arith) (λ c. omega arith) (λ c. search (needs, parts-on))
     (λ c. omega arith) (λ c. omega arith) (λ c. search (needs, parts-skip)) (λ c. search needs)
     (λ c. search (needs, written-end)))

@@ -6,7 +6,7 @@ use borrow.Author.Needs.{needs}
 use Rattle.theory.proofs.Items.{Written, written-start, written-end}
 use Rattle.inventory.specs.Inventory.{rows, rowCount}
 use Rattle.capture.specs.Capture.{headerItem, headersOf}
-use Rattle.capture.proofs.Writes.{headers-room, headers-fits, headers-on, headers-skip}
+use Rattle.capture.proofs.Writes.{selector-fits, headers-room, headers-fits, headers-on, headers-skip}
 use Rattle.capture.proofs.write_headers.Statement.{statement}
 use Rattle.capture.proofs.write_headers.Tie as tie
 
@@ -21,7 +21,7 @@ unfolding headersOf rows
 write-headers-spec =
     tie.close
     (tie.spec Inv-loop μ-loop (λ c. search (needs, written-start)) (λ c. omega arith) (λ c. omega arith) (λ c. omega arith)
-    (λ c κs. search needs) (λ c. omega arith) (λ c. omega arith) (λ c. omega arith) (λ c. omega arith)
+    (λ c κs. search needs) (λ c. omega arith) (λ c. omega arith) (λ c. omega arith) (λ c. search (needs, selector-fits)) (λ c. omega arith)
     (λ c κs. search (needs, headers-room)) (λ c. search (needs, headers-fits)) (λ c. omega arith) (λ c. omega arith) (λ c. search (needs, headers-on))
     (λ c. omega arith) (λ c. omega arith) (λ c. search (needs, headers-skip)) (λ c. search needs)
     (λ c. search (needs, written-end)))
