@@ -20,18 +20,36 @@ pub fn sound<const OPCODE: u16>(header: &[u8; HEADER], records: &[u8]) -> bool {
         return false;
     }
     let features: [u8; 16] = array_at(header, FEATURES);
-    let ids = usize::from(gets + sets);
+    let most: [u8; IDS] = array_at(&MOST, IDS - usize::from(gets + sets));
     records.chunks_exact(RECORD).all(|record| {
-        let objects: [u8; 16] = array_at(record, OBJECTS);
-        (record[MODE] < 2)
-            & (u16_at(record, HELD) <= 1 + ROOM as u16)
-            & (record[VALUES..VALUES + 16] == features)
+        let objects: [u8; IDS] = array_at(record, OBJECTS);
+        within(&objects, &most) & (record[VALUES..VALUES + 16] == features)
+            && record[MODE] < 2
+            && u16_at(record, HELD) <= 1 + ROOM as u16
             && (record[MARK] == 0 || let_go(record))
-            && objects.iter().fold(true, |low, byte| low & (*byte <= 2))
-            && objects[ids..].iter().all(|byte| *byte == 0)
             && sum(&objects, |byte| byte % 2) <= gets
             && sum(&objects, |byte| byte / 2) <= sets
     })
+}
+
+/// One object byte for each id that any setup allows.
+const IDS: usize = 16;
+
+/// What object bytes may be at most, those of sixteen ids first and then those of
+/// no ids: from entry 16 - n on where n are ids.
+const MOST: [u8; 2 * IDS] = {
+    let mut most = [0; 2 * IDS];
+    let mut id = 0;
+    while id < IDS {
+        most[id] = 2;
+        id += 1;
+    }
+    most
+};
+
+/// Whether each object byte is at most the number beside it.
+fn within(objects: &[u8; IDS], most: &[u8; IDS]) -> bool {
+    objects.iter().zip(most).fold(true, |within, (byte, most)| within & (byte <= most))
 }
 
 /// Whether a record with a mark is that of a stopped member without objects and
@@ -84,6 +102,6 @@ fn no_ring(queue: u64) -> u64 {
 }
 
 /// A sum over the object bytes, which the compiler makes vector additions.
-fn sum(objects: &[u8; 16], term: impl Fn(u8) -> u8) -> u8 {
+fn sum(objects: &[u8; IDS], term: impl Fn(u8) -> u8) -> u8 {
     objects.iter().fold(0, |sum, byte| sum.wrapping_add(term(*byte)))
 }
