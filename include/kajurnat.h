@@ -18,9 +18,9 @@
  *     kajurnat_restore_feed() with more than there is room for, end a holding
  *     place that is open.
  *   - A sound card stays sound.
- *   - A capture of all parts of a member can be set in a stopped member with as
- *     many queues of a card of the same setup, and a capture there gives the
- *     same bytes.
+ *   - A capture of all parts of a member can be set in a stopped member with
+ *     the same queue count of a card of the same setup, and a capture there
+ *     gives the same bytes.
  *   - A setup that is packed is read back as it was.
  *   - Once a member is wiped, or the card is reset, no reply and no byte of the
  *     card depends on the commands, messages, stores and restores that named it
@@ -37,14 +37,12 @@
  *     answers to a built request is read as it was meant.
  *
  * The caller is trusted for this:
- *   - Each pointer is valid for the length beside it: for reads where it is
- *     const, for reads and writes where it is not. With length 0 any pointer
- *     will do, NULL too; nothing is read or written through it.
- *   - The buffers of a call do not overlap: card, request or message, and
- *     reply are apart from each other, and so are card, queues and features,
- *     card and packed setup, card and value, card and fragment, request and
- *     list, a reply or a packed setup and all that it is read into, and what
- *     the functions on lists read and what they write.
+ *   - Each pointer is valid for the length beside it, or for one number where
+ *     there is none: for reads where it is const, for reads and writes where it
+ *     is not. With length 0 any pointer will do, NULL too; nothing is read or
+ *     written through it.
+ *   - What a call writes, a buffer or a number, overlaps nothing else that it
+ *     is given.
  *   - Until the call returns, nothing else writes to its buffers, and nothing
  *     else reads those that it writes. There is no lock inside: one call at a
  *     time for each card. Calls on different cards may run at once.
@@ -52,9 +50,9 @@
  *     in a file as it is, for a library of the same KAJURNAT_VERSION.
  *
  * Bytes that are not a sound card are refused by every call on a card but
- * kajurnat_setup(). Trusted too are the compiler that made the archive, the
- * linker, the three C functions that the archive calls, that the stack is deep
- * enough, and the machine.
+ * kajurnat_setup() and kajurnat_setup_from(). Trusted too are the compiler that
+ * made the archive, the linker, the three C functions that the archive calls,
+ * that the stack is deep enough, and the machine.
  *
  * What the archive needs, and what it does not; scripts/archive reads it off
  * the machine code:
@@ -92,13 +90,13 @@ extern "C" {
 enum {
     KAJURNAT_MEMBERS_MIN = 1,
     KAJURNAT_MEMBERS_MAX = 16,
-    KAJURNAT_QUEUES_MIN = 1, /* of a member; members may differ */
+    KAJURNAT_QUEUES_MIN = 1, /* queue count of a member; they may differ */
     KAJURNAT_QUEUES_MAX = 4,
     KAJURNAT_GETS_MAX = 8, /* get objects of each member; 0 is allowed */
     KAJURNAT_SETS_MAX = 8, /* set objects of each member; 0 is allowed */
     KAJURNAT_FEATURES_BYTES = 16,
-    KAJURNAT_SETUP_BYTES = 19,    /* packed, members of as many queues */
-    KAJURNAT_SETUP_BYTES_MAX = 23 /* packed, others: 19 and members / 4 up */
+    KAJURNAT_SETUP_BYTES = 19,    /* packed, if all queue counts are equal */
+    KAJURNAT_SETUP_BYTES_MAX = 23 /* else 19 and members / 4 rounded up */
 };
 
 /*
@@ -127,9 +125,9 @@ enum {
  *   version 4 bits, members - 1 in 4, queues - 1 in 2, gets in 4, sets in 4,
  *   six zero bits, then the 16 bytes of features
  *
- * This is version 1, for members of as many queues each. Version 2 has zero in
- * place of queues - 1, and behind the 24 bits 2 bits for each member, from
- * member 1, its number of queues less one, and zero bits to a whole byte.
+ * This is version 1, in which all members have one queue count. Version 2 has
+ * zero in place of queues - 1, and behind the 24 bits 2 bits for each member,
+ * from member 1, its queue count less one, and zero bits to a whole byte.
  */
 
 /* The answers of the readers of packed setups. */
@@ -210,7 +208,7 @@ enum {
     KAJURNAT_STATUS_OK = 0,      /* Q_OK */
     KAJURNAT_STATUS_ENXIO = 6,   /* Q_INVALID_COMMAND: the id is not live */
     KAJURNAT_STATUS_EAGAIN = 11, /* Q_TRYAGAIN: parts set, member running; or
-                                    the member is handed back */
+                                    the member is marked */
     KAJURNAT_STATUS_ENOMEM = 12, /* Q_NORESOURCE: reply buffer too short */
     KAJURNAT_STATUS_EEXIST = 17, /* Q_INVALID_COMMAND: create, the id is live */
     KAJURNAT_STATUS_EINVAL = 22, /* Q_INVALID_..: the qualifier says what */
@@ -240,7 +238,8 @@ enum {
  *    3  EINVAL INVALID_GROUP    the group type is not KAJURNAT_GROUP_SRIOV
  *    4  EINVAL INVALID_OPCODE   the opcode is not supported, or not in use
  *    5  EINVAL INVALID_MEMBER   0x0a to 0x11: there is no such member
- *       EAGAIN TRYAGAIN         0x0a to 0x11: the member is handed back
+ *       EAGAIN TRYAGAIN         0x0a to 0x11: the member is marked, see
+ *                               kajurnat_hand_back()
  *    7  EINVAL INVALID_FIELD    a mask bit that is not supported, an object
  *                               type other than KAJURNAT_OBJ_DEV_PARTS, an id
  *                               of gets + sets or more, flags that are not
@@ -363,22 +362,33 @@ enum { KAJURNAT_QUEUE_SIZE_MAX = 32768 };
 /* ---- Functions -------------------------------------------------------- */
 
 /*
+ * KAJURNAT_VERSION of the library that is linked.
+ */
+uint32_t kajurnat_version(void);
+
+/*
  * The exact length of a card with this many members; 0 if members is not 1
  * to 16.
  */
 size_t kajurnat_card_bytes(uint64_t members);
 
 /*
+ * Whether the buffer is a sound card: 1 if it is, else 0.
+ */
+uint8_t kajurnat_is_sound(const uint8_t *card, size_t card_len);
+
+/*
  * Makes the buffer a fresh card: the two list commands are in use; every
- * member runs, has no object and no open holding place, all its parts are zero
- * but the device features, and so are its configuration and the generation of
- * it. What the buffer held before does not matter.
+ * member runs, is not marked, has no object and no open holding place, all its
+ * parts are zero but the device features, and so are its configuration and
+ * generation. What the buffer held before does not matter.
  *
- * queues has a number of queues for each member, from member 1.
+ * queues has a queue count for each member, from member 1.
  *
  * Returns KAJURNAT_DONE. Returns KAJURNAT_BAD_SETUP, and every byte of the
  * buffer is zero, if a number is outside its limits, queues_len is not members,
- * features_len is not 16, or card_len is not kajurnat_card_bytes(members).
+ * features_len is not KAJURNAT_FEATURES_BYTES, or card_len is not
+ * kajurnat_card_bytes(members).
  */
 uint8_t kajurnat_setup(uint8_t *card, size_t card_len, uint64_t members,
                        const uint8_t *queues, size_t queues_len, uint64_t gets,
@@ -395,8 +405,8 @@ uint8_t kajurnat_setup_from(uint8_t *card, size_t card_len,
 
 /*
  * Packs a setup at the start of the buffer and returns its length: version 1 if
- * all members have as many queues, else version 2. The bytes of the buffer past
- * it keep their values.
+ * all queue counts are equal, else version 2. The bytes of the buffer past it
+ * keep their values.
  *
  * Returns 0, with nothing written, if kajurnat_setup() would refuse the
  * numbers, queues or features, or the buffer is too short.
@@ -409,10 +419,11 @@ size_t kajurnat_setup_write(uint8_t *setup, size_t setup_len, uint64_t members,
 
 /*
  * Reads a packed setup of either version. queues has room for
- * KAJURNAT_MEMBERS_MAX numbers; those past the last member are 0.
+ * KAJURNAT_MEMBERS_MAX queue counts; those past the last member are 0.
  *
- * Returns KAJURNAT_SETUP_READ, or KAJURNAT_SETUP_REFUSED, with nothing written,
- * if the bytes are no setup, queues_len is not 16, or features_len is not 16.
+ * Returns KAJURNAT_SETUP_READ. Returns KAJURNAT_SETUP_REFUSED, with nothing
+ * written, if the bytes are no setup, queues_len is not KAJURNAT_MEMBERS_MAX,
+ * or features_len is not KAJURNAT_FEATURES_BYTES.
  */
 uint8_t kajurnat_setup_read(const uint8_t *setup, size_t setup_len,
                             uint8_t *members, uint8_t *queues,
@@ -443,10 +454,10 @@ size_t kajurnat_command(uint8_t *card, size_t card_len, const uint8_t *request,
 /*
  * The reset of a member has two halves, so that the data path has time to let
  * go of its guest. The first: the objects and the holding place of the member
- * are ended, and it is stopped and marked. Its parts and its configuration
- * stay. Until it is wiped every command and every restore for it is refused
- * with EAGAIN and TRYAGAIN, and a message gets the bus outcome;
- * kajurnat_store() still works.
+ * are ended, and it is stopped and marked. Its parts, configuration and
+ * generation stay. While it is marked every command and every restore for it
+ * is refused with EAGAIN and TRYAGAIN (a command that is not in use as ever),
+ * and a message gets the bus outcome; kajurnat_store() still works.
  *
  * Returns KAJURNAT_DONE, or the first that applies of KAJURNAT_NOT_SOUND,
  * KAJURNAT_NO_SUCH_MEMBER and KAJURNAT_OUT_OF_ORDER: it is marked.
@@ -454,9 +465,10 @@ size_t kajurnat_command(uint8_t *card, size_t card_len, const uint8_t *request,
 uint8_t kajurnat_hand_back(uint8_t *card, size_t card_len, uint64_t member);
 
 /*
- * The second half: makes a member that is marked fresh, as after setup, and
- * changes nothing else. The mark is gone. The configuration starts from the
- * generation given, so that the count does not tell of the former guest.
+ * The second half: makes a member that is marked fresh, as after setup, with
+ * its queue count, and changes nothing else. The mark is gone. The
+ * configuration starts from the generation given, so that the count does not
+ * tell of the former guest.
  *
  * Returns KAJURNAT_DONE, or the first that applies of KAJURNAT_NOT_SOUND,
  * KAJURNAT_NO_SUCH_MEMBER and KAJURNAT_OUT_OF_ORDER: it is not marked.
@@ -465,8 +477,8 @@ uint8_t kajurnat_wipe(uint8_t *card, size_t card_len, uint64_t member,
                       uint32_t generation);
 
 /*
- * Makes the whole card fresh, as after setup, marked members too. The
- * configuration of every member starts from the generation given.
+ * Makes the whole card fresh, as after setup, marked members too; the setup
+ * stays. The configuration of every member starts from the generation given.
  *
  * Returns KAJURNAT_DONE or KAJURNAT_NOT_SOUND.
  */
@@ -474,19 +486,10 @@ uint8_t kajurnat_reset_card(uint8_t *card, size_t card_len,
                             uint32_t generation);
 
 /*
- * Whether the buffer is a sound card: 1 if it is, else 0.
- */
-uint8_t kajurnat_is_sound(const uint8_t *card, size_t card_len);
-
-/*
- * KAJURNAT_VERSION of the library that is linked.
- */
-uint32_t kajurnat_version(void);
-
-/*
  * Sets one part of one member, running, stopped or marked, for the data path.
- * selector is the queue index or the offset: the eight selector bytes of a
- * part header as a little-endian number. It is not read for other parts.
+ * selector is the eight selector bytes of a part header as a little-endian
+ * number: of an offset the low 4 bytes are read, of a queue index the low 2,
+ * and for other parts none.
  *
  * Returns KAJURNAT_DONE, or the first that applies of KAJURNAT_NOT_SOUND,
  * KAJURNAT_NO_SUCH_MEMBER, KAJURNAT_NO_SUCH_PART, KAJURNAT_WRONG_LENGTH and
@@ -510,7 +513,7 @@ uint8_t kajurnat_store(uint8_t *card, size_t card_len, uint64_t member,
  *
  *   KAJURNAT_NOT_SOUND      the buffer is not a sound card
  *   EINVAL INVALID_MEMBER   there is no such member
- *   EAGAIN TRYAGAIN         the member is handed back
+ *   EAGAIN TRYAGAIN         the member is marked
  *   EEXIST INVALID_COMMAND  begin: the holding place is open
  *   ENXIO  INVALID_COMMAND  feed, finish, drop: it is not open
  *   EINVAL INVALID_COMMAND  feed: over KAJURNAT_RESTORE_BYTES_MAX in all
@@ -531,8 +534,9 @@ uint32_t kajurnat_restore_begin(uint8_t *card, size_t card_len,
                                 uint64_t member);
 
 /*
- * Adds a fragment to the bytes that are held; it may be empty. If they are over
- * KAJURNAT_RESTORE_BYTES_MAX in all, the holding place and its bytes are gone.
+ * Adds a fragment, of any length, behind the bytes that are held. If they would
+ * be over KAJURNAT_RESTORE_BYTES_MAX in all, the holding place and its bytes
+ * are gone.
  */
 uint32_t kajurnat_restore_feed(uint8_t *card, size_t card_len, uint64_t member,
                                const uint8_t *fragment, size_t fragment_len);
@@ -540,8 +544,8 @@ uint32_t kajurnat_restore_feed(uint8_t *card, size_t card_len, uint64_t member,
 /*
  * Does what parts set of the bytes that are held would do now, through the set
  * object of this id: the same checks, the same answer from row 4 of the order
- * of refusals on, the same card. The holding place, if it was open, and its
- * bytes are then gone, whatever the answer.
+ * of refusals on, the same card. Whatever that answer is, the holding place and
+ * its bytes are then gone.
  */
 uint32_t kajurnat_restore_finish(uint8_t *card, size_t card_len,
                                  uint64_t member, uint32_t id);
@@ -603,10 +607,10 @@ enum { KAJURNAT_MSG_GET_CONFIG = 0x05, KAJURNAT_MSG_SET_CONFIG = 0x06 };
  * KAJURNAT_MSG_RESPONSE_BYTES_MAX is always enough.
  *
  * Returns 0, the bus outcome, with nothing written and the card as it was, if
- *   - the message is not one whole request of the two kinds: its length,
- *     msg_size and, of a set request, 20 + length have to be the same, and so
- *     have 16 and the length of a get request;
- *   - dev_num is not below members, or its member is handed back;
+ *   - the message is not one whole request of the two kinds: message_len and
+ *     msg_size are both 16 in a get request, and both 20 + length in a set
+ *     request;
+ *   - dev_num is not below members, or its member is marked;
  *   - the card is not sound;
  *   - the reply buffer is too short for the response to this message.
  */
@@ -622,8 +626,9 @@ size_t kajurnat_message(uint8_t *card, size_t card_len, const uint8_t *message,
  * KAJURNAT_REQUEST_BYTES_MAX or too long for the buffer, and only then.
  *
  * Fields and lists go in as they are given, and every byte that is no field is
- * zero. A card takes the request as that command with those fields, if
- *   - the fields are inside its setup's numbers: member, id, kind and type
+ * zero. A sound card takes the request as that command with those fields, if
+ *   - the command is in use, and its member is not marked;
+ *   - the fields are inside the setup's numbers: member, id, kind and type
  *     byte, mode, supported bits of a mask;
  *   - a list of headers has whole headers, and none with KAJURNAT_PARTS_ALL.
  * It refuses others. No request without a list is over 48 bytes.
@@ -700,8 +705,8 @@ uint8_t kajurnat_reply_read(uint16_t opcode, uint8_t what, const uint8_t *reply,
 /*
  * A host keeps a full capture of a member and later a list of what changed.
  * These two functions work on the pair under a packed setup of either version;
- * the member's number of queues says which parts there are. A value is that of
- * the later list, or of the full capture where the later list has none.
+ * the member's queue count says which parts there are. A value is that of the
+ * later list, or of the full capture where the later list has none.
  *
  * They answer KAJURNAT_DIFFERENCE_DONE or the first refusal that applies, in
  * this order. A list is bad as parts set has it (see Parts), against the device
@@ -735,8 +740,8 @@ uint8_t kajurnat_difference_find(const uint8_t *setup, size_t setup_len,
 /*
  * Makes one list of the pair at the start of the buffer: each part of the
  * member once, in the order and with the headers of a capture. *written is its
- * length, KAJURNAT_CAPTURE_BYTES() of the member's queues. The bytes of the
- * buffer past it keep their values. Refused, nothing is written to it, and
+ * length, KAJURNAT_CAPTURE_BYTES() of the member's queue count. The bytes of
+ * the buffer past it keep their values. Refused, nothing is written to it, and
  * *written is 0.
  */
 uint8_t kajurnat_difference_merge(const uint8_t *setup, size_t setup_len,
@@ -754,16 +759,17 @@ uint8_t kajurnat_difference_merge(const uint8_t *setup, size_t setup_len,
  * with its fresh value. It stops at the first header or value that runs past
  * the end.
  *
- * kept has a byte for each part of the member, 7 and twice its queues, in
+ * kept has a byte for each part of the member, 7 and twice its queue count, in
  * order: 1 kept, 0 filled. dropped has the number of parts dropped for each
  * cause, the first that applies in the order below. *left is the number of
  * bytes left over, from the start of the header that it stopped at.
  *
  * Returns the length of the list, KAJURNAT_CAPTURE_BYTES() of the member's
- * queues; the bytes and counts of the buffers past these keep their values.
- * Returns 0, with nothing written to any buffer, if damaged_len is over
+ * queue count; what the buffers hold past these bytes and counts stays.
+ * Returns 0, with nothing written, nor to *left, if damaged_len is over
  * KAJURNAT_SALVAGE_BYTES_MAX, the packed setup is bad or has no such member, or
- * one of the three buffers is too short; dropped_len counts numbers, not bytes.
+ * one of the three buffers is too short; dropped_len counts numbers, not bytes,
+ * and has to be KAJURNAT_DROPPED_CAUSES or more.
  */
 enum {
     KAJURNAT_SALVAGE_BYTES_MAX = 4064,
