@@ -114,7 +114,7 @@ enum {
     KAJURNAT_WRONG_LENGTH = 3,
     KAJURNAT_BAD_SETUP = 4,
     KAJURNAT_BAD_QUEUE_SIZE = 5, /* a size that no ring has; see Parts */
-    KAJURNAT_OUT_OF_ORDER = 6,   /* of the two halves of a member's reset */
+    KAJURNAT_WRONG_MARK = 6,     /* hand back, marked; or wipe, not marked */
     KAJURNAT_NOT_SOUND = 9       /* the buffer is not a sound card; no status */
 };
 
@@ -460,7 +460,7 @@ size_t kajurnat_command(uint8_t *card, size_t card_len, const uint8_t *request,
  * and a message gets the bus outcome; kajurnat_store() still works.
  *
  * Returns KAJURNAT_DONE, or the first that applies of KAJURNAT_NOT_SOUND,
- * KAJURNAT_NO_SUCH_MEMBER and KAJURNAT_OUT_OF_ORDER: it is marked.
+ * KAJURNAT_NO_SUCH_MEMBER and KAJURNAT_WRONG_MARK: it is marked.
  */
 uint8_t kajurnat_hand_back(uint8_t *card, size_t card_len, uint64_t member);
 
@@ -471,7 +471,7 @@ uint8_t kajurnat_hand_back(uint8_t *card, size_t card_len, uint64_t member);
  * tell of the former guest.
  *
  * Returns KAJURNAT_DONE, or the first that applies of KAJURNAT_NOT_SOUND,
- * KAJURNAT_NO_SUCH_MEMBER and KAJURNAT_OUT_OF_ORDER: it is not marked.
+ * KAJURNAT_NO_SUCH_MEMBER and KAJURNAT_WRONG_MARK: it is not marked.
  */
 uint8_t kajurnat_wipe(uint8_t *card, size_t card_len, uint64_t member,
                       uint32_t generation);
@@ -717,9 +717,9 @@ enum {
     KAJURNAT_DIFFERENCE_BAD_SETUP = 1, /* or no such member */
     KAJURNAT_DIFFERENCE_BAD_FULL = 2,
     KAJURNAT_DIFFERENCE_BAD_LATER = 3,
-    KAJURNAT_DIFFERENCE_LACKING = 4,      /* full lacks a part of the member */
+    KAJURNAT_DIFFERENCE_LACKS_PART = 4,   /* full, of the member's, any */
     KAJURNAT_DIFFERENCE_NO_SUCH_PART = 5, /* find alone */
-    KAJURNAT_DIFFERENCE_TOO_SHORT = 6     /* merge alone: the buffer */
+    KAJURNAT_DIFFERENCE_SHORT_BUFFER = 6  /* merge alone */
 };
 
 /* The list that holds a value. */

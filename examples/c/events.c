@@ -107,10 +107,10 @@ static void try_stores(void)
                kajurnat_store(card, sizeof card, 2, KAJURNAT_PART_VQ_CFG, 0,
                               queue, 31) == KAJURNAT_WRONG_LENGTH,
            "a queue size that no ring has");
-    expect(kajurnat_wipe(card, sizeof card, 2, 0) == KAJURNAT_OUT_OF_ORDER &&
+    expect(kajurnat_wipe(card, sizeof card, 2, 0) == KAJURNAT_WRONG_MARK &&
                kajurnat_hand_back(card, sizeof card, 2) == KAJURNAT_DONE &&
                kajurnat_hand_back(card, sizeof card, 2) ==
-                   KAJURNAT_OUT_OF_ORDER &&
+                   KAJURNAT_WRONG_MARK &&
                kajurnat_wipe(card, sizeof card, 2, 0) == KAJURNAT_DONE &&
                kajurnat_hand_back(card, sizeof card, 3) ==
                    KAJURNAT_NO_SUCH_MEMBER &&

@@ -282,7 +282,7 @@ impl<B: AsMut<[u8]>> Card<B> {
     /// # Errors
     ///
     /// The first that applies of [`EventError::NoSuchMember`] and
-    /// [`EventError::OutOfOrder`].
+    /// [`EventError::WrongMark`].
     ///
     /// [`Status::EAGAIN`]: crate::Status::EAGAIN
     pub fn hand_back(&mut self, member: u64) -> Result<(), EventError> {
@@ -296,7 +296,7 @@ impl<B: AsMut<[u8]>> Card<B> {
     /// # Errors
     ///
     /// The first that applies of [`EventError::NoSuchMember`] and
-    /// [`EventError::OutOfOrder`].
+    /// [`EventError::WrongMark`].
     pub fn wipe(&mut self, member: u64, generation: u32) -> Result<(), EventError> {
         EventError::from_answer(raw::wipe(self.memory.as_mut(), member, generation))
     }

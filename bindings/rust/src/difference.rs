@@ -122,11 +122,11 @@ pub enum DifferenceError {
     /// The later list is a bad list.
     BadLater,
     /// The full capture lacks a part of the member.
-    Lacking,
+    LacksPart,
     /// The member has no such part.
     NoSuchPart,
     /// The buffer is too short.
-    TooShort,
+    ShortBuffer,
 }
 
 impl DifferenceError {
@@ -137,9 +137,9 @@ impl DifferenceError {
             1 => Err(Self::BadSetup),
             2 => Err(Self::BadFull),
             3 => Err(Self::BadLater),
-            4 => Err(Self::Lacking),
+            4 => Err(Self::LacksPart),
             5 => Err(Self::NoSuchPart),
-            6 => Err(Self::TooShort),
+            6 => Err(Self::ShortBuffer),
             other => panic!("the archive answered {other} to a pair of lists"),
         }
     }
@@ -151,9 +151,9 @@ impl fmt::Display for DifferenceError {
             Self::BadSetup => "the setup is bad, or has no such member",
             Self::BadFull => "the full capture is a bad list of parts",
             Self::BadLater => "the later list is a bad list of parts",
-            Self::Lacking => "the full capture lacks a part of the member",
+            Self::LacksPart => "the full capture lacks a part of the member",
             Self::NoSuchPart => "the member has no such part",
-            Self::TooShort => "the buffer is too short for the list",
+            Self::ShortBuffer => "the buffer is too short for the list",
         })
     }
 }

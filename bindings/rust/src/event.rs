@@ -17,9 +17,9 @@ pub enum EventError {
     /// The value is that of a queue, and no ring has its size: neither a power
     /// of two, nor 0 while the queue is not enabled.
     BadQueueSize,
-    /// The member is handed back already, or is to be wiped and is not handed
-    /// back.
-    OutOfOrder,
+    /// The member is to be handed back and is marked, or is to be wiped and is
+    /// not marked.
+    WrongMark,
 }
 
 impl EventError {
@@ -31,7 +31,7 @@ impl EventError {
             2 => Err(Self::NoSuchPart),
             3 => Err(Self::WrongLength),
             5 => Err(Self::BadQueueSize),
-            6 => Err(Self::OutOfOrder),
+            6 => Err(Self::WrongMark),
             other => panic!("the archive answered {other} to an event of a sound card"),
         }
     }
@@ -44,7 +44,7 @@ impl fmt::Display for EventError {
             Self::NoSuchPart => "the member has no such part to store",
             Self::WrongLength => "the part's value has another length",
             Self::BadQueueSize => "the queue has a size that no ring has",
-            Self::OutOfOrder => "the halves of the member's reset are out of order",
+            Self::WrongMark => "the member is marked already, or is to be wiped and is not marked",
         })
     }
 }

@@ -216,7 +216,7 @@ fn a_bad_event_is_named_and_changes_nothing() {
     let no_member = Err(EventError::NoSuchMember);
     assert_eq!((card.hand_back(0), card.wipe(0, 1)), (no_member, no_member));
     assert_eq!(card.hand_back(u64::MAX), no_member);
-    assert_eq!(card.wipe(1, 1), Err(EventError::OutOfOrder));
+    assert_eq!(card.wipe(1, 1), Err(EventError::WrongMark));
     assert_eq!(card.store(3, PartType::VQ_CFG, 9, &[]), no_member);
     let no_part = Err(EventError::NoSuchPart);
     assert_eq!(card.store(1, PartType::VQ_CFG, 1, &[0; 32]), no_part);

@@ -67,7 +67,7 @@ fn each_refusal_has_its_name() {
     }
     assert_eq!(refused(&setup, 1, &full[1..], &later[1..]), DifferenceError::BadFull);
     assert_eq!(refused(&setup, 1, &full[32..], &later[1..]), DifferenceError::BadLater);
-    assert_eq!(refused(&setup, 1, &full[32..], &later), DifferenceError::Lacking);
+    assert_eq!(refused(&setup, 1, &full[32..], &later), DifferenceError::LacksPart);
     let night = Difference::new(&setup, 1, &full, &later);
     assert_eq!(night.find(PartType::VQ_CFG, 1), Err(DifferenceError::NoSuchPart));
 }
@@ -77,7 +77,7 @@ fn a_buffer_has_room_for_the_list_or_stays() {
     let (setup, full, later) = pair();
     let night = Difference::new(&setup, 1, &full, &later);
     let mut buffer = [0xee; 228];
-    assert_eq!(night.merge_into(&mut buffer), Err(DifferenceError::TooShort));
+    assert_eq!(night.merge_into(&mut buffer), Err(DifferenceError::ShortBuffer));
     assert_eq!(buffer, [0xee; 228]);
     let mut buffer = [0xee; 230];
     assert_eq!(night.merge_into(&mut buffer).unwrap(), night.merge().unwrap());

@@ -10,7 +10,7 @@ impl Card {
     /// Hand back of one member, which must not be marked: the first half of its
     /// reset.
     pub fn hand_back(&mut self, member: u64) -> Result<(), EventError> {
-        EventError::OutOfOrder.unless(!self.half_of_reset(member)?.marked)?;
+        EventError::WrongMark.unless(!self.half_of_reset(member)?.marked)?;
         self.member_mut(member).hand_back();
         Ok(())
     }
@@ -18,7 +18,7 @@ impl Card {
     /// Wipe of one member, which has to be marked: makes it fresh, with the
     /// generation to start from, and changes nothing else.
     pub fn wipe(&mut self, member: u64, generation: u32) -> Result<(), EventError> {
-        EventError::OutOfOrder.unless(self.half_of_reset(member)?.marked)?;
+        EventError::WrongMark.unless(self.half_of_reset(member)?.marked)?;
         let queues = self.member(member).queues;
         *self.member_mut(member) = Member::fresh(&self.setup, queues, generation);
         Ok(())

@@ -86,7 +86,7 @@ pub enum EventError {
     /// The value of a queue part has a size that no ring has.
     BadQueueSize = 5,
     /// Hand back of a marked member, or wipe of one that is not marked.
-    OutOfOrder = 6,
+    WrongMark = 6,
 }
 
 impl EventError {

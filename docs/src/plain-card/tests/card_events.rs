@@ -118,6 +118,6 @@ fn the_numbers_of_the_answers() {
     assert_eq!(answer(Err(EventError::WrongLength)), 3);
     assert_eq!(answer(Err(EventError::BadSetup)), 4);
     assert_eq!(answer(Err(EventError::BadQueueSize)), 5);
-    assert_eq!(answer(Err(EventError::OutOfOrder)), 6);
+    assert_eq!(answer(Err(EventError::WrongMark)), 6);
     assert_eq!(answer(Err(EventError::NotSound)), 9);
 }

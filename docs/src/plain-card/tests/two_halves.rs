@@ -59,12 +59,12 @@ fn wipe_makes_everything_fresh_with_the_generation_given() {
 #[test]
 fn the_wrong_half_answers_6_and_changes_nothing() {
     let mut card = handed_back();
-    assert_eq!(card.hand_back(1), Err(EventError::OutOfOrder));
-    assert_eq!(card.wipe(2, 5), Err(EventError::OutOfOrder));
+    assert_eq!(card.hand_back(1), Err(EventError::WrongMark));
+    assert_eq!(card.wipe(2, 5), Err(EventError::WrongMark));
     assert_eq!(card, handed_back());
     assert_eq!(card.wipe(1, 5), Ok(()));
     let wiped = card.clone();
-    assert_eq!(card.wipe(1, 6), Err(EventError::OutOfOrder));
+    assert_eq!(card.wipe(1, 6), Err(EventError::WrongMark));
     assert_eq!(card, wiped);
 }
 
