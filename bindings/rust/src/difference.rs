@@ -1,7 +1,8 @@
 //! A full capture and a later list of what changed.
 
+use crate::part::{capture_bytes, PartType};
 use crate::raw;
-use crate::PartType;
+use crate::setup::Setup;
 use alloc::vec;
 use alloc::vec::Vec;
 use core::fmt;
@@ -40,9 +41,6 @@ pub struct Difference<'s, 'l> {
     full: &'l [u8],
     later: &'l [u8],
 }
-
-/// The longest list that is made of a pair: that of a member with four queues.
-const MERGED_MAX: usize = 157 + 72 * 4;
 
 impl<'s, 'l> Difference<'s, 'l> {
     /// The pair of these lists. `setup` is the packed setup of the card, of
@@ -84,7 +82,7 @@ impl<'s, 'l> Difference<'s, 'l> {
     ///
     /// [`DifferenceError`], the first that applies.
     pub fn merge(&self) -> Result<Vec<u8>, DifferenceError> {
-        let mut merged = vec![0; MERGED_MAX];
+        let mut merged = vec![0; capture_bytes(*Setup::QUEUES.end())];
         let length = self.merge_into(&mut merged)?.len();
         merged.truncate(length);
         Ok(merged)

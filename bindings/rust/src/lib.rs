@@ -90,7 +90,7 @@ pub use card::{Card, NotSound};
 pub use difference::{Difference, DifferenceError};
 pub use event::EventError;
 pub use message::{BadResponse, Message, MessageId, MessageTooLong, NoResponse, Response};
-pub use part::PartType;
+pub use part::{capture_bytes, part_count, PartType};
 pub use raw::version;
 pub use reply::{BadReply, Refusal, Reply, ReplyTooShort};
 pub use request::{Kind, Metadata, Opcode, Request, RequestTooLong};

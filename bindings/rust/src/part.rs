@@ -1,4 +1,4 @@
-//! The types of a member's parts.
+//! The types of a member's parts, how many it has and how long they are.
 
 use crate::number::wire_number;
 
@@ -21,4 +21,23 @@ wire_number! {
     /// The notification configuration of a queue: 8 bytes. The selector is
     /// the queue's index.
     VQ_NOTIFY_CFG = 0x105,
+}
+
+/// How many parts a member with this queue count has.
+#[must_use]
+pub const fn part_count(queues: u8) -> usize {
+    7 + 2 * queues as usize
+}
+
+/// The length of a full capture of a member with this queue count, without the
+/// head of the reply: each part's header and value.
+///
+/// ```
+/// use kajurnat::{capture_bytes, Reply};
+///
+/// assert_eq!(Reply::MAX, Reply::HEAD + capture_bytes(4));
+/// ```
+#[must_use]
+pub const fn capture_bytes(queues: u8) -> usize {
+    157 + 72 * queues as usize
 }

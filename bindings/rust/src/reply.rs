@@ -1,7 +1,9 @@
 //! Reading a reply.
 
+use crate::part::capture_bytes;
 use crate::raw;
 use crate::request::Opcode;
+use crate::setup::Setup;
 use crate::status::{Qualifier, Status};
 use core::fmt;
 
@@ -36,7 +38,7 @@ impl<'r> Reply<'r> {
 
     /// The longest reply of any card: a capture of all parts with four
     /// queues.
-    pub const MAX: usize = 453;
+    pub const MAX: usize = Self::HEAD + capture_bytes(*Setup::QUEUES.end());
 
     /// Reads the bytes of a whole reply to a command.
     pub(crate) fn read(opcode: Opcode, what: u8, reply: &'r [u8]) -> Result<Self, BadReply> {

@@ -1,6 +1,8 @@
 //! Salvage of a torn capture.
 
+use crate::part::{capture_bytes, part_count};
 use crate::raw;
+use crate::setup::Setup;
 use alloc::vec::Vec;
 use core::fmt;
 
@@ -18,7 +20,7 @@ use core::fmt;
 ///
 /// let salvaged = Salvaged::new(&setup, 1, &damaged)?;
 /// assert_eq!(salvaged.list.len(), 229);
-/// assert_eq!(salvaged.kept().filter(|kept| *kept).count(), 1);
+/// assert_eq!(salvaged.kept.iter().filter(|kept| **kept).count(), 1);
 /// assert_eq!((salvaged.dropped.total(), salvaged.left), (0, 3));
 /// # Ok::<(), Box<dyn std::error::Error>>(())
 /// ```
@@ -27,12 +29,14 @@ pub struct Salvaged {
     /// Each part of the member once, in the order and with the headers of a
     /// capture.
     pub list: Vec<u8>,
+    /// For each part of the list, in its order, whether it was kept; else it was
+    /// filled with the fresh value.
+    pub kept: Vec<bool>,
     /// How many parts were dropped, and why.
     pub dropped: Dropped,
     /// How many bytes were left over, from the start of the header that the
     /// salvage stopped at.
     pub left: u32,
-    kept: [u8; Salvaged::PARTS_MAX],
 }
 
 /// How many parts of a damaged list were dropped, each for the first cause that
@@ -60,10 +64,6 @@ impl Dropped {
 impl Salvaged {
     /// The most bytes of a damaged list.
     pub const DAMAGED_MAX: usize = 4064;
-    /// The most parts of a member.
-    const PARTS_MAX: usize = 15;
-    /// The longest list.
-    const LIST_MAX: usize = 157 + 72 * 4;
 
     /// Salvages a damaged list of a member. `setup` is the packed setup of its
     /// card, of either version.
@@ -73,24 +73,18 @@ impl Salvaged {
     /// [`SalvageRefused`] if the setup is bad or has no such member, or the list
     /// is over [`Salvaged::DAMAGED_MAX`] bytes.
     pub fn new(setup: &[u8], member: u64, damaged: &[u8]) -> Result<Self, SalvageRefused> {
-        let mut list = [0; Self::LIST_MAX];
-        let mut kept = [0; Self::PARTS_MAX];
+        const QUEUES_MAX: u8 = *Setup::QUEUES.end();
+        let mut list = [0; capture_bytes(QUEUES_MAX)];
+        let mut kept = [0; part_count(QUEUES_MAX)];
         let (mut dropped, mut left) = ([0; 4], 0);
         let written =
             raw::salvage(setup, member, damaged, &mut list, &mut kept, &mut dropped, &mut left);
         let [unknown, copies, wrongly_sized, wrongly_valued] = dropped;
         let dropped = Dropped { unknown, copies, wrongly_sized, wrongly_valued };
-        match written {
-            0 => Err(SalvageRefused),
-            _ => Ok(Self { list: list[..written].to_vec(), dropped, left, kept }),
-        }
-    }
-
-    /// For each part of the list, in its order, whether it was kept; else it was
-    /// filled with the fresh value.
-    pub fn kept(&self) -> impl Iterator<Item = bool> + '_ {
-        let queues = (self.list.len() - 157) / 72;
-        self.kept[..7 + 2 * queues].iter().map(|kept| *kept == 1)
+        let queues = Setup::QUEUES.into_iter().find(|queues| capture_bytes(*queues) == written);
+        let queues = queues.ok_or(SalvageRefused)?;
+        let kept = kept[..part_count(queues)].iter().map(|kept| *kept == 1).collect();
+        Ok(Self { list: list[..written].to_vec(), kept, dropped, left })
     }
 }
 
