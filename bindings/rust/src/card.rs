@@ -55,8 +55,9 @@ pub struct Card<B = Vec<u8>> {
 
 impl Card {
     /// A fresh card in memory of its own: the two list commands are in use;
-    /// every member runs, has no objects, and all its parts are zero but the
-    /// device features.
+    /// every member runs, is not marked, has no objects and no open holding
+    /// place, all its parts are zero but the device features, and so are its
+    /// configuration and generation.
     ///
     /// # Errors
     ///
@@ -65,12 +66,12 @@ impl Card {
         Self::new_in(setup, vec![0; setup.card_bytes()])
     }
 
-    /// A fresh card of a setup that was kept as bytes, of either version: see
+    /// A fresh card of a packed setup, of either version: see
     /// [`Setup::to_bytes`].
     ///
     /// # Errors
     ///
-    /// [`BadSetup::Refused`] if the bytes are no setup.
+    /// [`BadSetup::Refused`] if the bytes are no packed setup.
     pub fn from_setup(bytes: &[u8]) -> Result<Self, BadSetup> {
         let mut memory = vec![0; Setup::from_bytes(bytes)?.card_bytes()];
         match raw::setup_from(&mut memory, bytes) {
@@ -246,11 +247,13 @@ impl<B: AsMut<[u8]>> Card<B> {
     ///
     /// # Errors
     ///
-    /// [`Refusal`] with [`Qualifier::INVALID_MEMBER`] if the card has no such
-    /// member, with [`Status::EEXIST`] if its holding place is open: see
+    /// The first that applies: [`Refusal`] with [`Qualifier::INVALID_MEMBER`]
+    /// if the card has no such member, with [`Status::EAGAIN`] if it is marked,
+    /// with [`Status::EEXIST`] if its holding place is open: see
     /// [`Card::take_up_restore`].
     ///
     /// [`Qualifier::INVALID_MEMBER`]: crate::Qualifier::INVALID_MEMBER
+    /// [`Status::EAGAIN`]: crate::Status::EAGAIN
     /// [`Status::EEXIST`]: crate::Status::EEXIST
     pub fn begin_restore(&mut self, member: u64) -> Result<Restore<'_, B>, Refusal> {
         Restore::begin(self, member)
@@ -260,10 +263,12 @@ impl<B: AsMut<[u8]>> Card<B> {
     ///
     /// # Errors
     ///
-    /// [`Refusal`] with [`Qualifier::INVALID_MEMBER`] if the card has no such
-    /// member, with [`Status::ENXIO`] if its holding place is not open.
+    /// The first that applies: [`Refusal`] with [`Qualifier::INVALID_MEMBER`]
+    /// if the card has no such member, with [`Status::EAGAIN`] if it is marked,
+    /// with [`Status::ENXIO`] if its holding place is not open.
     ///
     /// [`Qualifier::INVALID_MEMBER`]: crate::Qualifier::INVALID_MEMBER
+    /// [`Status::EAGAIN`]: crate::Status::EAGAIN
     /// [`Status::ENXIO`]: crate::Status::ENXIO
     pub fn take_up_restore(&mut self, member: u64) -> Result<Restore<'_, B>, Refusal> {
         Restore::take_up(self, member)
@@ -274,10 +279,12 @@ impl<B: AsMut<[u8]>> Card<B> {
         self.memory.as_mut()
     }
 
-    /// Takes one member back from its guest: its objects and its holding place
-    /// are ended, and it is stopped. Until [`Card::wipe`] every command and every
-    /// restore for it is refused with [`Status::EAGAIN`], and no message reaches
-    /// it; the data path may still store its parts.
+    /// The first half of a member's reset, so that the data path has time to
+    /// let go of its guest: the member's objects and its holding place are
+    /// ended, and it is stopped and marked. Until [`Card::wipe`] every command
+    /// that is in use and every restore for it is refused with
+    /// [`Status::EAGAIN`], and no message reaches it; [`Card::store`] still
+    /// works.
     ///
     /// # Errors
     ///
@@ -289,9 +296,9 @@ impl<B: AsMut<[u8]>> Card<B> {
         EventError::from_answer(raw::hand_back(self.memory.as_mut(), member))
     }
 
-    /// Makes one member that is handed back fresh and changes nothing else. Its
-    /// configuration starts from this generation, so that the count does not
-    /// tell of the former guest.
+    /// The second half: makes a member that is marked fresh, with its queue
+    /// count, and changes nothing else. Its configuration starts from this
+    /// generation, so that the count does not tell of the former guest.
     ///
     /// # Errors
     ///
@@ -301,16 +308,16 @@ impl<B: AsMut<[u8]>> Card<B> {
         EventError::from_answer(raw::wipe(self.memory.as_mut(), member, generation))
     }
 
-    /// Makes the whole card fresh, members that are handed back too. The
+    /// Makes the whole card fresh, marked members too; the setup stays. The
     /// configuration of every member starts from this generation.
     pub fn reset(&mut self, generation: u32) {
         let answer = raw::reset_card(self.memory.as_mut(), generation);
         EventError::from_answer(answer).expect("a sound card can be reset");
     }
 
-    /// Sets one part of one member, running or stopped, as the data path
-    /// does. `selector` is the index of the queue or the offset of the field,
-    /// and is not read for other parts.
+    /// Sets one part of one member, running, stopped or marked, as the data
+    /// path does. `selector` is the index of the queue or the offset of the
+    /// field, and is not read for other parts.
     ///
     /// # Errors
     ///

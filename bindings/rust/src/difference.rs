@@ -28,8 +28,8 @@ use core::fmt;
 /// status[..2].copy_from_slice(&PartType::DEVICE_STATUS.0.to_le_bytes());
 /// let later = card.send(Request::get(1, 0, &status)?)?;
 ///
-/// let kept = setup.to_bytes()?;
-/// let night = Difference::new(&kept, 1, &full, &later);
+/// let packed = setup.to_bytes()?;
+/// let night = Difference::new(&packed, 1, &full, &later);
 /// assert_eq!(night.find(PartType::DEVICE_STATUS, 0)?, [0x0f]);
 /// assert_eq!(night.merge()?, card.send(Request::capture(1, 0))?);
 /// # Ok::<(), Box<dyn std::error::Error>>(())
@@ -113,7 +113,7 @@ impl<'s, 'l> Difference<'s, 'l> {
 #[derive(Clone, Copy, Debug, PartialEq, Eq)]
 #[non_exhaustive]
 pub enum DifferenceError {
-    /// The setup is bad, or has no such member.
+    /// The packed setup is bad, or has no such member.
     BadSetup,
     /// The full capture is a bad list: parts set would refuse it.
     BadFull,
@@ -146,7 +146,7 @@ impl DifferenceError {
 impl fmt::Display for DifferenceError {
     fn fmt(&self, f: &mut fmt::Formatter<'_>) -> fmt::Result {
         f.write_str(match self {
-            Self::BadSetup => "the setup is bad, or has no such member",
+            Self::BadSetup => "the packed setup is bad, or has no such member",
             Self::BadFull => "the full capture is a bad list of parts",
             Self::BadLater => "the later list is a bad list of parts",
             Self::LacksPart => "the full capture lacks a part of the member",

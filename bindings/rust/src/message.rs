@@ -167,8 +167,8 @@ impl<'r> Response<'r> {
     }
 
     /// The bytes read, or the bytes written as they were sent. There are none
-    /// if nothing was read or written: past the end of the configuration, or
-    /// with a generation that is not the device's.
+    /// if nothing was read or written: of length 0, past the end of the
+    /// configuration, or with a generation that is not the device's.
     #[must_use]
     pub const fn data(&self) -> &'r [u8] {
         self.data
@@ -207,7 +207,7 @@ impl core::error::Error for BadResponse {}
 
 /// The bus outcome: a message gets no response, and nothing is changed. It is
 /// not one whole request that reads or writes a configuration, the card has no
-/// such device, its member is handed back, or the buffer is too short for the
+/// such device, its member is marked, or the buffer is too short for the
 /// response.
 #[derive(Clone, Copy, Debug, PartialEq, Eq)]
 pub struct NoResponse;

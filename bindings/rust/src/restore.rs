@@ -43,10 +43,12 @@ pub struct Restore<'c, B: AsMut<[u8]> = Vec<u8>> {
     member: u64,
 }
 
-impl<'c, B: AsMut<[u8]>> Restore<'c, B> {
+impl Restore<'_> {
     /// The most bytes of a list that comes in fragments.
     pub const MAX: usize = 1024;
+}
 
+impl<'c, B: AsMut<[u8]>> Restore<'c, B> {
     /// Opens the holding place of a member.
     pub(crate) fn begin(card: &'c mut Card<B>, member: u64) -> Result<Self, Refusal> {
         read(raw::restore_begin(card.bytes_mut(), member))?;
@@ -60,13 +62,14 @@ impl<'c, B: AsMut<[u8]>> Restore<'c, B> {
         Ok(Self { card, member })
     }
 
-    /// Adds a fragment. It may be empty.
+    /// Adds a fragment of any length.
     ///
     /// # Errors
     ///
     /// [`Refusal`] with [`Status::EINVAL`] if the fragments are over
     /// [`Restore::MAX`] in all. The holding place is then gone: what is fed
-    /// after that is refused with [`Status::ENXIO`].
+    /// after that is refused with [`Status::ENXIO`]. With [`Status::EAGAIN`] if
+    /// the member was handed back meanwhile.
     pub fn feed(&mut self, fragment: &[u8]) -> Result<(), Refusal> {
         read(raw::restore_feed(self.card.bytes_mut(), self.member, fragment))
     }
@@ -77,7 +80,7 @@ impl<'c, B: AsMut<[u8]>> Restore<'c, B> {
     /// # Errors
     ///
     /// [`Refusal`] as that of [`Request::set`](crate::Request::set) with the
-    /// whole list, or [`Status::ENXIO`] if the holding place is gone. The
+    /// whole list, or with [`Status::ENXIO`] if the holding place is gone. The
     /// member's parts are then unchanged.
     pub fn finish(self, id: u32) -> Result<(), Refusal> {
         let answer = raw::restore_finish(self.card.bytes_mut(), self.member, id);

@@ -49,7 +49,8 @@ pub struct Dropped {
     pub copies: u32,
     /// Parts with a value of another length.
     pub wrongly_sized: u32,
-    /// Parts with a value that is not allowed.
+    /// Parts with a value that is not allowed: a queue size that no ring has, or
+    /// other device features than the setup's.
     pub wrongly_valued: u32,
 }
 
@@ -70,8 +71,8 @@ impl Salvaged {
     ///
     /// # Errors
     ///
-    /// [`SalvageRefused`] if the setup is bad or has no such member, or the list
-    /// is over [`Salvaged::DAMAGED_MAX`] bytes.
+    /// [`SalvageRefused`] if the packed setup is bad or has no such member, or the
+    /// list is over [`Salvaged::DAMAGED_MAX`] bytes.
     pub fn new(setup: &[u8], member: u64, damaged: &[u8]) -> Result<Self, SalvageRefused> {
         const QUEUES_MAX: u8 = *Setup::QUEUES.end();
         let mut list = [0; capture_bytes(QUEUES_MAX)];
@@ -88,15 +89,15 @@ impl Salvaged {
     }
 }
 
-/// A damaged list is not salvaged: the setup is bad or has no such member, or the
-/// list is too long.
+/// A damaged list is not salvaged: the packed setup is bad or has no such member,
+/// or the list is too long.
 #[derive(Clone, Copy, Debug, PartialEq, Eq)]
 pub struct SalvageRefused;
 
 impl fmt::Display for SalvageRefused {
     fn fmt(&self, f: &mut fmt::Formatter<'_>) -> fmt::Result {
         let most = Salvaged::DAMAGED_MAX;
-        write!(f, "the setup is bad or has no such member, or the list is over {most} bytes")
+        write!(f, "the packed setup is bad or has no such member, or the list is over {most} bytes")
     }
 }
 

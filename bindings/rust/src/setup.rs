@@ -21,22 +21,22 @@ use core::ops::RangeInclusive;
 /// # Ok::<(), SetupError>(())
 /// ```
 ///
-/// It may be kept as bytes, which outlive a release:
+/// Packed, it is bytes that outlive a release:
 ///
 /// ```
 /// # use kajurnat::{Setup, SetupError};
 /// let setup = Setup::alike(2, 1, 1, 1, [0; 16]);
-/// let kept = setup.to_bytes()?;
-/// assert_eq!(kept[..3], [0x11, 0x04, 0x40]);
-/// assert_eq!(Setup::from_bytes(&kept), Ok(setup));
+/// let packed = setup.to_bytes()?;
+/// assert_eq!(packed[..3], [0x11, 0x04, 0x40]);
+/// assert_eq!(Setup::from_bytes(&packed), Ok(setup));
 /// # Ok::<(), SetupError>(())
 /// ```
 #[derive(Clone, Copy, Debug, PartialEq, Eq)]
 pub struct Setup {
     /// The number of members, 1 to 16. They are numbered from 1.
     pub members: u8,
-    /// The number of queues of each member, 1 to 4, from member 1. Queues are
-    /// numbered from 0. Those past the last member are not read, and 0 in the
+    /// The queue count of each member, 1 to 4, from member 1. Queues are
+    /// numbered from 0. Counts past the last member are not read, and 0 in the
     /// setup of a card.
     pub queues: [u8; 16],
     /// How many get objects each member has room for, 0 to 8.
@@ -51,7 +51,7 @@ pub struct Setup {
 const HEADER: usize = 27;
 /// The length of a member's record.
 const RECORD: usize = 1266;
-/// Where the number of queues stands in a record.
+/// Where the queue count stands in a record.
 const QUEUES: usize = 2;
 
 impl Setup {
@@ -61,10 +61,10 @@ impl Setup {
     pub const QUEUES: RangeInclusive<u8> = 1..=4;
     /// How many get objects, and how many set objects, each member may have.
     pub const OBJECTS: RangeInclusive<u8> = 0..=8;
-    /// The longest setup as bytes.
+    /// The longest packed setup.
     pub const BYTES_MAX: usize = 23;
 
-    /// A setup whose members all have as many queues.
+    /// A setup whose members all have the same queue count.
     #[must_use]
     pub const fn alike(members: u8, queues: u8, gets: u8, sets: u8, features: [u8; 16]) -> Self {
         let mut counts = [0; 16];
@@ -83,8 +83,8 @@ impl Setup {
         HEADER + RECORD * self.members as usize
     }
 
-    /// The bytes of the setup: version 1 if all members have as many queues,
-    /// else version 2.
+    /// The packed setup: of version 1 if all queue counts are equal, else of
+    /// version 2.
     ///
     /// # Errors
     ///
@@ -106,22 +106,22 @@ impl Setup {
         }
     }
 
-    /// The setup that these bytes are, of either version.
+    /// Reads a packed setup, of either version.
     ///
     /// # Errors
     ///
-    /// [`BadSetup::Refused`] if they are none.
+    /// [`BadSetup::Refused`] if the bytes are none.
     pub fn from_bytes(bytes: &[u8]) -> Result<Self, BadSetup> {
         Self::read(bytes, raw::setup_read)
     }
 
-    /// The same for a program that knows version 1 alone: all members have as
-    /// many queues.
+    /// The same for a program that knows version 1 alone, in which all queue
+    /// counts are equal.
     ///
     /// # Errors
     ///
     /// [`BadSetup::Version2`] if the bytes are of version 2, before all else,
-    /// and [`BadSetup::Refused`] if they are no setup.
+    /// and [`BadSetup::Refused`] if they are no packed setup.
     pub fn from_bytes_v1(bytes: &[u8]) -> Result<Self, BadSetup> {
         Self::read(bytes, raw::setup_read_v1)
     }
@@ -137,13 +137,13 @@ impl Setup {
         }
     }
 
-    /// The numbers of queues of the members that there are.
+    /// The queue counts of the members that there are.
     pub(crate) fn counts(&self) -> &[u8] {
         self.queues.get(..self.members.into()).unwrap_or(&self.queues)
     }
 
     /// The setup that a sound card holds: three numbers, one byte each, and the
-    /// features in its head, and a number of queues in each record.
+    /// features in its header, and a queue count in each record.
     pub(crate) fn of_card(card: &[u8]) -> Self {
         let mut queues = [0; 16];
         for (count, record) in queues.iter_mut().zip(card[HEADER..].chunks_exact(RECORD)) {
@@ -155,19 +155,20 @@ impl Setup {
     }
 }
 
-/// A reader of setups.
+/// A reader of packed setups.
 type Reader = fn(&[u8], &mut u8, &mut [u8], &mut u8, &mut u8, &mut [u8]) -> u8;
 
 /// Why no card is made: the first cause in the order written here.
 #[derive(Clone, Copy, Debug, PartialEq, Eq)]
+#[non_exhaustive]
 pub enum SetupError {
     /// The number of members is not in [`Setup::MEMBERS`].
     Members(u8),
-    /// The number of queues of a member is not in [`Setup::QUEUES`].
+    /// The queue count of a member is not in [`Setup::QUEUES`].
     Queues {
         /// The first such member.
         member: u8,
-        /// Its number of queues.
+        /// Its queue count.
         queues: u8,
     },
     /// The number of get objects is not in [`Setup::OBJECTS`].
@@ -205,7 +206,10 @@ impl fmt::Display for SetupError {
     fn fmt(&self, f: &mut fmt::Formatter<'_>) -> fmt::Result {
         let (number, what, range) = match *self {
             Self::Members(number) => (number, "members", Setup::MEMBERS),
-            Self::Queues { queues, .. } => (queues, "queues", Setup::QUEUES),
+            Self::Queues { member, queues } => {
+                let (least, most) = Setup::QUEUES.into_inner();
+                return write!(f, "{queues} queues of member {member}: it has {least} to {most}");
+            }
             Self::Gets(number) => (number, "get objects", Setup::OBJECTS),
             Self::Sets(number) => (number, "set objects", Setup::OBJECTS),
             Self::Length { memory, card } => {
@@ -213,27 +217,27 @@ impl fmt::Display for SetupError {
             }
         };
         let (least, most) = range.into_inner();
-        let who = if let Self::Queues { .. } = self { "member" } else { "setup" };
-        write!(f, "{number} {what}: a {who} has {least} to {most}")
+        write!(f, "{number} {what}: a setup has {least} to {most}")
     }
 }
 
 impl core::error::Error for SetupError {}
 
-/// Bytes are not read as a setup.
+/// Bytes are not read as a packed setup.
 #[derive(Clone, Copy, Debug, PartialEq, Eq)]
+#[non_exhaustive]
 pub enum BadSetup {
     /// They are of version 2, which [`Setup::from_bytes_v1`] does not read.
     Version2,
-    /// They are no setup.
+    /// They are no packed setup.
     Refused,
 }
 
 impl fmt::Display for BadSetup {
     fn fmt(&self, f: &mut fmt::Formatter<'_>) -> fmt::Result {
         f.write_str(match self {
-            Self::Version2 => "the setup is of version 2, and version 1 is read",
-            Self::Refused => "the bytes are no setup",
+            Self::Version2 => "the packed setup is of version 2, and version 1 is read",
+            Self::Refused => "the bytes are no packed setup",
         })
     }
 }
@@ -249,7 +253,7 @@ mod tests {
     fn an_error_says_what_would_do() {
         assert_eq!(SetupError::Members(17).to_string(), "17 members: a setup has 1 to 16");
         let error = SetupError::Queues { member: 3, queues: 5 };
-        assert_eq!(error.to_string(), "5 queues: a member has 1 to 4");
+        assert_eq!(error.to_string(), "5 queues of member 3: it has 1 to 4");
         let error = SetupError::Length { memory: 100, card: 1293 };
         assert_eq!(error.to_string(), "100 bytes of memory: a card of this setup has 1293");
     }

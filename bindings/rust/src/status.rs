@@ -9,7 +9,8 @@ wire_number! {
     OK = 0,
     /// No live object has the id given.
     ENXIO = 6,
-    /// Parts were to be set in a running member, or the member is handed back.
+    /// Parts were to be set in a running member, or the member is marked: see
+    /// [`Card::hand_back`](crate::Card::hand_back).
     EAGAIN = 11,
     /// The reply buffer is too short for the result.
     ENOMEM = 12,

@@ -111,7 +111,7 @@ fn a_list_has_1024_bytes_at_most() {
     let (fresh, parts) = card_and_parts();
     let mut card = fresh.clone();
     let mut restore = card.begin_restore(2).unwrap();
-    restore.feed(&[0; Restore::<Vec<u8>>::MAX]).unwrap();
+    restore.feed(&[0; Restore::MAX]).unwrap();
     restore.feed(&[]).unwrap();
     assert_eq!(numbers(restore.feed(&[0])), TOO_LONG);
     assert_eq!(numbers(restore.feed(&[])), NOTHING_BEGUN);

@@ -2,8 +2,8 @@
 
 use super::abi;
 
-/// Makes `card` a fresh card and answers 0. `queues` has a number of queues for
-/// each member.
+/// Makes `card` a fresh card and answers 0. `queues` has a queue count for each
+/// member.
 ///
 /// Answers 4 and fills `card` with zeros if a number is out of range, if
 /// `queues` is not `members` bytes or `features` not 16, or if `card` is not
@@ -45,7 +45,7 @@ pub fn setup_from(card: &mut [u8], setup: &[u8]) -> u8 {
 }
 
 /// Packs a setup at the start of `setup` and returns its length: version 1 if
-/// all members have as many queues, else version 2.
+/// all queue counts are equal, else version 2.
 ///
 /// Returns 0, with nothing written, if a number is out of range, if `queues` is
 /// not `members` bytes or `features` not 16, or if `setup` is too short.
@@ -74,8 +74,8 @@ pub fn setup_write(
     }
 }
 
-/// Reads a packed setup of either version and answers 0. The numbers of queues
-/// of members past the last are 0.
+/// Reads a packed setup of either version and answers 0. The queue counts of
+/// members past the last are 0.
 ///
 /// Answers 2, with nothing written, if it is refused, or if `queues` or
 /// `features` is not 16 bytes.
