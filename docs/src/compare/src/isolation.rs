@@ -1,7 +1,7 @@
 //! Demand 3, tried on random pairs of sequences.
 //!
 //! Two sound cards differ in member m's record at most, and not in its mark and
-//! its number of queues. A wipe of m that answers 0, or a reset of the whole card,
+//! its queue count. A wipe of m that answers 0, or a reset of the whole card,
 //! is its reset. Up to that the two sequences are the same but for calls that name
 //! m, which hand backs and wipes do not; from the reset on they are the same. The
 //! calls before the reset that do not name m must give the same replies, and from

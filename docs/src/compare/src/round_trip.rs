@@ -1,7 +1,7 @@
 //! The round trip of demand 2, tried on random cards.
 //!
 //! A full capture of one member, set in a stopped member of a sound card with
-//! the same setup and with as many queues, is accepted, and a capture there gives
+//! the same setup and the same queue count, is accepted, and a capture there gives
 //! the same bytes. Neither is handed back.
 
 use std::fmt;

@@ -207,7 +207,7 @@ fn place(at: usize) -> String {
         at @ VALUES.. => format!(" (value byte {} of member {member})", at - VALUES),
         HELD.. => format!(" (length held for member {member})"),
         at @ OBJECTS.. => format!(" (object {} of member {member})", at - OBJECTS),
-        QUEUES.. => format!(" (number of queues of member {member})"),
+        QUEUES.. => format!(" (queue count of member {member})"),
         MARK.. => format!(" (mark of member {member})"),
         _ => format!(" (mode of member {member})"),
     }

@@ -34,7 +34,7 @@ pub const RECORD: usize = HOLDING + ROOM;
 pub const MODE: usize = 0;
 /// Where the mark stands in a record.
 pub const MARK: usize = MODE + 1;
-/// Where the number of queues stands in a record.
+/// Where the queue count stands in a record.
 pub const QUEUES: usize = MARK + 1;
 /// Where the objects stand in a record.
 pub const OBJECTS: usize = QUEUES + 1;

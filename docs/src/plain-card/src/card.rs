@@ -8,7 +8,7 @@ use crate::setup::{Common, Setup};
 /// record for each member.
 #[derive(Clone, Debug, PartialEq, Eq)]
 pub struct Card {
-    /// The setup, but for the numbers of queues.
+    /// The setup, but for the queue counts.
     pub setup: Common,
     /// The list in use: bit n is set if the opcode n is in use.
     pub in_use: u64,

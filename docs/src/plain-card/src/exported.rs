@@ -24,7 +24,7 @@ pub fn card_bytes(members: u64) -> usize {
 }
 
 /// Makes a fresh card in `card`, or fills it with zeros and answers 4. There has
-/// to be a number of queues for each member; the features have to be 16 bytes and
+/// to be a queue count for each member; the features have to be 16 bytes and
 /// the buffer exactly one card long.
 pub fn setup(
     card: &mut [u8],
@@ -84,12 +84,12 @@ pub fn setup_write(
     bytes.len()
 }
 
-/// The numbers that a setup is read into: N, G and S, the numbers of queues and
+/// The numbers that a setup is read into: N, G and S, the queue counts and
 /// the features. The last two have 16 bytes, or nothing is read.
 pub struct Numbers<'a> {
     /// N, G and S.
     pub counts: &'a mut [u8; 3],
-    /// The number of queues of each member, 0 for those past N.
+    /// The queue count of each member, 0 for those past N.
     pub queues: &'a mut [u8],
     /// The device features.
     pub features: &'a mut [u8],

@@ -16,7 +16,7 @@ pub enum Mode {
     Stopped,
 }
 
-/// The record of a member: its mode, its mark, its number of queues, its live
+/// The record of a member: its mode, its mark, its queue count, its live
 /// objects, its parts, its configuration and its holding place.
 #[derive(Clone, Debug, PartialEq, Eq)]
 pub struct Member {

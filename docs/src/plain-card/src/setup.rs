@@ -14,7 +14,7 @@ pub const OBJECTS: RangeInclusive<u8> = 0..=8;
 pub struct Setup {
     /// What holds for all members.
     pub common: Common,
-    /// The number of queues of each member, from member 1.
+    /// The queue count of each member, from member 1.
     pub queues: Vec<u8>,
 }
 
@@ -34,7 +34,7 @@ pub struct Common {
 
 impl Setup {
     /// A setup, or nothing if a number is out of its range or there is not one
-    /// number of queues for each member.
+    /// queue count for each member.
     pub fn new(
         members: u64,
         queues: &[u8],
@@ -55,7 +55,7 @@ impl Setup {
         setup.in_range().then_some(setup)
     }
 
-    /// The same with one number of queues for all members.
+    /// The same with one queue count for all members.
     pub fn alike(
         members: u64,
         queues: u8,
@@ -74,7 +74,7 @@ impl Setup {
             && self.queues.iter().all(|count| QUEUES.contains(count))
     }
 
-    /// The number of queues of a member, if it is 1 to N.
+    /// The queue count of a member, if it is 1 to N.
     pub fn queues_of(&self, member: u64) -> Option<u8> {
         let index = usize::try_from(member.checked_sub(1)?).ok()?;
         self.queues.get(index).copied()

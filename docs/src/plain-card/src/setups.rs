@@ -71,7 +71,7 @@ fn unpack(bytes: &[u8]) -> Option<Setup> {
 }
 
 /// The bytes of a setup, which is in range: version 1 if all members have the
-/// same number of queues, else version 2.
+/// same queue count, else version 2.
 pub fn write(setup: &Setup) -> Vec<u8> {
     let Setup { common: Common { members, gets, sets, features }, queues } = setup;
     let alike = queues.iter().all(|count| *count == queues[0]);

@@ -29,7 +29,7 @@ pub fn setup_numbers(random: &mut Random) -> [u64; 3] {
     [members, random.pick(&objects), random.pick(&objects)]
 }
 
-/// A number of queues for each member: the same for all, or for all but one, or
+/// A queue count for each member: the same for all, or for all but one, or
 /// any.
 pub fn queue_counts(random: &mut Random, members: u64) -> Vec<u8> {
     let mut counts = vec![1 + random.below(4) as u8; members as usize];

@@ -172,7 +172,7 @@ fn spoil_name(random: &mut Random, part_type: &mut u16, selector: &mut [u8; 8]) 
     }
 }
 
-/// The number of queues of a member, or one that may be.
+/// The queue count of a member, or one that may be.
 fn queues_of(card: &Card, member: u64) -> u8 {
     let record = card.members.get((member as usize).wrapping_sub(1));
     record.map_or(1, |record| record.queues.clamp(1, MAX_QUEUES))

@@ -13,7 +13,7 @@ use crate::call::Call;
 use crate::part_bytes::{any_part, part};
 use crate::random::Random;
 
-/// What a list goes by: the number of queues of its member, and the device
+/// What a list goes by: the queue count of its member, and the device
 /// features.
 #[derive(Clone, Copy)]
 pub struct Target<'a> {

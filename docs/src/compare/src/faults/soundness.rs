@@ -97,7 +97,7 @@ fn sets(card: &mut Vec<u8>) {
     }
 }
 
-/// All of a record but its number of queues becomes zero.
+/// All of a record but its queue count becomes zero.
 fn clear(record: &mut [u8]) {
     let queues = record[QUEUES];
     record.fill(0);
@@ -197,7 +197,7 @@ fn no_queues(card: &mut Vec<u8>) {
     records(card).for_each(|record| record[QUEUES] = record[QUEUES].max(1));
 }
 
-/// The number of queues of the last member is that of the first.
+/// The queue count of the last member is that of the first.
 fn last_count(card: &mut Vec<u8>) {
     let Some(count) = card.get(HEADER + QUEUES).copied() else { return };
     if let Some(record) = records(card).last() {

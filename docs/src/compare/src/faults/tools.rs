@@ -86,7 +86,7 @@ pub fn named(queues: u8, part: &[u8]) -> Option<Part> {
     Header::read(&part[..HEADER]).part(queues)
 }
 
-/// The number of queues of the member that a request names, if the card has it.
+/// The queue count of the member that a request names, if the card has it.
 pub fn queues(card: &Card, request: &[u8]) -> u8 {
     framed(card, request).map_or(0, |(frame, opcode)| match opcode.names_member() {
         true => card.member(frame.member).queues,
