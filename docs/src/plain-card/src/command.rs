@@ -62,7 +62,7 @@ pub(crate) fn answer(card: &mut Card, request: &[u8], result: &mut [u8]) -> Resu
 /// back.
 pub fn check_mark(card: &Card, frame: &Frame, opcode: Opcode) -> Result<(), Refusal> {
     let marked = opcode.names_member() && card.member(frame.member).marked;
-    Refusal::HandedBack.unless(!marked)
+    Refusal::Marked.unless(!marked)
 }
 
 /// Steps 8 to 12, for a command that names a member.

@@ -49,7 +49,7 @@ impl Card {
         RestoreError::NotSound.unless(self.is_sound())?;
         RestoreError::NoMember.unless(self.setup.has_member(member))?;
         let record = self.member_mut(member);
-        RestoreError::HandedBack.unless(!record.marked)?;
+        RestoreError::Marked.unless(!record.marked)?;
         Ok(&mut record.holding)
     }
 

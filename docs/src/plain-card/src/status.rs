@@ -12,7 +12,7 @@ pub enum Refusal {
     /// Step 5: member not 1 to N.
     Member,
     /// Right after step 5: the member is handed back.
-    HandedBack,
+    Marked,
     /// Step 7: a field has a value that is not allowed.
     Field,
     /// Step 8: create on a live id.
@@ -39,7 +39,7 @@ impl Refusal {
             Refusal::GroupType => (22, 4),
             Refusal::Opcode => (22, 2),
             Refusal::Member => (22, 5),
-            Refusal::HandedBack => (11, 7),
+            Refusal::Marked => (11, 7),
             Refusal::Field => (22, 3),
             Refusal::IdLive => (17, 1),
             Refusal::IdNotLive => (6, 1),
@@ -116,7 +116,7 @@ pub enum RestoreError {
     /// Member not 1 to N.
     NoMember,
     /// The member is handed back.
-    HandedBack,
+    Marked,
     /// Begin while a holding place is open.
     AlreadyBegun,
     /// Another call while none is open.
@@ -142,7 +142,7 @@ impl RestoreError {
         match self {
             RestoreError::NotSound => None,
             RestoreError::NoMember => Some((22, 5)),
-            RestoreError::HandedBack => Some((11, 7)),
+            RestoreError::Marked => Some((11, 7)),
             RestoreError::AlreadyBegun => Some((17, 1)),
             RestoreError::NothingBegun => Some((6, 1)),
             RestoreError::TooLong => Some((22, 1)),

@@ -124,7 +124,7 @@ fn card_stores_still_work() {
 #[test]
 fn calls_of_a_restore_answer_11_7_right_after_22_5() {
     let mut card = handed_back();
-    let refused = Err(RestoreError::HandedBack);
+    let refused = Err(RestoreError::Marked);
     assert_eq!(restore_answer(refused), 11 + 65_536 * 7);
     assert_eq!(card.restore_begin(1), refused);
     // Ahead of 6/1 and 22/1, and of what a parts set would be refused for.

@@ -150,7 +150,7 @@ fn card_leaves_marked(outcome: &mut Outcome) {
 
 fn mark_before_opcode(card: &Card, request: &[u8], _: usize) -> Option<Refusal> {
     let frame = framed(card, request)?;
-    (0x0a..=0x11).contains(&frame.opcode).then_some(Refusal::HandedBack)
+    (0x0a..=0x11).contains(&frame.opcode).then_some(Refusal::Marked)
 }
 
 fn fields_before_mark(card: &Card, request: &[u8], _: usize) -> Option<Refusal> {
@@ -169,7 +169,7 @@ fn objects_before_mark(card: &Card, request: &[u8], _: usize) -> Option<Refusal>
 
 fn mode_set_done(outcome: &mut Outcome) {
     let Call::Command { request, .. } = outcome.call else { return };
-    let refused = outcome.status() == Some(Refusal::HandedBack.numbers());
+    let refused = outcome.status() == Some(Refusal::Marked.numbers());
     let Some((before, _)) = outcome.cards() else { return };
     let mode_set = matches!(opcode(before, request), Some((_, Opcode::ModeSet)));
     if refused && mode_set && framed(before, request).is_some() {
@@ -178,14 +178,14 @@ fn mode_set_done(outcome: &mut Outcome) {
 }
 
 fn list_refused(card: &Card, request: &[u8], _: usize) -> Option<Refusal> {
-    framed(card, request).map(|_| Refusal::HandedBack)
+    framed(card, request).map(|_| Refusal::Marked)
 }
 
 fn all_refused(card: &Card, request: &[u8], _: usize) -> Option<Refusal> {
     let (frame, opcode) = opcode(card, request)?;
     frame.check_member(opcode, &card.setup).ok()?;
     let any = opcode.names_member() && card.members.iter().any(|record| record.marked);
-    any.then_some(Refusal::HandedBack)
+    any.then_some(Refusal::Marked)
 }
 
 /// Whether the call is a store in a marked member that was done.
@@ -251,7 +251,7 @@ fn nothing_begun_first(outcome: &mut Outcome) {
 fn mark_before_member(outcome: &mut Outcome) {
     let no_member = restore_answer(Err(RestoreError::NoMember)) as usize;
     if outcome.call.restored().is_some() && *outcome.answer == no_member {
-        *outcome.answer = restore_answer(Err(RestoreError::HandedBack)) as usize;
+        *outcome.answer = restore_answer(Err(RestoreError::Marked)) as usize;
     }
 }
 
