@@ -5,8 +5,8 @@ use std::fmt;
 use std::io::{self, Read};
 
 use crate::frame::u32_at;
-use crate::list::{take_part, Header};
-use crate::part::{Part, OPTIONAL, RESERVED_TYPES};
+use crate::list::{take_part, LONGEST};
+use crate::part::Wrong;
 use crate::setup::Setup;
 use crate::setups;
 
@@ -14,8 +14,6 @@ use crate::setups;
 const SETUP: usize = 19;
 /// The length of the number ahead of a capture.
 const LENGTH: usize = 4;
-/// The most bytes of a capture that is looked into.
-const LONGEST: usize = 4_064;
 /// After so many captures it stops.
 const MOST: u64 = 4_294_967_295;
 
@@ -35,8 +33,18 @@ pub enum Cause {
     Features,
     /// A known part named twice.
     Twice,
-    /// Over 4,064 bytes.
+    /// Over 4,064 bytes: it is not looked into.
     Long,
+}
+
+impl From<Wrong> for Cause {
+    fn from(wrong: Wrong) -> Cause {
+        match wrong {
+            Wrong::Length => Cause::Length,
+            Wrong::QueueSize => Cause::Size,
+            Wrong::Features => Cause::Features,
+        }
+    }
 }
 
 /// The names of the causes in the sheet.
@@ -73,44 +81,17 @@ pub fn judge(list: &[u8], features: &[u8; 16], queues: u8) -> Result<[u64; TYPES
     let mut rest = list;
     while !rest.is_empty() {
         let (header, value) = take_part(&mut rest).map_err(|_| Cause::Cut)?;
-        let part = header.part(queues);
-        let causes = match part {
-            Some(part) => known(&header, value, part, features, named.contains(&part)),
-            None => [(!skipped(&header)).then_some(Cause::Unknown), None],
-        };
-        first = causes.into_iter().flatten().chain(first).min();
-        if let Some(part) = part {
+        let causes = if let Some(part) = header.part(queues) {
+            let twice = named.contains(&part).then_some(Cause::Twice);
             named.push(part);
             parts[usize::from(part.part_type() - FIRST_TYPE)] += 1;
-        }
+            [part.wrong(value, features).map(Cause::from), twice]
+        } else {
+            [(!header.is_skipped()).then_some(Cause::Unknown), None]
+        };
+        first = causes.into_iter().flatten().chain(first).min();
     }
     first.map_or(Ok(parts), Err)
-}
-
-/// Whether a part that the member has not got is skipped.
-fn skipped(header: &Header) -> bool {
-    header.flags & OPTIONAL != 0 && header.part_type < RESERVED_TYPES
-}
-
-/// The causes of a known part: its length or its value, and that it is named
-/// again. Only a value of the right length is looked at.
-fn known(
-    header: &Header,
-    value: &[u8],
-    part: Part,
-    features: &[u8; 16],
-    again: bool,
-) -> [Option<Cause>; 2] {
-    let cause = if header.length != part.length() {
-        Some(Cause::Length)
-    } else if !part.allows(value) {
-        Some(Cause::Size)
-    } else if part == Part::DeviceFeatures && value != features {
-        Some(Cause::Features)
-    } else {
-        None
-    };
-    [cause, again.then_some(Cause::Twice)]
 }
 
 /// The figures of a stream: a version 1 setup, and captures up to the end. None

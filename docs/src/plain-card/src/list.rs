@@ -7,6 +7,9 @@ use crate::part::{Part, HEADER, OPTIONAL, RESERVED_TYPES};
 use crate::status::Refusal;
 use crate::values::Values;
 
+/// The longest list that a request can give.
+pub const LONGEST: usize = 4_064;
+
 /// The known parts of a given list, with their new values.
 pub type Given<'a> = Vec<(Part, &'a [u8])>;
 
@@ -55,15 +58,11 @@ pub fn known<'a>(
     while !rest.is_empty() {
         let (header, value) = take_part(&mut rest)?;
         let Some(part) = header.part(queues) else {
-            header.check_unknown()?;
+            Refusal::BadList.unless(header.is_skipped())?;
             continue;
         };
         Refusal::BadList.unless(named.insert(part))?; // not named twice
-        Refusal::BadList.unless(header.length == part.length())?; // the table's length
-        Refusal::BadList.unless(part.allows(value))?; // a queue size that a ring has
-        if part == Part::DeviceFeatures {
-            Refusal::BadList.unless(value == features)?;
-        }
+        Refusal::BadList.unless(part.wrong(value, features).is_none())?;
         all.push(Known { part, at: list.len() - rest.len() - value.len(), value });
     }
     Ok(all)
@@ -108,10 +107,9 @@ impl Header {
         Part::named(self.part_type, self.selector, queues)
     }
 
-    /// A part that the member has not got is skipped if it has the optional
-    /// bit and a type that is not reserved.
-    fn check_unknown(&self) -> Result<(), Refusal> {
-        let optional = self.flags & OPTIONAL != 0;
-        Refusal::BadList.unless(optional && self.part_type < RESERVED_TYPES)
+    /// Whether a part that the member has not got is skipped: it has the
+    /// optional bit and a type that is not reserved.
+    pub fn is_skipped(&self) -> bool {
+        self.flags & OPTIONAL != 0 && self.part_type < RESERVED_TYPES
     }
 }

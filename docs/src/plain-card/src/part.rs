@@ -41,6 +41,17 @@ pub enum Part {
     QueueNotify(u8),
 }
 
+/// What can be wrong with the value of a part.
+#[derive(Clone, Copy, Debug, PartialEq, Eq)]
+pub enum Wrong {
+    /// It has not the length of the table.
+    Length,
+    /// It is that of a queue, with a size that no ring has.
+    QueueSize,
+    /// It is device features, and not those of the member.
+    Features,
+}
+
 /// Every part of a member with four queues, in the table's order.
 const TABLE: [Part; 15] = [
     Part::DeviceFeatures,
@@ -139,6 +150,20 @@ impl Part {
         match self {
             Part::Queue(_) => queue::allowed(value),
             _ => true,
+        }
+    }
+
+    /// What is wrong with a value that a list gives the part of a member with
+    /// these device features. Only one of the right length is looked at.
+    pub fn wrong(self, value: &[u8], features: &[u8; 16]) -> Option<Wrong> {
+        if value.len() != self.length() as usize {
+            Some(Wrong::Length)
+        } else if !self.allows(value) {
+            Some(Wrong::QueueSize)
+        } else if self == Part::DeviceFeatures && value != features {
+            Some(Wrong::Features)
+        } else {
+            None
         }
     }
 

@@ -3,12 +3,9 @@
 
 use std::collections::BTreeMap;
 
-use crate::list::{take_part, Header};
-use crate::part::{inventory, Part};
+use crate::list::{take_part, Header, LONGEST};
+use crate::part::{inventory, Part, Wrong};
 use crate::setup::Setup;
-
-/// The most bytes of a damaged list.
-pub const LONGEST: usize = 4_064;
 
 /// Why a part is dropped; the first cause that applies, in this order.
 #[derive(Clone, Copy, Debug, PartialEq, Eq)]
@@ -81,14 +78,12 @@ fn judge(
     kept: impl FnOnce(Part) -> bool,
 ) -> Result<Part, Cause> {
     let part = header.part(queues).ok_or(Cause::Unknown)?;
-    let allowed = || part != Part::DeviceFeatures || value == features;
     if kept(part) {
-        Err(Cause::Copy)
-    } else if header.length != part.length() {
-        Err(Cause::Size)
-    } else if !part.allows(value) || !allowed() {
-        Err(Cause::Value)
-    } else {
-        Ok(part)
+        return Err(Cause::Copy);
+    }
+    match part.wrong(value, features) {
+        None => Ok(part),
+        Some(Wrong::Length) => Err(Cause::Size),
+        Some(Wrong::QueueSize | Wrong::Features) => Err(Cause::Value),
     }
 }

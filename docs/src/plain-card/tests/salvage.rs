@@ -4,8 +4,9 @@ mod common;
 
 use common::{flagged, header, part, queue, set, status, stopped, OK};
 use plain_card::exported::{self, Report};
+use plain_card::list::LONGEST;
 use plain_card::part::{inventory, Part};
-use plain_card::salvage::{salvage, Salvaged, LONGEST};
+use plain_card::salvage::{salvage, Salvaged};
 use plain_card::setups;
 use plain_card::{Card, Setup};
 

@@ -1,7 +1,7 @@
 //! Random damaged captures to salvage, under a setup.
 
+use plain_card::list::LONGEST;
 use plain_card::part::{inventory, Part};
-use plain_card::salvage::LONGEST;
 use plain_card::Card;
 
 use super::card::any_setup;

@@ -4,9 +4,9 @@ use std::collections::BTreeMap;
 
 use plain_card::exported::{self, Report};
 use plain_card::frame::u32_at;
-use plain_card::list::Header;
+use plain_card::list::{Header, LONGEST};
 use plain_card::part::{inventory, Part, HEADER};
-use plain_card::salvage::{salvage, Cause, Salvaged, LONGEST};
+use plain_card::salvage::{salvage, Cause, Salvaged};
 use plain_card::{setups, Setup};
 
 use super::{fault, Fault, Outcome, Plant};

@@ -5,8 +5,7 @@
 
 use plain_card::figures::{judge, Cause, Figures};
 use plain_card::frame::u32_at;
-use plain_card::list::{take_part, Header};
-use plain_card::salvage::LONGEST;
+use plain_card::list::{take_part, Header, LONGEST};
 use plain_card::{setups, Setup};
 
 /// The length of a version 1 setup.
