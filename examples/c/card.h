@@ -1,4 +1,4 @@
-/* The card that boundary.c and events.c try their calls on. */
+/* The card that boundary.c, events.c and lists.c try their calls on. */
 #ifndef CARD_H
 #define CARD_H
 

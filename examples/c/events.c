@@ -218,12 +218,12 @@ static void try_setups(void)
 int main(int count, char **arguments)
 {
     take_no_arguments(count, arguments,
-                      "tries what kajurnat.h says of the other calls");
+                      "tries what kajurnat.h says of other calls");
     try_restore();
     try_stores();
     try_messages();
     try_setups();
-    printf("events: as kajurnat.h says of the other calls\n");
+    printf("events: as kajurnat.h says of other calls\n");
     expect(fflush(stdout) == 0, "the output is written");
     return EXIT_SUCCESS;
 }
