@@ -18,8 +18,8 @@ pub struct Setup {
     pub queues: Vec<u8>,
 }
 
-/// What a setup says of all members alike. A card keeps it as it is; a number of
-/// queues stands in the record of its member.
+/// What a setup says of all members alike. A card keeps it as it is; a queue
+/// count stands in the record of its member.
 #[derive(Clone, Debug, PartialEq, Eq)]
 pub struct Common {
     /// N, the number of members; they are identified 1 to N.
@@ -117,7 +117,7 @@ mod tests {
     }
 
     #[test]
-    fn there_is_a_number_of_queues_for_each_member() {
+    fn there_is_a_queue_count_for_each_member() {
         assert!(accepted(3, &[1, 4, 2], 1, 1));
         assert!(!accepted(3, &[1, 4], 1, 1) && !accepted(3, &[1, 4, 2, 1], 1, 1));
         for at in 0..3 {
