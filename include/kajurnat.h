@@ -717,7 +717,7 @@ enum {
     KAJURNAT_DIFFERENCE_BAD_SETUP = 1, /* or no such member */
     KAJURNAT_DIFFERENCE_BAD_FULL = 2,
     KAJURNAT_DIFFERENCE_BAD_LATER = 3,
-    KAJURNAT_DIFFERENCE_LACKS_PART = 4,   /* full, of the member's, any */
+    KAJURNAT_DIFFERENCE_LACKS_PART = 4,   /* the full capture, any one */
     KAJURNAT_DIFFERENCE_NO_SUCH_PART = 5, /* find alone */
     KAJURNAT_DIFFERENCE_SHORT_BUFFER = 6  /* merge alone */
 };
