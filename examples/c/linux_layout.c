@@ -59,16 +59,25 @@ SAME(KAJURNAT_OBJ_SET, VIRTIO_RESOURCE_OBJ_DEV_PARTS_TYPE_SET);
 
 SAME(8, offsetof(struct virtio_admin_cmd_dev_parts_metadata_data, type));
 SAME(16, sizeof(struct virtio_admin_cmd_dev_parts_metadata_data));
+SAME(KAJURNAT_METADATA_SIZE, VIRTIO_ADMIN_CMD_DEV_PARTS_METADATA_TYPE_SIZE);
+SAME(KAJURNAT_METADATA_COUNT, VIRTIO_ADMIN_CMD_DEV_PARTS_METADATA_TYPE_COUNT);
+SAME(KAJURNAT_METADATA_LIST, VIRTIO_ADMIN_CMD_DEV_PARTS_METADATA_TYPE_LIST);
+SAME(8, offsetof(struct virtio_admin_cmd_dev_parts_metadata_result,
+                 hdr_list.hdrs));
 SAME(8, offsetof(struct virtio_admin_cmd_dev_parts_get_data, type));
 SAME(16, sizeof(struct virtio_admin_cmd_dev_parts_get_data));
 SAME(8, sizeof(struct virtio_admin_cmd_dev_parts_set_data));
 SAME(1, sizeof(struct virtio_admin_cmd_dev_mode_set_data));
+SAME(KAJURNAT_PARTS_SELECTED, VIRTIO_ADMIN_CMD_DEV_PARTS_GET_TYPE_SELECTED);
 SAME(KAJURNAT_PARTS_ALL, VIRTIO_ADMIN_CMD_DEV_PARTS_GET_TYPE_ALL);
 SAME(KAJURNAT_MODE_STOP, 1 << VIRTIO_ADMIN_CMD_DEV_MODE_F_STOPPED);
 
 SAME(0, offsetof(struct virtio_dev_part_hdr, part_type));
 SAME(2, offsetof(struct virtio_dev_part_hdr, flags));
-SAME(4, offsetof(struct virtio_dev_part_hdr, selector));
+SAME(4, offsetof(struct virtio_dev_part_hdr, selector.pci_common_cfg.offset));
+SAME(4, LENGTH(virtio_dev_part_hdr, selector.pci_common_cfg.offset));
+SAME(4, offsetof(struct virtio_dev_part_hdr, selector.vq_index.index));
+SAME(2, LENGTH(virtio_dev_part_hdr, selector.vq_index.index));
 SAME(12, offsetof(struct virtio_dev_part_hdr, length));
 SAME(KAJURNAT_PART_HEADER_BYTES, sizeof(struct virtio_dev_part_hdr));
 SAME(KAJURNAT_PART_F_OPTIONAL, 1 << VIRTIO_DEV_PART_F_OPTIONAL);
