@@ -41,8 +41,7 @@
  *     there is none: for reads where it is const, for reads and writes where it
  *     is not. With length 0 any pointer will do, NULL too; nothing is read or
  *     written through it.
- *   - What a call writes, a buffer or a number, overlaps nothing else that it
- *     is given.
+ *   - The buffers of a call, and the numbers that it writes, do not overlap.
  *   - Until the call returns, nothing else writes to its buffers, and nothing
  *     else reads those that it writes. There is no lock inside: one call at a
  *     time for each card. Calls on different cards may run at once.
