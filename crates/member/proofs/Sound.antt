@@ -288,17 +288,17 @@ module _ (gets sets : ℕ) (features r : List ℕ) where
       pub all-low : allUpTo 2 os ≡ true
       all-low = rw eo (both _ _ (sym low-tested ∙ good .1) .0)
 
-      module _ (x : Bool) (ex : x ≡ soundFront r) where
-        pub bad-front : not x ≡ true → false ≡ soundRecord gets sets features r
-        bad-front j = rw (← steps, ← ex, not-true x j) (sym (false-and _))
+      module _ (held : ℕ) (g : held ≡ number heldAt 2 r) where
+        pub bad-held : 1 + holdingSize < held → false ≡ soundRecord gets sets features r
+        bad-held j = rw (← steps, ← g, lt-leb _ _ j) (simp (false-and, and-false))
 
         module _ (z : Bool) (ez : z ≡ queuesAllowed (getD r queuesAt 0) (bytesAt valuesAt valuesSize r)) where
           pub bad-queues : not z ≡ true → false ≡ soundRecord gets sets features r
           bad-queues j = rw (← steps, ← ez, not-true z j) (simp and-false)
 
-          module _ (held : ℕ) (g : held ≡ number heldAt 2 r) where
-            pub bad-held : 1 + holdingSize < held → false ≡ soundRecord gets sets features r
-            bad-held j = rw (← steps, ← g, lt-leb _ _ j) (simp (false-and, and-false))
+          module _ (x : Bool) (ex : x ≡ soundFront r) where
+            pub bad-front : not x ≡ true → false ≡ soundRecord gets sets features r
+            bad-front j = rw (← steps, ← ex, not-true x j) (sym (false-and _))
 
             pub limits-last : not x ≡ false → not z ≡ false → held ≤ 1 + holdingSize → (b : Bool) → b ≡ withinLimits gets sets os
                 → b ≡ soundRecord gets sets features r

@@ -284,13 +284,13 @@ pub fn is_sound_record(bytes: &[u8], gets: u8, sets: u8, most: &[u8], features: 
     if !(kept & low) {
         return false;
     }
-    if !is_front_sound(bytes) {
+    if HELD_MOST < wire::read_u16(bytes, HELD_AT) {
         return false;
     }
     if !inventory::are_queues_allowed(bytes[QUEUES_AT], &bytes[VALUES_AT..MEMBER_SIZE]) {
         return false;
     }
-    if HELD_MOST < wire::read_u16(bytes, HELD_AT) {
+    if !is_front_sound(bytes) {
         return false;
     }
     objects::is_within_limits(&bytes[OBJECTS_AT..HELD_AT], gets, sets)

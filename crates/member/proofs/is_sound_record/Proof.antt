@@ -22,6 +22,6 @@ is-sound-record-spec =
     tie.close
     (tie.spec (λ c. search needs) (λ c. search needs) (λ c. search needs) (λ c κs. search needs)
     (λ c. search needs) (λ c. search needs) (λ c. search needs) (λ c κs. (search (needs, length-most), search needs))
-    (λ c. search (needs, bad-vectors)) (λ c κs. search needs) (λ c. search (needs, bad-front)) (λ c. search needs)
-    (λ c. search needs) (λ c. search needs) (λ c. search needs) (λ c κs. search needs) (λ c. search (needs, bad-queues)) (λ c κs. search needs) (λ c. search (needs, bad-held))
+    (λ c. search (needs, bad-vectors)) (λ c κs. search needs) (λ c. search (needs, bad-held)) (λ c. search needs)
+    (λ c. search needs) (λ c. search needs) (λ c. search needs) (λ c κs. search needs) (λ c. search (needs, bad-queues)) (λ c κs. search needs) (λ c. search (needs, bad-front))
     (λ c. search needs) (λ c. search needs) (λ c. search needs) is-within-limits-requires (λ c. search (needs, limits-last)))
