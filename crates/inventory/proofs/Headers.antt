@@ -10,7 +10,7 @@ use lib.ListN.{getD}
 use Rattle.theory.specs.Logic.{indicator}
 use Rattle.theory.specs.Bytes.{put}
 use Rattle.theory.proofs.Tests.{bool-byte, indicator-le}
-use Rattle.theory.proofs.Bytes.{put-append}
+use Rattle.theory.proofs.Bytes.{put-append, put-comm}
 use Rattle.wire.specs.Le.{bytes, number}
 use Rattle.wire.proofs.Le.{le-bytes, bytes-append}
 use Rattle.inventory.specs.Inventory.{row, rowAt, rowCount, deviceFeatures}
@@ -47,10 +47,12 @@ module _ (t s n : ℕ) (h : t < 2 ^ 16) (k : s < 2 ^ 32) where
   header-is = rw (first-word, second-word, selector-wide) (simp append-assoc)
 
   pub header-put : (at : ℕ) (out out₁ out₂ : List ℕ) (w : ℕ) → w ≡ t + 2 ^ 16 * (flags + 2 ^ 16 * s)
-      → out₁ ≡ put at (bytes 8 w) out → out₂ ≡ put (at + 8) (bytes 8 (2 ^ 32 * n)) out₁ → out₂ ≡ put at (headerOf (row t s n)) out
+      → out₁ ≡ put (at + 8) (bytes 8 (2 ^ 32 * n)) out → out₂ ≡ put at (bytes 8 w) out₁ → out₂ ≡ put at (headerOf (row t s n)) out
   unfolding bytes
   header-put at out out₁ out₂ w e p q =
-      q ∙ rw (p, e, ← header-is) (sym (put-append at (bytes 8 (t + 2 ^ 16 * (flags + 2 ^ 16 * s))) (bytes 8 (2 ^ 32 * n)) out))
+      let x = bytes 8 (t + 2 ^ 16 * (flags + 2 ^ 16 * s)) in
+      let y = bytes 8 (2 ^ 32 * n) in
+      q ∙ rw (p, e, ← header-is) (put-comm at x (at + 8) y out (omega arith) ∙ sym (put-append at x y out))
 
 -- ---- read back from the front of a list ----
 

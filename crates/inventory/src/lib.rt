@@ -218,13 +218,13 @@ fn first_word(row_type: u16, row_selector: u32) -> u64
     row_type as u64 + TWO_BYTES * (flags + TWO_BYTES * (row_selector as u64))
 }
 
-// The header of a row's part, written at a place: two words, which are two stores.
+// The header of a row's part, written at a place: two words, the second first, since the compiler then needs fewer stores.
 pub fn write_header(out: &mut [u8], at: usize, row_type: u16, row_selector: u32, size: u8)
     requires { ⌜ at + headerSize ≤ length (now out) ⌝ }
     ensures { λ _. ⌜ now (out .exit) ≡ put at (headerOf (row «row_type» «row_selector» size)) (now (out .entry)) ⌝ }
 {
-    wire::write(out, at, 8, first_word(row_type, row_selector));
     wire::write(out, at + 8, 8, FOUR_BYTES * (size as u64));
+    wire::write(out, at, 8, first_word(row_type, row_selector));
 }
 
 // The number of parts that a member with so many queues has.

@@ -1,4 +1,4 @@
--- `inventory::write_header` meets its contract: one word, then the other. Assumes nothing.
+-- `inventory::write_header` meets its contract: the second word, then the first. Assumes nothing.
 use borrow.Author.Needs.{needs}
 use Rattle.inventory.proofs.Headers.{header-put}
 use Rattle.inventory.proofs.write_header.Statement.{statement}
@@ -7,5 +7,5 @@ use Rattle.inventory.proofs.write_header.Tie as tie
 pub write-header-spec : {M : Type 1} → statement M
 write-header-spec =
     tie.close
-    (tie.spec (λ c κs. search needs) (λ c κs. search needs) (λ c. search needs) (λ c. search needs) (λ c κs. search needs)
+    (tie.spec (λ c. search needs) (λ c. search needs) (λ c κs. search needs) (λ c κs. search needs) (λ c κs. search needs)
     (λ c. search needs) (λ c. search (needs, header-put)))
