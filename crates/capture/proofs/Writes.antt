@@ -12,7 +12,7 @@ use lib.Dec.{leb}
 use lib.ListN.{length, getD, take, drop, length-append}
 use Rattle.theory.specs.Logic.{if_then_else_}
 use Rattle.theory.specs.Bytes.{bytesAt, put}
-use Rattle.theory.proofs.Bytes.{put-append, bytesAt-put-as, length-bytesAt}
+use Rattle.theory.proofs.Bytes.{put-comm, put-append, bytesAt-put-as, length-bytesAt}
 use Rattle.theory.proofs.Items.{Written, written-room, written-next, written-skip}
 use Rattle.inventory.specs.Inventory.{Row, row, rowAt, rowCount, present, valuesSize}
 use Rattle.inventory.specs.Header.{headerOf, headerSize}
@@ -24,7 +24,7 @@ use Rattle.capture.proofs.Sizes.{itemSize, size-most}
 
 -- ---- one part ----
 
--- the value in the array that it goes through, and the header, then the value
+-- the value in the array that it goes through, and the value, then the header
 module _ (from n : ℕ) (v : List ℕ) (h : from + n ≤ length v) (value z : List ℕ) (e : value ≡ put 0 (take (from + n - from) (drop from v)) z) where
   value-is : value ≡ put 0 (bytesAt from n v) z
   value-is = e ∙ rw add-sub-cancel-left
@@ -33,12 +33,14 @@ module _ (from n : ℕ) (v : List ℕ) (h : from + n ≤ length v) (value z : Li
   value-back l = rw (value-is, sub-zero) (bytesAt-put-as 0 n (bytesAt from n v) z (length-bytesAt from n v h) (omega arith))
 
   pub wrote-part : (at t s : ℕ) (out out₁ out₂ : List ℕ) → n ≤ length z
-      → out₁ ≡ put at (headerOf (row t s n)) out → out₂ ≡ put (at + headerSize) (take (n - 0) (drop 0 value)) out₁
+      → out₁ ≡ put (at + headerSize) (take (n - 0) (drop 0 value)) out → out₂ ≡ put at (headerOf (row t s n)) out₁
       → Wrote (headerOf (row t s n) ++ bytesAt from n v) at out out₂ (at + headerSize + n)
   wrote-part at t s out out₁ out₂ l p q =
       let k = length-header (row t s n) in
       record {
-        buffer = q ∙ rw (value-back l, p, ← k) (sym (put-append at (headerOf (row t s n)) (bytesAt from n v) out));
+        buffer =
+            q ∙ rw (p, value-back l, ← k)
+            (put-comm at (headerOf (row t s n)) _ (bytesAt from n v) out (omega arith) ∙ sym (put-append at (headerOf (row t s n)) (bytesAt from n v) out));
         place = rw (length-append, k, length-bytesAt from n v h) (omega arith);
       }
 

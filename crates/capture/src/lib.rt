@@ -66,12 +66,12 @@ fn write_part(
     requires { ⌜ (size ≤ largestValue) × (offset + size ≤ length (now values)) × (at + (headerSize + size) ≤ length (now out)) ⌝ }
     ensures { λ r. ⌜ Wrote (headerOf (row «row_type» «row_selector» size) ++ bytesAt offset size (now (values .entry))) at (now (out .entry)) (now (out .exit)) r ⌝ }
 {
-    inventory::write_header(out, at, row_type, row_selector, size);
     let from = offset as usize;
     let len = size as usize;
     let mut value = [0u8; LARGEST_VALUE];
     wire::copy(&mut value, 0, &values[from..from + len]);
     wire::copy(out, at + HEADER_SIZE, &value[0..len]);
+    inventory::write_header(out, at, row_type, row_selector, size);
     at + HEADER_SIZE + len
 }
 
