@@ -13,7 +13,7 @@ use Rattle.wire.specs.Le.{bytes, number}
 use Rattle.wire.proofs.Le.{length-bytes}
 use Rattle.member.specs.Record.{holdingSize, memberOf}
 use Rattle.card.specs.Layout.{configurationAt, configurationSize, generationAt, generationSize, holdingAt, recordSize, setupOf, inUseOf, recordAt, HasRecord, recordBytes, withRecordBytes, memberBytesIn, memberIn, configurationIn, generationIn, withConfiguration, noConfiguration, holdingIn}
-use Rattle.card.proofs.LayoutLaws.{length-with-bytes, setup-with-bytes, use-with-bytes, bytes-after, bytes-behind, bytes-other, bytes-long}
+use Rattle.card.proofs.RecordBytesLaws.{length-with-bytes, setup-with-bytes, use-with-bytes, bytes-after, bytes-behind, bytes-other, bytes-long}
 
 -- the two together
 abbrev bothSize : ℕ

@@ -9,8 +9,8 @@ use native.Mathlib.Nat.{add-zero}
 use native.Mathlib.Omega.{arith}
 use borrow.Author.Tests.{eqb-true, eqb-false, eq-eqb}
 use lib.Dec.{eqb}
-use lib.ListN.{length, getD, take, length-take}
-use lib.Seq.{getD-take, ext-getD}
+use lib.ListN.{length, getD}
+use lib.Seq.{ext-getD}
 use Rattle.theory.proofs.Tests.{by-cases, both, and-i, inside}
 use Rattle.member.specs.declared.Member.{Member}
 use Rattle.member.specs.Record.{queuesAt, memberSize, memberOf, memberBytes}
@@ -18,21 +18,20 @@ use Rattle.member.specs.Member.{featuresSize, freshOf}
 use Rattle.member.proofs.Record.{fresh-shaped, member-back}
 use Rattle.setups.specs.Setup.{all, isCount, inNumbers}
 use Rattle.card.specs.declared.Setup.{Setup}
-use Rattle.card.specs.Layout.{memberBytesAt, configurationAt, recordSize, setupOf, withInUse, isMember, recordAt, HasRecord, recordBytes, withRecordBytes, memberIn, withMember, countsFrom, countsOf, freshCard}
+use Rattle.card.specs.Layout.{memberBytesAt, configurationAt, recordSize, setupOf, withInUse, isMember, HasRecord, withRecordBytes, memberIn, withMember, countsFrom, countsOf, freshCard}
 use Rattle.card.specs.Sound.{soundSetup}
-use Rattle.card.proofs.LayoutLaws.{bytes-other, bytes-behind, bytes-with-use, member-other, setup-fresh, member-bytes-fresh}
-use Rattle.card.proofs.MarkLaws.{byte-put}
+use Rattle.card.proofs.RecordBytesLaws.{bytes-other, bytes-behind}
+use Rattle.card.proofs.HeaderLaws.{bytes-with-use}
+use Rattle.card.proofs.MemberLaws.{member-byte, member-other}
+use Rattle.card.proofs.FreshLaws.{setup-fresh, member-bytes-fresh}
 use Rattle.card.proofs.SoundLaws.{Sound, numbers-sound, sound-member-in}
 
 -- ---- one member's ----
 
 -- a member that is put has the count that it says
 pub count-put : (c : List ℕ) (m : ℕ) (x : Member) → HasRecord c m → memberIn (withMember c m x) m .queues ≡ x .queues
-unfolding memberIn memberOf withMember recordBytes withRecordBytes memberBytes
-count-put c m x h =
-    let n = length-take memberSize (memberBytes x) in
-    byte-put (recordAt m + memberBytesAt) memberSize queuesAt (take memberSize (memberBytes x)) c (omega arith) (omega arith) (omega (arith, h .high))
-    ∙ getD-take memberSize (memberBytes x) queuesAt 0 (omega arith)
+unfolding memberIn memberOf memberBytes
+count-put c m x h = member-byte c m x queuesAt h (omega arith) (omega arith)
 
 module _ (c : List ℕ) (m at n : ℕ) (x : List ℕ) (i : at + n ≤ recordSize) (l : 1 ≤ m) (k : ℕ) (h : 1 ≤ k) where
   -- no other record's bytes count

@@ -1,5 +1,9 @@
-pub mod LayoutLaws
+pub mod RecordBytesLaws
+pub mod HeaderLaws
+pub mod MemberLaws
 pub mod ConfigurationLaws
+pub mod RecordLaws
+pub mod FreshLaws
 pub mod MarkLaws
 pub mod SoundLaws
 pub mod CountLaws

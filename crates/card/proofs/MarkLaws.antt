@@ -3,21 +3,21 @@ use mathlib.Core.Path.{_≡_, ap, sym, _∙_}
 use mathlib.Core.Logic.{_≢_}
 use mathlib.Core.Bool.{Bool, true, false, not}
 use mathlib.Core.List.{List}
-use Prim.Native.Nat.{ℕ, _+_, _≤_, _<_}
+use Prim.Native.Nat.{ℕ, _+_, _≤_}
 use native.Mathlib.Omega.{arith}
 use borrow.Author.Tests.{not-true, not-false, eqb-true, eqb-false}
 use lib.Dec.{eqb}
-use lib.ListN.{length, getD, take, length-take}
-use lib.Seq.{getD-take}
+use lib.ListN.{length}
 use Rattle.theory.specs.Logic.{_and_}
-use Rattle.theory.specs.Bytes.{bytesAt, put}
 use Rattle.theory.proofs.Tests.{by-cases, within-low, within-high}
-use Rattle.theory.proofs.Bytes.{bytesAt-put, getD-bytesAt}
 use Rattle.member.specs.declared.Member.{Member}
 use Rattle.member.specs.Record.{markAt, memberSize, memberOf, memberBytes}
 use Rattle.member.proofs.Record.{Shaped, mark-back}
-use Rattle.card.specs.Layout.{cardHeaderSize, memberBytesAt, configurationAt, recordSize, cardSize, setupOf, withInUse, isMember, recordAt, HasRecord, recordBytes, withRecordBytes, memberBytesIn, memberIn, withMember, isMarked, withRecord}
-use Rattle.card.proofs.LayoutLaws.{has-record, setup-with-bytes, bytes-other, bytes-behind, setup-with-use, bytes-with-use, setup-with-member, member-other, setup-with-record, member-with-record}
+use Rattle.card.specs.Layout.{memberBytesAt, configurationAt, recordSize, cardSize, setupOf, withInUse, isMember, HasRecord, withRecordBytes, memberBytesIn, memberIn, withMember, isMarked, withRecord}
+use Rattle.card.proofs.RecordBytesLaws.{has-record, setup-with-bytes, bytes-other, bytes-behind}
+use Rattle.card.proofs.HeaderLaws.{setup-with-use, bytes-with-use}
+use Rattle.card.proofs.MemberLaws.{member-byte, setup-with-member, member-other}
+use Rattle.card.proofs.RecordLaws.{setup-with-record, member-with-record}
 
 -- of a member of the card
 pub marked-is : (c : List ℕ) (m : ℕ) → isMember c m ≡ true → isMarked c m ≡ memberIn c m .marked
@@ -30,20 +30,10 @@ pub mark-alike : (c d : List ℕ) (m : ℕ) → setupOf d ≡ setupOf c → (isM
 unfolding isMarked _and_
 mark-alike c d m e f = rw e (by-cases (isMember c m) (λ t. rw (t, f t)) (λ t. rw t))
 
--- a byte of what is put is there
-pub byte-put : (a n i : ℕ) (y c : List ℕ) → i < n → i < length y → a + length y ≤ length c → getD (bytesAt a n (put a y c)) i 0 ≡ getD y i 0
-byte-put a n i y c h k l =
-    getD-bytesAt a n i (put a y c) h ∙ sym (getD-bytesAt a (length y) i (put a y c) k) ∙ ap (λ z. getD z i 0) (bytesAt-put a y c l)
-
 -- a member that is put is marked as it says
 pub mark-put : (c : List ℕ) (m : ℕ) (x : Member) → HasRecord c m → memberIn (withMember c m x) m .marked ≡ x .marked
-unfolding memberIn memberOf withMember recordBytes withRecordBytes memberBytes
-mark-put c m x h =
-    let n = length-take memberSize (memberBytes x) in
-    ap (λ v. eqb v 1)
-    (byte-put (recordAt m + memberBytesAt) memberSize markAt (take memberSize (memberBytes x)) c (omega arith) (omega arith) (omega (arith, h .high))
-    ∙ getD-take memberSize (memberBytes x) markAt 0 (omega arith))
-    ∙ mark-back (x .marked)
+unfolding memberIn memberOf memberBytes
+mark-put c m x h = ap (λ v. eqb v 1) (member-byte c m x markAt h (omega arith) (omega arith)) ∙ mark-back (x .marked)
 
 -- no other record's bytes count
 pub mark-other : (c : List ℕ) (m at n : ℕ) (x : List ℕ) → at + n ≤ recordSize → 1 ≤ m → (k : ℕ) → 1 ≤ k → k ≢ m
@@ -99,6 +89,3 @@ module _ (c : List ℕ) (m : ℕ) (b : Bool) (e : b ≡ isMember c m) where
     pub mark-read : (t : Bool) (r : List ℕ) → r ≡ memberBytesIn c m → t ≡ memberOf r .marked → t ≡ isMarked c m
     unfolding memberIn
     mark-read t r p q = q ∙ rw p (sym (marked-is c m there))
-
-pub head-there : (c : List ℕ) → length c ≡ cardSize (setupOf c .members) → cardHeaderSize ≤ length c
-head-there c e = omega arith

@@ -24,7 +24,8 @@ use Rattle.card.specs.declared.Setup.{Setup}
 use Rattle.card.specs.Layout.{featuresAt, cardHeaderSize, memberBytesAt, recordSize, cardSize, setupOf, isMember, recordAt, HasRecord, recordBytes, memberBytesIn, memberIn}
 use Rattle.setups.specs.Setup.{inRanges}
 use Rattle.card.specs.Sound.{soundSetup, IsMost, soundFor, soundUpTo}
-use Rattle.card.proofs.LayoutLaws.{bytes-long, setup-read, members-read, gets-read, sets-read, features-read}
+use Rattle.card.proofs.RecordBytesLaws.{bytes-long}
+use Rattle.card.proofs.HeaderLaws.{setup-read, members-read, gets-read, sets-read, features-read}
 use Rattle.card.proofs.SoundLaws.{numbers-of}
 
 -- ---- the header ----

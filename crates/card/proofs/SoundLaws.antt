@@ -20,7 +20,11 @@ use Rattle.setups.proofs.Ranges.{all-at}
 use Rattle.card.specs.declared.Setup.{Setup}
 use Rattle.card.specs.Layout.{cardHeaderSize, memberBytesAt, recordSize, cardSize, setupOf, inUseOf, isMember, HasRecord, withRecordBytes, memberBytesIn, withInUse, memberIn, withMember, withConfiguration, withHolding, recordOf, withRecord, withFresh, freshCard}
 use Rattle.card.specs.Sound.{soundSetup, soundFor, soundUpTo, isSound}
-use Rattle.card.proofs.LayoutLaws.{has-record, bytes-long, length-with-bytes, setup-with-bytes, use-with-bytes, bytes-same, bytes-other, length-with-use, setup-with-use, bytes-with-use, use-same, features-long, length-fresh, setup-fresh, use-fresh, member-bytes-fresh, record-bytes, member-bytes-with-record, length-with-holding, setup-with-holding, use-with-holding, bytes-with-holding}
+use Rattle.card.proofs.RecordBytesLaws.{has-record, bytes-long, length-with-bytes, setup-with-bytes, use-with-bytes, bytes-same, bytes-other}
+use Rattle.card.proofs.HeaderLaws.{length-with-use, setup-with-use, bytes-with-use, use-same, features-long}
+use Rattle.card.proofs.MemberLaws.{length-with-holding, setup-with-holding, use-with-holding, bytes-with-holding}
+use Rattle.card.proofs.RecordLaws.{record-bytes, member-bytes-with-record}
+use Rattle.card.proofs.FreshLaws.{length-fresh, setup-fresh, use-fresh, member-bytes-fresh}
 use Rattle.card.proofs.ConfigurationLaws.{length-with-configuration, setup-with-configuration, use-with-configuration, bytes-with-configuration}
 
 -- ---- the test, as facts, and back ----

@@ -1,4 +1,5 @@
--- What a store of a member comes to. Assumes nothing.
+-- What code leaves that writes a member, a whole record, or the bytes of a holding place. Each law is in the form in which a
+-- need asks it. Assumes nothing.
 use mathlib.Core.Path.{_≡_, ap, sym, _∙_}
 use mathlib.Core.List.{List}
 use Prim.Native.Nat.{ℕ, _+_, _-_, _≤_}
@@ -14,7 +15,8 @@ use Rattle.member.specs.Record.{memberSize, holdingSize, memberBytes}
 use Rattle.member.specs.Member.{freshOf}
 use Rattle.member.proofs.Record.{Shaped}
 use Rattle.card.specs.Layout.{memberBytesAt, holdingAt, recordAt, HasRecord, recordBytes, withRecordBytes, memberIn, withMember, withConfiguration, noConfiguration, holdingIn, withHolding, noBytes, withRecord, withFresh}
-use Rattle.card.proofs.LayoutLaws.{bytes-lent, record-in-three}
+use Rattle.card.proofs.RecordBytesLaws.{bytes-lent}
+use Rattle.card.proofs.RecordLaws.{record-in-three}
 
 -- the place of a member's bytes was lent and came back as `last`, as long as it was
 pub member-saved : (c : List ℕ) (m at : ℕ) (x : Member) (last : List ℕ) → at ≡ recordAt m → HasRecord c m → last ≡ memberBytes x

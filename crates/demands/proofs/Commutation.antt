@@ -12,7 +12,8 @@ use Rattle.theory.proofs.Tests.{by-cases, both, and-false, below}
 use Rattle.theory.proofs.Commuting.{Commute, commute-sym, swappable, after-hidden, commute-by-masks}
 use Rattle.card.specs.Layout.{recordSize, setupOf, isMember, recordBytes, withRecordBytes}
 use Rattle.card.specs.Sound.{isSound}
-use Rattle.card.proofs.LayoutLaws.{bytes-back, bytes-long, bytes-over, record-bytes, record-apart, setup-with-record}
+use Rattle.card.proofs.RecordBytesLaws.{bytes-back, bytes-long, bytes-over}
+use Rattle.card.proofs.RecordLaws.{record-bytes, record-apart, setup-with-record}
 use Rattle.card.proofs.SoundLaws.{sound-of, sound-has}
 use Rattle.frame.specs.Frame.{targetOf}
 use Rattle.demands.specs.Calls.{Call, command, handBack, wipe, cardReset, cardStore, restoreBegin, restoreFeed, restoreFinish, restoreDrop, message, step, names}

@@ -12,7 +12,8 @@ use Rattle.protocol.specs.declared.EventAnswer.{EventAnswer}
 use Rattle.member.specs.declared.Member.{Member}
 use Rattle.member.specs.Record.{memberSize, holdingSize, memberBytes}
 use Rattle.card.specs.Layout.{memberBytesAt, configurationAt, configurationSize, generationAt, generationSize, holdingAt, isMember, recordBytes, withInUse, withMember, configurationIn, generationIn, withHolding, noBytes}
-use Rattle.card.proofs.LayoutLaws.{bytes-before, bytes-after, bytes-other, bytes-with-use}
+use Rattle.card.proofs.RecordBytesLaws.{bytes-before, bytes-after, bytes-other}
+use Rattle.card.proofs.HeaderLaws.{bytes-with-use}
 use Rattle.events.specs.Events.{withHandedBack, handBack as handBackOf, storeIn, store}
 use Rattle.events.proofs.Cases.{if-done-cases, on-member-cases}
 use Rattle.frame.specs.declared.Ask.{Ask}

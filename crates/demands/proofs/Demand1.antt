@@ -17,7 +17,8 @@ use Rattle.protocol.specs.declared.EventAnswer.the-variants.{Done}
 use Rattle.protocol.specs.Answers.{isDone, eventNumber}
 use Rattle.card.specs.Layout.{setupOf, countsOf}
 use Rattle.card.specs.Sound.{isSound}
-use Rattle.card.proofs.LayoutLaws.{members-read, setup-fresh}
+use Rattle.card.proofs.HeaderLaws.{members-read}
+use Rattle.card.proofs.FreshLaws.{setup-fresh}
 use Rattle.card.proofs.CountLaws.{counts-fresh}
 use Rattle.card.proofs.SoundLaws.{sound-of, is-sound, sound-fresh-card}
 use Rattle.events.specs.Events.{setupWith, setUp, refusedSetup}

@@ -21,7 +21,8 @@ use Rattle.member.specs.Record.{memberSize, holdingSize, memberBytes}
 use Rattle.member.specs.Member.{handedBack}
 use Rattle.card.specs.Layout.{memberBytesAt, holdingAt, setupOf, inUseOf, isMember, memberIn, withMember, isMarked, withHolding, noBytes, withFresh, withRecord}
 use Rattle.card.specs.Sound.{isSound}
-use Rattle.card.proofs.LayoutLaws.{features-long, record-over}
+use Rattle.card.proofs.HeaderLaws.{features-long}
+use Rattle.card.proofs.RecordLaws.{record-over}
 use Rattle.card.proofs.SoundLaws.{sound-of, sound-long}
 use Rattle.events.specs.Events.{withHandedBack, handBack as handBackOf, wipe as wipeOf, resetMember}
 use Rattle.events.proofs.Cases.{on-sound}

@@ -18,7 +18,9 @@ use Rattle.member.proofs.Sound.{sound-part}
 use Rattle.changes.specs.Changes.{changeOf}
 use Rattle.changes.proofs.Kept.{change-cases, change-sound}
 use Rattle.card.specs.Layout.{memberBytesAt, holdingAt, setupOf, isMember, memberIn, withMember, holdingIn, withInUse}
-use Rattle.card.proofs.LayoutLaws.{bytes-other, bytes-with-use, member-same, holding-with-member}
+use Rattle.card.proofs.RecordBytesLaws.{bytes-other}
+use Rattle.card.proofs.HeaderLaws.{bytes-with-use}
+use Rattle.card.proofs.MemberLaws.{member-same, holding-with-member}
 use Rattle.card.proofs.SoundLaws.{Sound, SoundIn, sound-of, sound-has, sound-member-in}
 use Rattle.events.specs.Events.{storeIn, store}
 use Rattle.events.proofs.Cases.{if-done-cases, on-member-cases}

@@ -25,7 +25,7 @@ use Rattle.changes.specs.declared.Changed.{Changed}
 use Rattle.changes.specs.Changes.{refuse, setPartsOf, changeOf}
 use Rattle.changes.proofs.Kept.{change-sound}
 use Rattle.card.specs.Layout.{inUseAt, memberBytesAt, holdingAt, recordSize, setupOf, recordAt, withInUse, withRecordBytes, memberIn, withMember, withHolding, noBytes, withRecord}
-use Rattle.card.proofs.LayoutLaws.{member-same}
+use Rattle.card.proofs.MemberLaws.{member-same}
 use Rattle.events.proofs.Cases.{on-member-cases}
 use Rattle.card.proofs.SoundLaws.{Sound, sound-of, sound-has, sound-member-in}
 use Rattle.events.specs.Events.{withHandedBack, handBack, wipe}

@@ -16,7 +16,8 @@ use Rattle.member.specs.Member.{freshOf}
 use Rattle.member.proofs.Record.{Shaped, fresh-shaped}
 use Rattle.card.specs.Layout.{cardSize, setupOf, isMember, memberIn, isMarked, withFresh}
 use Rattle.card.specs.Sound.{isSound}
-use Rattle.card.proofs.LayoutLaws.{features-long, same-setup, setup-with-record, record-eq}
+use Rattle.card.proofs.HeaderLaws.{features-long, same-setup}
+use Rattle.card.proofs.RecordLaws.{setup-with-record, record-eq}
 use Rattle.card.proofs.SoundLaws.{sound-of, sound-has}
 use Rattle.events.specs.Events.{handBack as handBackOf, wipe as wipeOf, resetCard, store}
 use Rattle.events.proofs.Cases.{on-sound}

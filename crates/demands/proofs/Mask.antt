@@ -19,7 +19,10 @@ use Rattle.member.proofs.Record.{Shaped, fresh-shaped}
 use Rattle.member.proofs.Sound.{SoundMember, sound-fresh, sound-handed-back}
 use Rattle.card.specs.Layout.{memberBytesAt, holdingAt, recordSize, cardSize, setupOf, withInUse, isMember, withRecordBytes, memberIn, withMember, countsOf, isMarked, withHolding, noBytes, recordOf, withRecord}
 use Rattle.card.specs.Sound.{isSound}
-use Rattle.card.proofs.LayoutLaws.{has-record, features-long, setup-with-bytes, length-with-use, setup-with-use, length-with-member, setup-with-member, length-with-holding, setup-with-holding, record-bytes, length-with-record, setup-with-record, use-with-record, record-other, record-swap, record-use, record-none, record-over, record-again, member-with-record}
+use Rattle.card.proofs.RecordBytesLaws.{has-record, setup-with-bytes}
+use Rattle.card.proofs.HeaderLaws.{features-long, length-with-use, setup-with-use}
+use Rattle.card.proofs.MemberLaws.{length-with-member, setup-with-member, length-with-holding, setup-with-holding}
+use Rattle.card.proofs.RecordLaws.{record-bytes, length-with-record, setup-with-record, use-with-record, record-other, record-swap, record-use, record-none, record-over, record-again, member-with-record}
 use Rattle.card.proofs.MarkLaws.{marked-is, mark-alike, mark-put, mark-other, mark-behind, mark-with-use, mark-with-record}
 use Rattle.card.proofs.CountLaws.{count-put, count-other, count-behind, count-with-use, counts-same}
 use Rattle.card.proofs.SoundLaws.{sound-of, is-sound, sound-member-in, sound-with-record}

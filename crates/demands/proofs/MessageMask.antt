@@ -13,7 +13,8 @@ use Rattle.theory.proofs.Tests.{by-cases}
 use Rattle.wire.specs.Le.{le}
 use Rattle.card.specs.Layout.{configurationAt, configurationSize, generationAt, generationSize, cardSize, setupOf, withRecordBytes, configurationIn, generationIn, withConfiguration}
 use Rattle.card.specs.Sound.{isSound}
-use Rattle.card.proofs.LayoutLaws.{length-with-bytes, setup-with-bytes, setup-with-record, record-apart}
+use Rattle.card.proofs.RecordBytesLaws.{length-with-bytes, setup-with-bytes}
+use Rattle.card.proofs.RecordLaws.{setup-with-record, record-apart}
 use Rattle.message.specs.declared.Access.{Access}
 use Rattle.message.specs.declared.Access.the-variants.{Nothing, Read, Write}
 use Rattle.message.specs.Format.{memberFor}

@@ -19,7 +19,7 @@ use Rattle.member.specs.Member.{withHeld}
 use Rattle.changes.proofs.Kept.{change-marked, change-queues}
 use Rattle.card.specs.Layout.{memberBytesAt, configurationAt, configurationSize, generationSize, holdingAt, recordSize, cardSize, setupOf, isMember, HasRecord, withRecordBytes, memberIn, withMember, isMarked, withConfiguration, withHolding, noBytes}
 use Rattle.card.specs.Sound.{isSound}
-use Rattle.card.proofs.LayoutLaws.{length-with-bytes, setup-with-bytes}
+use Rattle.card.proofs.RecordBytesLaws.{length-with-bytes, setup-with-bytes}
 use Rattle.card.proofs.MarkLaws.{mark-with-member, mark-behind}
 use Rattle.card.proofs.CountLaws.{count-with-member, count-behind}
 use Rattle.card.proofs.SoundLaws.{Sound, sound-of, sound-has, member-small}

@@ -21,7 +21,8 @@ use Rattle.setups.proofs.Ranges.{numbers-in}
 use Rattle.setups.proofs.InRange.{take-sixteen}
 use Rattle.setups.proofs.Claims.{claims}
 use Rattle.card.specs.Layout.{configurationAt, configurationSize, generationSize, holdingAt, setupOf, isMember, HasRecord, memberIn, withMember, withConfiguration, countsOf, withHolding, noBytes, withFresh, freshCard}
-use Rattle.card.proofs.LayoutLaws.{features-long, record-other, member-with-record}
+use Rattle.card.proofs.HeaderLaws.{features-long}
+use Rattle.card.proofs.RecordLaws.{record-other, member-with-record}
 use Rattle.card.proofs.CountLaws.{count-behind, count-with-use, count-with-member, counts-long, counts-at, count-fresh}
 use Rattle.card.proofs.SoundLaws.{Sound, sound-of, sound-long, sound-has}
 use Rattle.events.specs.Events.{setUpOf, setUpFrom, withHandedBack, handBack as handBackOf, wipe as wipeOf, resetCard, storeIn, store}

@@ -16,7 +16,8 @@ use Rattle.member.specs.Record.{holdingSize}
 use Rattle.member.specs.Member.{withHeld}
 use Rattle.card.specs.Layout.{holdingAt, cardSize, setupOf, isMember, memberIn, withMember, isMarked, holdingIn, withHolding, noBytes}
 use Rattle.card.specs.Sound.{isSound}
-use Rattle.card.proofs.LayoutLaws.{length-with-member, setup-with-member, length-with-holding, setup-with-holding, setup-with-record, record-other, record-apart}
+use Rattle.card.proofs.MemberLaws.{length-with-member, setup-with-member, length-with-holding, setup-with-holding}
+use Rattle.card.proofs.RecordLaws.{setup-with-record, record-other, record-apart}
 use Rattle.card.proofs.SoundLaws.{member-small}
 use Rattle.host.specs.Request.{setParts}
 use Rattle.reply.specs.Reply.{headSize}

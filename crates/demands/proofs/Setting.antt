@@ -30,7 +30,7 @@ use Rattle.changes.proofs.Allowed.{accepted-allowed}
 use Rattle.reads.specs.Reads.{throughGet}
 use Rattle.card.specs.Layout.{setupOf, inUseOf, isMember, memberIn, withMember, isMarked}
 use Rattle.card.specs.Sound.{isSound}
-use Rattle.card.proofs.LayoutLaws.{setup-with-member, use-with-member, member-same}
+use Rattle.card.proofs.MemberLaws.{setup-with-member, use-with-member, member-same, member-over}
 use Rattle.card.proofs.MarkLaws.{marked-is}
 use Rattle.card.proofs.SoundLaws.{Sound, SoundIn, sound-of, is-sound, sound-has, sound-member-in, sound-with-member}
 use Rattle.reply.specs.Result.{resultOf}
@@ -48,7 +48,6 @@ use Rattle.host.proofs.Asked.{laid}
 use Rattle.staging.proofs.PartsSet.{partsSetOf, respond-parts-set}
 use Rattle.demands.proofs.Taken.{taken}
 use Rattle.member.proofs.Record.{Shaped}
-use Rattle.card.proofs.LayoutLaws.{member-over}
 use Rattle.demands.specs.Lists.{Settable, setList}
 
 -- a command with a result that succeeds and has room

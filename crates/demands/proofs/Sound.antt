@@ -12,7 +12,7 @@ use Rattle.changes.proofs.Kept.{change-sound}
 use Rattle.card.specs.Layout.{setupOf, isMember, memberIn, countsOf, noBytes}
 use Rattle.events.specs.Events.{withHandedBack, handBack as handBackOf, wipe as wipeOf, resetCard, storeIn, store}
 use Rattle.events.proofs.Cases.{if-done-cases, on-member-cases}
-use Rattle.card.proofs.LayoutLaws.{features-long}
+use Rattle.card.proofs.HeaderLaws.{features-long}
 use Rattle.card.proofs.SoundLaws.{Sound, sound-of, is-sound, sound-long, sound-member-in, sound-with-member, sound-with-fresh, sound-with-configuration, sound-with-holding, sound-with-use, sound-fresh-card}
 use Rattle.card.proofs.CountLaws.{counts-numbers}
 use Rattle.frame.specs.declared.Ask.{Ask}

@@ -35,7 +35,7 @@ use Rattle.setups.specs.Reading.{readNumber, readSetup}
 use Rattle.setups.proofs.Ranges.{numbers-in}
 use Rattle.setups.proofs.Claims.{claims}
 use Rattle.events.specs.Events.{InBounds, setupWith, refusedSetup, setUp, setUpOf, setUpFrom, memberAnswer, ifDone, onMember, withHandedBack, storeIn}
-use Rattle.card.proofs.LayoutLaws.{has-header}
+use Rattle.card.proofs.RecordBytesLaws.{has-header}
 use Rattle.card.proofs.SoundLaws.{sound-of, sound-long, sound-has}
 
 -- two tests, of which the first that fails gives the answer

@@ -18,7 +18,8 @@ use Rattle.member.specs.Member.{featuresSize, freshOf}
 use Rattle.member.proofs.Record.{fresh-shaped}
 use Rattle.card.specs.declared.Setup.{Setup}
 use Rattle.card.specs.Layout.{featuresAt, inUseAt, cardHeaderSize, memberBytesAt, recordSize, cardSize, recordAt, HasRecord, recordBytes, memberIn, countsFrom, withRecord, withFresh, freshRecord, freshHeader, freshRecords, freshCard}
-use Rattle.card.proofs.LayoutLaws.{length-with-record, record-other, record-put, fresh-record-long, length-fresh}
+use Rattle.card.proofs.RecordLaws.{length-with-record, record-other, record-put}
+use Rattle.card.proofs.FreshLaws.{fresh-record-long, length-fresh}
 use Rattle.card.proofs.CountLaws.{counts-long, counts-alike, counts-step}
 
 -- ---- a fresh card ----

@@ -10,16 +10,12 @@ use Rattle.theory.specs.Logic.{if_then_else_, unless_answer_then_}
 use Rattle.theory.proofs.Tests.{by-cases, both, tests}
 use Rattle.theory.proofs.Ladder.{pass, stop, no-not, yes-not}
 use Rattle.wire.specs.Le.{number}
-use Rattle.card.specs.Layout.{cardHeaderSize, cardSize, setupOf, isMember, isMarked}
+use Rattle.card.specs.Layout.{isMember, isMarked}
 use Rattle.message.specs.declared.Access.{Access}
 use Rattle.message.specs.declared.Access.the-variants.{Nothing, Write}
 use Rattle.message.specs.Format.{headerSize, msgIdOf, memberFor, offsetAt, dataAt, lengthOf, getConfig, setConfig}
 use Rattle.message.specs.Access.{isRequest, readIn, writeIn, wholeOf}
 use Rattle.message.specs.Message.{accessIn}
-
--- the header of a card is there
-pub head-there : (c : List ℕ) → length c ≡ cardSize (setupOf c .members) → cardHeaderSize ≤ length c
-head-there c e = omega arith
 
 -- b tested the message's header
 module _ (x : List ℕ) (b : Bool) (e : b ≡ isRequest x) where

@@ -17,7 +17,7 @@ use Rattle.member.specs.Record.{holdingSize}
 use Rattle.member.specs.Member.{withHeld}
 use Rattle.card.specs.Layout.{isMember, memberIn, isMarked, holdingIn}
 use Rattle.card.specs.Sound.{isSound}
-use Rattle.card.proofs.LayoutLaws.{holding-with-member}
+use Rattle.card.proofs.MemberLaws.{holding-with-member}
 use Rattle.staging.specs.Staging.{heldIn, heldBytes, withHeldBytes, opened, joinedTo, beginOf, feedOf, finishOf}
 use Rattle.staging.specs.Claims.{joined, fed, HoldsJoined, CutAnywhere}
 use Rattle.staging.proofs.Refusals.{on-member, on-open, on-member-marked, on-open-marked}

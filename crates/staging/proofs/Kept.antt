@@ -10,7 +10,8 @@ use Rattle.theory.proofs.Tests.{unless-cases}
 use Rattle.member.specs.Record.{holdingSize}
 use Rattle.card.specs.Layout.{setupOf}
 use Rattle.card.specs.Sound.{isSound}
-use Rattle.card.proofs.LayoutLaws.{setup-with-member, setup-with-use}
+use Rattle.card.proofs.HeaderLaws.{setup-with-use}
+use Rattle.card.proofs.MemberLaws.{setup-with-member}
 use Rattle.card.proofs.SoundLaws.{is-sound}
 use Rattle.frame.specs.declared.Ask.{Ask}
 use Rattle.frame.specs.declared.Ask.the-variants.{Refused, QueryList, UseList, Read, Change}

@@ -13,7 +13,8 @@ use Rattle.member.specs.Member.{withHeld}
 use Rattle.member.proofs.Sound.{sound-held}
 use Rattle.card.specs.Layout.{holdingAt, HasRecord, isMember, memberIn, withMember, isMarked, holdingIn, withHolding, noBytes}
 use Rattle.card.specs.Sound.{isSound}
-use Rattle.card.proofs.LayoutLaws.{bytes-long, bytes-back, setup-with-member, setup-with-holding, length-with-member, member-same, member-over, member-with-holding, holding-same, holding-over, holding-swap}
+use Rattle.card.proofs.RecordBytesLaws.{bytes-long, bytes-back}
+use Rattle.card.proofs.MemberLaws.{setup-with-member, setup-with-holding, length-with-member, member-same, member-over, member-with-holding, holding-same, holding-over, holding-swap}
 use Rattle.card.proofs.MarkLaws.{marked-is, mark-with-member, mark-behind}
 use Rattle.card.proofs.SoundLaws.{Sound, SoundIn, sound-of, is-sound, sound-has, sound-member-in, sound-with-member, sound-with-holding}
 use Rattle.staging.specs.Staging.{heldIn, isOpen, heldBytes, withHeldBytes, withoutHeld}

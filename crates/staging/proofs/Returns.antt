@@ -16,7 +16,7 @@ use Rattle.changes.specs.declared.Changed.{Changed}
 use Rattle.card.specs.declared.Setup.{Setup}
 use Rattle.card.specs.Layout.{cardHeaderSize, HasRecord, setupOf, isMember, memberIn, withMember, isMarked, holdingIn, withHolding, noBytes}
 use Rattle.card.specs.Sound.{isSound}
-use Rattle.card.proofs.LayoutLaws.{holding-with-member}
+use Rattle.card.proofs.MemberLaws.{holding-with-member}
 use Rattle.card.proofs.SoundLaws.{sound-of, sound-long, sound-has, sound-member-in}
 use Rattle.host.specs.Request.{setParts}
 use Rattle.reply.specs.Reply.{headSize}

@@ -27,7 +27,7 @@ use Rattle.changes.proofs.Kept.{change-refused, change-marked, change-sound}
 use Rattle.card.specs.declared.Setup.{Setup}
 use Rattle.card.specs.Layout.{setupOf, inUseOf, isMember, memberIn, withMember, isMarked, holdingIn, withHolding, noBytes}
 use Rattle.card.specs.Sound.{isSound}
-use Rattle.card.proofs.LayoutLaws.{member-same, member-over}
+use Rattle.card.proofs.MemberLaws.{member-same, member-over}
 use Rattle.card.proofs.MarkLaws.{marked-is}
 use Rattle.card.proofs.SoundLaws.{Sound, SoundIn, sound-of, sound-has, sound-member-in}
 use Rattle.host.specs.Request.{setParts}

@@ -1,7 +1,8 @@
 -- `card::is_marked` meets its contract. Assumes nothing.
 use borrow.Author.Needs.{needs}
 use Rattle.card.proofs.ReadLaws.{lent-long}
-use Rattle.card.proofs.MarkLaws.{head-there, no-mark, mark-record, mark-read}
+use Rattle.card.proofs.RecordBytesLaws.{head-there}
+use Rattle.card.proofs.MarkLaws.{no-mark, mark-record, mark-read}
 use Rattle.card.proofs.is_marked.Statement.{statement}
 use Rattle.card.proofs.is_marked.Tie as tie
 

@@ -1,6 +1,7 @@
 -- `message::decode` meets its contract. Assumes nothing.
 use borrow.Author.Needs.{needs}
-use Rattle.message.proofs.Decoded.{head-there, no-request, header-there, no-member, is-marked, reads-config, writes-config, other-kind}
+use Rattle.card.proofs.RecordBytesLaws.{head-there}
+use Rattle.message.proofs.Decoded.{no-request, header-there, no-member, is-marked, reads-config, writes-config, other-kind}
 use Rattle.message.proofs.decode.Statement.{statement}
 use Rattle.message.proofs.decode.Tie as tie
 
