@@ -39,7 +39,7 @@ use Rattle.message.proofs.Cases.{answer-marked}
 use Rattle.demands.specs.Calls.{command, handBack, wipe, answered, ofEvent, ofRestore, ofMessage, step, names}
 use Rattle.demands.specs.Claims.{DoesReset, TwoHalves, Between, MarkedRefused}
 use Rattle.demands.specs.Halves.{halvesExamples, HalvesExamplesHold}
-use Rattle.demands.proofs.Mask.{back-setup, back-marked, back-queues}
+use Rattle.demands.proofs.EventMask.{back-setup, back-marked, back-queues}
 use Rattle.demands.proofs.Sound.{stays-sound}
 use Rattle.demands.proofs.Model.{model}
 

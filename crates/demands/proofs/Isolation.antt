@@ -27,7 +27,9 @@ use Rattle.demands.proofs.Sound.{stays-sound}
 use Rattle.demands.proofs.Named.{SameKept, named-leaves}
 use Rattle.demands.proofs.MessageMask.{message-alike}
 use Rattle.demands.proofs.RestoreMask.{begin-alike, feed-alike, finish-alike, drop-alike}
-use Rattle.demands.proofs.Mask.{mask, blank-same, blank-shaped, mask-leaves, mask-mask, mask-again, mask-record, is-whole, masked-sound, masked-mark, masked-count, masked-counts, mask-none, respond-answers, store-answers, back-answers}
+use Rattle.demands.proofs.Mask.{mask, blank-same, blank-shaped, mask-leaves, mask-mask, mask-again, mask-record, is-whole, masked-sound, masked-mark, masked-count, masked-counts, mask-none}
+use Rattle.demands.proofs.CommandMask.{respond-answers}
+use Rattle.demands.proofs.EventMask.{store-answers, back-answers}
 
 -- the number that an event answers
 numberOf : Reply → ℕ

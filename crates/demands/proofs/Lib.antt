@@ -7,6 +7,7 @@ pub mod QueueCounts
 pub mod WrongPrograms
 pub mod WrongProgramsExample
 pub mod Taken
+pub mod ResultForms
 pub mod ReadBack
 pub mod HostExample
 pub mod Named
@@ -20,6 +21,8 @@ pub mod Lists
 pub mod RoundTripExample
 pub mod ListsExample
 pub mod Mask
+pub mod CommandMask
+pub mod EventMask
 pub mod RestoreMask
 pub mod MessageMask
 pub mod Isolation
@@ -34,6 +37,8 @@ pub mod HoldingKept
 pub mod ConfigurationKept
 pub mod Messages
 pub mod MessageExample
+pub mod StatusFields
+pub mod StatusSteps
 pub mod Statuses
 pub mod StatusesExample
 pub mod Places

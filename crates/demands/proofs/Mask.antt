@@ -1,38 +1,32 @@
--- The mask of isolation blanks the record of member m, but for its mark and its queue count. What calls do to the masked card. Assumes nothing.
+-- The mask of isolation blanks the record of member m, but for its mark and its queue count: what it covers, what can be put
+-- before or after it, and that the masked card of a sound one is sound. Assumes nothing.
 use mathlib.Core.Path.{_≡_, refl, ap, sym, _∙_}
 use mathlib.Core.Logic.{_≢_}
 use mathlib.Core.Bool.{Bool, true, false}
 use mathlib.Core.List.{List}
 use Prim.Native.Nat.{ℕ, _+_, _≤_, _<_}
 use native.Mathlib.Omega.{arith}
-use lib.Dec.{leb, eqb}
+use lib.Dec.{eqb}
 use lib.ListN.{length}
-use borrow.Author.Tests.{eqb-true, eqb-false, leb-true}
-use Rattle.theory.specs.Logic.{if_then_else_, unless_answer_then_, _and_, within}
-use Rattle.theory.proofs.Tests.{by-cases, if-cases, and-true, within-low, within-high, outside}
-use Rattle.protocol.specs.Answers.{isDone, isEventDone}
-use Rattle.values.specs.Apply.{storable}
+use borrow.Author.Tests.{eqb-true, eqb-false}
+use Rattle.theory.specs.Logic.{if_then_else_, within}
+use Rattle.theory.proofs.Tests.{by-cases, if-cases, within-low, within-high, outside}
 use Rattle.member.specs.declared.Member.{Member}
 use Rattle.member.specs.Record.{memberSize, holdingSize, memberBytes}
 use Rattle.member.specs.Member.{featuresSize, freshOf, handedBack}
 use Rattle.member.proofs.Record.{Shaped, fresh-shaped}
 use Rattle.member.proofs.Sound.{SoundMember, sound-fresh, sound-handed-back}
-use Rattle.card.specs.Layout.{memberBytesAt, holdingAt, recordSize, cardSize, setupOf, withInUse, isMember, withRecordBytes, memberIn, withMember, countsOf, isMarked, withHolding, noBytes, recordOf, withRecord}
+use Rattle.card.specs.Layout.{memberBytesAt, holdingAt, recordSize, cardSize, setupOf, withInUse, isMember, withRecordBytes, memberIn, withMember, countsOf, isMarked, withHolding, recordOf, withRecord}
 use Rattle.card.specs.Sound.{isSound}
 use Rattle.card.proofs.RecordBytesLaws.{has-record, setup-with-bytes}
 use Rattle.card.proofs.HeaderLaws.{features-long, length-with-use, setup-with-use}
-use Rattle.card.proofs.MemberLaws.{length-with-member, setup-with-member, length-with-holding, setup-with-holding}
+use Rattle.card.proofs.MemberLaws.{length-with-member, setup-with-member}
 use Rattle.card.proofs.RecordLaws.{record-bytes, length-with-record, setup-with-record, use-with-record, record-other, record-swap, record-use, record-none, record-over, record-again, member-with-record}
-use Rattle.card.proofs.MarkLaws.{marked-is, mark-alike, mark-put, mark-other, mark-behind, mark-with-use, mark-with-record}
-use Rattle.card.proofs.CountLaws.{count-put, count-other, count-behind, count-with-use, counts-same}
+use Rattle.card.proofs.MarkLaws.{mark-alike, mark-other, mark-with-use, mark-with-record}
+use Rattle.card.proofs.CountLaws.{count-other, count-with-use, counts-same}
 use Rattle.card.proofs.SoundLaws.{sound-of, is-sound, sound-member-in, sound-with-record}
-use Rattle.events.specs.Events.{ifDone, withHandedBack, storeIn}
-use Rattle.frame.specs.declared.Ask.{Ask}
-use Rattle.frame.specs.declared.Ask.the-variants.{Refused, QueryList, UseList, Read, Change}
-use Rattle.admin.specs.Command.{askIn, Effect, perform, respond}
-use Rattle.demands.specs.Calls.{command, names}
-use Rattle.admin.proofs.Respond.{NamedIn, FactsIn, asked-of, lastAnswer, ended, respond-none, respond-is}
-use Rattle.demands.proofs.Named.{SameKept, Leaves, unchanged, changed, leaves-whole, names-is}
+use Rattle.admin.specs.Command.{askIn}
+use Rattle.demands.proofs.Named.{SameKept, Leaves, unchanged, changed, leaves-whole}
 
 -- what it puts there: a fresh member, handed back where m is marked
 unfoldable pub blankOf : ℕ → List ℕ → Bool → Member
@@ -51,7 +45,7 @@ module _ (queues : ℕ) (f : List ℕ) (b : Bool) where
       let s = sound-fresh gets sets f queues k e in
       if-cases (SoundMember gets sets f) b _ _ (λ t. sound-handed-back gets sets f _ s) (λ t. s)
 
-  blank-shape : length f ≡ featuresSize → Shaped (blankOf queues f b)
+  pub blank-shape : length f ≡ featuresSize → Shaped (blankOf queues f b)
   unfolding blankOf freshOf
   blank-shape e =
       let s = fresh-shaped queues f e in
@@ -139,7 +133,7 @@ module _ (m : ℕ) (low : 1 ≤ m) (c : List ℕ) where
         ap (mask m) (rw (record-bytes (mask m c) k x g, record-bytes c k x g) (mask-swap k 0 recordSize (recordOf x g) (omega arith) l e))
         ∙ mask-mask m low (withRecord c k x g) (rw (length-with-record, setup-with-record) whole)
 
-    mask-use : (u : ℕ) → mask m (withInUse (mask m c) u) ≡ mask m (withInUse c u)
+    pub mask-use : (u : ℕ) → mask m (withInUse (mask m c) u) ≡ mask m (withInUse c u)
     mask-use u =
         let s : SameKept m c (withInUse c u) = record { mark = mark-with-use c u m; count = count-with-use c u m } in
         ap (mask m) (record-use c m _ 0 u ∙ rw (blank-same m c (withInUse c u) (setup-with-use c u) s))
@@ -175,132 +169,6 @@ module _ (m : ℕ) (low : 1 ≤ m) (c : List ℕ) (e : isSound c ≡ true) where
   masked-counts = counts-same c _ (setup-with-record c m _ 0) (λ k t. masked-count k (within-low _ _ k t))
 
   -- a request asks the same of it
-  masked-ask : (r : List ℕ) → askIn (mask m c) r ≡ askIn c r
+  pub masked-ask : (r : List ℕ) → askIn (mask m c) r ≡ askIn c r
   unfolding askIn
   masked-ask r = rw (setup-with-record, use-with-record, masked-mark)
-
--- ---- a command that does not name m ----
-
--- an effect on the masked card and one on the card
-record Alike (m : ℕ) (e f : Effect) : Type 0 where
-  outcomes : e .outcome ≡ f .outcome
-  results : e .result ≡ f .result
-  cards : mask m (e .card) ≡ mask m (f .card)
-
-module _ (m : ℕ) (low : 1 ≤ m) (c : List ℕ) (s : isSound c ≡ true) (r : List ℕ) (room : ℕ) where
-  abbrev whole : length c ≡ cardSize (setupOf c .members)
-  whole = is-whole m low c s
-
-  module _ (n : names m (command r room) ≡ false) where
-    -- the member that it is for, and its record in the masked card
-    module _ (k : ℕ) (f : NamedIn c r k) where
-      another : k ≢ m
-      another = eqb-false k m (sym (names-is m r room _ _ k f) ∙ n)
-
-      unmasked : memberIn (mask m c) k ≡ memberIn c k
-      unmasked = record-other c m _ 0 k low (f .low) another
-
-    perform-alike : (a : Ask) → FactsIn c r a → Alike m (perform (mask m c) r a) (perform c r a)
-    unfolding perform
-    perform-alike (Refused a) f = record { outcomes = refl; results = refl; cards = mask-mask m low c whole }
-    perform-alike QueryList f = record { outcomes = refl; results = refl; cards = mask-mask m low c whole }
-    perform-alike (UseList u) f = record { outcomes = refl; results = refl; cards = mask-use m low c whole u }
-    perform-alike (Read k op) f =
-        rw (unmasked k (f .0)) (record { outcomes = refl; results = refl; cards = mask-mask m low c whole })
-    perform-alike (Change k op) f =
-        rw (setup-with-record, unmasked k (f .0))
-        (record { outcomes = refl; results = refl; cards = mask-member m low c whole k _ (f .0 .low) (another k (f .0)) })
-
-  -- steps 11 and 12 choose between two cards with the same mask
-  ended-alike : (e f : Effect) → Alike m e f
-      → (ended (mask m c) room e .1 ≡ ended c room f .1) × (mask m (ended (mask m c) room e .0) ≡ mask m (ended c room f .0))
-  unfolding if_then_else_
-  ended-alike e f h =
-      rw (h .outcomes, h .results)
-      (refl, by-cases (isDone (lastAnswer room f)) (λ t. rw t (h .cards)) (λ t. rw t (mask-mask m low c whole)))
-
-  pub respond-answers : names m (command r room) ≡ false
-      → (respond (mask m c) r room .1 ≡ respond c r room .1) × (mask m (respond (mask m c) r room .0) ≡ mask m (respond c r room .0))
-  respond-answers n =
-      let z = masked-sound m low c s in
-      by-cases (leb 8 room)
-      (λ t.
-      let h = leb-true 8 room t in
-      rw (respond-is (mask m c) r room h z, respond-is c r room h s, masked-ask m low c s r)
-      (ended-alike _ _ (perform-alike n _ (asked-of c r))))
-      (λ t.
-      let g : leb 8 room and isSound (mask m c) ≡ false = rw (z, and-true) t in
-      let f : leb 8 room and isSound c ≡ false = rw (s, and-true) t in
-      rw (respond-none (mask m c) r room g, respond-none c r room f) (refl, mask-mask m low c whole))
-
--- ---- card events for another member ----
-
-module _ (m : ℕ) (low : 1 ≤ m) (c : List ℕ) (whole : length c ≡ cardSize (setupOf c .members)) (k : ℕ) (l : 1 ≤ k) (n : k ≢ m) where
-  pub store-answers : (t s : ℕ) (value : List ℕ)
-      → (storeIn (mask m c) k t s value .0 ≡ storeIn c k t s value .0)
-      × (mask m (storeIn (mask m c) k t s value .1) ≡ mask m (storeIn c k t s value .1))
-  unfolding storeIn ifDone unless_answer_then_
-  store-answers t s value =
-      rw (record-other c m _ 0 k low l n)
-      (by-cases (isEventDone (storable (memberIn c k .queues) t s value))
-      (λ d. rw d (refl, mask-member m low c whole k _ l n))
-      (λ d. rw d (refl, mask-mask m low c whole)))
-
-  pub back-other : mask m (withHandedBack (mask m c) k) ≡ mask m (withHandedBack c k)
-  unfolding withHandedBack
-  back-other =
-      let x = handedBack (memberIn c k) in
-      ap (mask m) (rw (record-other c m _ 0 k low l n, swap-member m low c k x l n) (swap-holding m low (withMember c k x) k noBytes l n))
-      ∙ mask-mask m low (withHolding (withMember c k x) k noBytes)
-      (rw (length-with-holding, length-with-member, setup-with-holding, setup-with-member) whole)
-
--- ---- a hand back of m itself ----
-
-pub back-setup : (m : ℕ) (c : List ℕ) → setupOf (withHandedBack c m) ≡ setupOf c
-unfolding withHandedBack
-back-setup m c = rw (setup-with-holding, setup-with-member)
-
-pub back-marked : (m : ℕ) (c : List ℕ) → length c ≡ cardSize (setupOf c .members) → isMember c m ≡ true → isMarked (withHandedBack c m) m ≡ true
-unfolding withHandedBack withHolding
-back-marked m c whole h =
-    let x = handedBack (memberIn c m) in
-    let r = has-record c m whole (within-low _ _ m h) (within-high _ _ m h) in
-    mark-behind (withMember c m x) m holdingAt holdingSize noBytes (omega arith) (r .low) (omega arith) m
-    ∙ marked-is (withMember c m x) m (rw setup-with-member h) ∙ mark-put c m x r
-
-pub back-queues : (m : ℕ) (c : List ℕ) → length c ≡ cardSize (setupOf c .members) → isMember c m ≡ true
-    → memberIn (withHandedBack c m) m .queues ≡ memberIn c m .queues
-unfolding withHandedBack withHolding
-back-queues m c whole h =
-    let x = handedBack (memberIn c m) in
-    let r = has-record c m whole (within-low _ _ m h) (within-high _ _ m h) in
-    count-behind (withMember c m x) m holdingAt holdingSize noBytes (omega arith) (r .low) m (r .low) (omega arith) ∙ count-put c m x r
-
-back-blank : (m : ℕ) (c : List ℕ) → length c ≡ cardSize (setupOf c .members) → isMember c m ≡ true
-    → blankIn m (withHandedBack c m) ≡ blankOf (memberIn c m .queues) (setupOf c .features) true
-unfolding blankIn
-back-blank m c whole h =
-    let e : setupOf (withHandedBack c m) ≡ setupOf c = back-setup m c in rw (e, back-queues m c whole h, back-marked m c whole h)
-
-back-own : (m : ℕ) (c : List ℕ) → length c ≡ cardSize (setupOf c .members) → isMember c m ≡ true
-    → mask m (withHandedBack c m) ≡ withRecord c m (blankOf (memberIn c m .queues) (setupOf c .features) true) 0
-unfolding withHandedBack withMember withHolding
-back-own m c whole h =
-    let x = handedBack (memberIn c m) in
-    let s = blank-shape (memberIn c m .queues) (setupOf c .features) true (features-long c (omega arith)) in
-    rw (back-blank m c whole h)
-    (record-over _ m _ 0 s holdingAt holdingSize noBytes (omega arith) ∙ record-over c m _ 0 s memberBytesAt memberSize (memberBytes x) (omega arith))
-
-pub back-answers : (m : ℕ) (low : 1 ≤ m) (c : List ℕ) → isSound c ≡ true → (k : ℕ) → isMember c k ≡ true
-    → mask m (withHandedBack (mask m c) k) ≡ mask m (withHandedBack c k)
-back-answers m low c e k h =
-    let whole = is-whole m low c e in
-    by-cases (eqb k m)
-    (λ q.
-    let here : isMember c m ≡ true = rw (eqb-true k m q) at h in
-    let s = blank-shape (memberIn c m .queues) (setupOf c .features) true (features-long c (omega arith)) in
-    rw (eqb-true k m q)
-    (back-own m (mask m c) (rw (length-with-record, setup-with-record) whole) (rw setup-with-record here)
-    ∙ rw (setup-with-record, mask-count m low c whole) (mask-again m low c whole _ 0 s)
-    ∙ sym (back-own m c whole here)))
-    (λ q. back-other m low c whole k (within-low _ _ k h) (eqb-false k m q))

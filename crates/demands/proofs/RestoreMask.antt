@@ -28,7 +28,8 @@ use Rattle.staging.proofs.Places.{has, held-short}
 use Rattle.demands.specs.Calls.{command, step}
 use Rattle.demands.proofs.Sound.{stays-sound}
 use Rattle.demands.proofs.Named.{names-set}
-use Rattle.demands.proofs.Mask.{mask, mask-mask, swap-member, swap-holding, mask-member, is-whole, masked-sound, masked-mark, respond-answers}
+use Rattle.demands.proofs.Mask.{mask, mask-mask, swap-member, swap-holding, mask-member, is-whole, masked-sound, masked-mark}
+use Rattle.demands.proofs.CommandMask.{respond-answers}
 
 -- the same answer, and cards with the same mask
 pub record Alike (m : ℕ) (x y : ℕ × List ℕ) : Type 0 where
