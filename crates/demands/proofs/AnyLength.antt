@@ -35,7 +35,7 @@ use Rattle.frame.specs.Ask.{framedOf, askOf}
 use Rattle.frame.proofs.Lengths.{rest-ignored, missing-zero, number-more, ask-more}
 use Rattle.reply.specs.Result.{resultOf}
 use Rattle.admin.specs.Command.{askIn, effect, perform, respond}
-use Rattle.demands.specs.Claims.{MissingIsZero, RestIsIgnored}
+use Rattle.demands.specs.Lengths.{MissingIsZero, RestIsIgnored}
 
 -- ---- the list of a request counts with parts get, selected, and with parts set alone ----
 

@@ -3,13 +3,11 @@ use mathlib.Core.Path.{_≡_, refl, ap}
 use mathlib.Core.Logic.{_≢_}
 use mathlib.Core.Bool.{true, false}
 use mathlib.Core.List.{List, [], _∷_}
-use Prim.Native.Nat.{ℕ, _+_, _≤_, _<_}
+use Prim.Native.Nat.{ℕ, _<_}
 use native.Mathlib.Omega.{arith}
-use lib.Dec.{leb→le}
 use lib.ListN.{length, getD, replicate}
 use Rattle.protocol.specs.declared.EventAnswer.the-variants.{Done}
 use Rattle.protocol.specs.Answers.{eventNumber}
-use Rattle.protocol.specs.Opcodes.{opcodeRow, fixedSize}
 use Rattle.card.specs.Layout.{cardSize}
 use Rattle.card.specs.Sound.{isSound}
 use Rattle.events.specs.Events.{setUp}
@@ -68,33 +66,3 @@ uses-list = refl
 sets-parts : opcodeOf (setParts 1 1 []) ≡ 0x10
 unfolding model
 sets-parts = refl
-
--- ---- requests of any length ----
-
--- a create of which 17 bytes of data came
-abbrev cutRequest : List ℕ
-cutRequest = request 0x0a 1 1 (replicate 17 0)
-
-cut-framed : 24 ≤ length cutRequest
-unfolding model
-cut-framed = leb→le _ _ tt
-
-cut-create : length cutRequest + 7 ≤ 24 + fixedSize (opcodeOf cutRequest)
-unfolding model fixedSize
-cut-create = leb→le _ _ tt
-
--- a whole one, before six bytes more
-abbrev wholeRequest : List ℕ
-wholeRequest = request 0x0a 1 1 (replicate 24 0)
-
-whole-create : 24 + fixedSize (opcodeOf wholeRequest) ≤ length wholeRequest
-unfolding model fixedSize
-whole-create = leb→le _ _ tt
-
-no-list : opcodeRow (opcodeOf wholeRequest) .listed ≡ false
-unfolding model
-no-list = refl
-
-room-left : length wholeRequest + 6 ≤ 4096
-unfolding model
-room-left = leb→le _ _ tt

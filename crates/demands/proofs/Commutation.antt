@@ -19,7 +19,7 @@ use Rattle.frame.specs.Frame.{targetOf}
 use Rattle.demands.specs.Calls.{Call, command, handBack, wipe, cardReset, cardStore, restoreBegin, restoreFeed, restoreFinish, restoreDrop, message, step, names}
 use Rattle.message.specs.Access.{wholeOf, speaksFor}
 use Rattle.message.proofs.Cases.{speaks-one}
-use Rattle.demands.specs.Claims.{Commutation, CommandsCommute}
+use Rattle.demands.specs.Commutation.{Commutation, CommandsCommute}
 use Rattle.demands.proofs.Refusals.{unsound-stays}
 use Rattle.demands.proofs.Named.{leaves-none, named-leaves}
 use Rattle.demands.proofs.Mask.{mask, is-whole, mask-none}

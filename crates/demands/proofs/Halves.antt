@@ -37,8 +37,7 @@ use Rattle.staging.specs.Staging.{beginOf, feedOf, finishOf, dropOf}
 use Rattle.staging.proofs.Refusals.{on-member-marked, on-open-marked}
 use Rattle.message.proofs.Cases.{answer-marked}
 use Rattle.demands.specs.Calls.{command, handBack, wipe, answered, ofEvent, ofRestore, ofMessage, step, names}
-use Rattle.demands.specs.Claims.{DoesReset, TwoHalves, Between, MarkedRefused}
-use Rattle.demands.specs.Halves.{halvesExamples, HalvesExamplesHold}
+use Rattle.demands.specs.Halves.{DoesReset, TwoHalves, Between, MarkedRefused, halvesExamples, HalvesExamplesHold}
 use Rattle.demands.proofs.EventMask.{back-setup, back-marked, back-queues}
 use Rattle.demands.proofs.Sound.{stays-sound}
 use Rattle.demands.proofs.Model.{model}

@@ -12,7 +12,7 @@ use Rattle.frame.specs.Ask.{usable}
 use Rattle.host.specs.Request.{getAll}
 use Rattle.demands.specs.Calls.{handBack, step, names}
 use Rattle.demands.specs.Examples.{exampleCard, send, objectsLive}
-use Rattle.demands.specs.Claims.{DoesReset, Between}
+use Rattle.demands.specs.Halves.{DoesReset, Between}
 use Rattle.demands.proofs.Model.{model}
 use Rattle.demands.proofs.Halves.{two-halves, marked-refused}
 

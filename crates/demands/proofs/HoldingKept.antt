@@ -30,7 +30,7 @@ use Rattle.admin.specs.Command.{perform}
 use Rattle.admin.proofs.Respond.{FactsIn, asked-of, card-cases}
 use Rattle.admin.proofs.Marks.{named-here, named-unmarked}
 use Rattle.demands.specs.Calls.{step}
-use Rattle.demands.specs.Claims.{SameHolding, HoldingKept}
+use Rattle.demands.specs.Holding.{SameHolding, HoldingKept}
 
 -- no change of a member touches what is held
 change-held : (gets sets : ℕ) (list : List ℕ) (op : ChangeOp) (m : Member) → changeOf gets sets list op m .member .held ≡ m .held

@@ -1,8 +1,47 @@
--- The worked examples of requests of any length hold: all at once, by computation. Assumes nothing.
-use mathlib.Core.Path.{refl}
+-- The worked examples of requests of any length hold, all at once, by computation, and the hypotheses of request 2's claims can be
+-- met. Assumes nothing.
+use mathlib.Core.Path.{refl, _≡_}
+use mathlib.Core.Bool.{false}
+use mathlib.Core.List.{List}
+use Prim.Native.Nat.{ℕ, _+_, _≤_}
+use lib.Dec.{leb→le}
+use lib.ListN.{length, replicate}
+use Rattle.protocol.specs.Opcodes.{opcodeRow, fixedSize}
+use Rattle.frame.specs.Frame.{opcodeOf}
+use Rattle.host.specs.Request.{request}
 use Rattle.demands.specs.Lengths.{lengthExamples, LengthExamplesHold}
 use Rattle.demands.proofs.Model.{model}
 
 pub length-examples-hold : LengthExamplesHold
 unfolding model lengthExamples
 length-examples-hold = refl
+
+-- ---- zeros at the end of a request that is cut, and bytes past a whole one ----
+
+-- a create of which 17 bytes of data came
+abbrev cutRequest : List ℕ
+cutRequest = request 0x0a 1 1 (replicate 17 0)
+
+cut-framed : 24 ≤ length cutRequest
+unfolding model
+cut-framed = leb→le _ _ tt
+
+cut-create : length cutRequest + 7 ≤ 24 + fixedSize (opcodeOf cutRequest)
+unfolding model fixedSize
+cut-create = leb→le _ _ tt
+
+-- a whole one, before six bytes more
+abbrev wholeRequest : List ℕ
+wholeRequest = request 0x0a 1 1 (replicate 24 0)
+
+whole-create : 24 + fixedSize (opcodeOf wholeRequest) ≤ length wholeRequest
+unfolding model fixedSize
+whole-create = leb→le _ _ tt
+
+no-list : opcodeRow (opcodeOf wholeRequest) .listed ≡ false
+unfolding model
+no-list = refl
+
+room-left : length wholeRequest + 6 ≤ 4096
+unfolding model
+room-left = leb→le _ _ tt

@@ -40,7 +40,7 @@ use Rattle.staging.proofs.Places.{has}
 use Rattle.staging.proofs.Kept.{respond-setup}
 use Rattle.message.proofs.Cases.{card-cases as message-cases}
 use Rattle.demands.specs.Calls.{command, handBack, wipe, cardReset, cardStore, restoreBegin, restoreFeed, restoreFinish, restoreDrop, message, step}
-use Rattle.demands.specs.Claims.{SetUpFromPacked, QueuesKept}
+use Rattle.demands.specs.QueueCounts.{SetUpFromPacked, QueuesKept}
 use Rattle.demands.proofs.Sound.{stays-sound}
 
 -- ---- a packed setup ----

@@ -1,47 +1,43 @@
--- WHAT IS CLAIMED OF THE CARD, by demand, SPEC 9, and by request, SPEC 13. Each claim is over the definitions that the
--- contracts of the exported functions cite: setUp, setUpFrom, commandOf (a command with its buffer; respond is the same
--- without it), handBack, wipe, resetCard, store, beginOf, feedOf, finishOf, dropOf and messageOf (of which answerOf is
--- the same without the buffer). The record Claims at the end lists all of them, and ../proofs/Claims.antt proves it. A
--- claim with hypotheses says which example meets them; where no file is named it is in ../proofs/ClaimsExample.antt.
--- Assumes nothing.
+-- WHAT IS CLAIMED OF THE CARD. The record Claims at the end lists all claims, by demand, SPEC 9, and by request, SPEC 13, with the
+-- file that has each, and ../proofs/Claims.antt proves it. The claims of demands 1 and 3 stand here. All are over the definitions
+-- that the contracts of the exported functions cite, or over the same without a lent buffer: respond for commandOf, answerOf
+-- for messageOf. A claim with hypotheses says which example meets them; where no file is named it is in
+-- ../proofs/ClaimsExample.antt. Assumes nothing.
 use mathlib.Core.Path.{_≡_}
 use mathlib.Core.Logic.{_≢_}
 use mathlib.Core.Bool.{true, false}
-use mathlib.Core.List.{List, [], _∷_, _++_}
-use Prim.Native.Nat.{ℕ, _+_, _*_, _≤_, _<_}
+use mathlib.Core.List.{List, _∷_, _++_}
+use Prim.Native.Nat.{ℕ, _+_, _≤_, _<_}
 use lib.ListN.{length, take, drop, replicate}
-use Rattle.theory.specs.Machine.{trace, run, seen, visible, Swappable}
-use Rattle.protocol.specs.declared.Answer.the-variants.{Marked}
+use Rattle.theory.specs.Machine.{trace, run, seen, visible}
 use Rattle.protocol.specs.declared.EventAnswer.the-variants.{Done}
-use Rattle.protocol.specs.Opcodes.{opcodeRow, fixedSize}
-use Rattle.card.specs.Layout.{inUseAt, recordSize, setupOf, inUseOf, isMember, recordAt, memberIn, countsOf, isMarked, holdingIn}
-use Rattle.card.specs.Sound.{isSound}
 use Rattle.frame.specs.Frame.{opcodeOf, targetOf}
-use Rattle.frame.specs.Ask.{usable}
-use Rattle.reply.specs.Reply.{headOf}
-use Rattle.events.specs.Events.{setupWith, setUp, setUpFrom, resetMember}
-use Rattle.setups.specs.Writing.{written as packedIn}
 use Rattle.setups.specs.Claims.{Claims as PackedSetups}
 use Rattle.setups.specs.Examples.{SetupsWritten, SetupsRead}
-use Rattle.figures.specs.Claims.{HoweverCut, AddsUp}
+use Rattle.card.specs.Layout.{inUseAt, recordSize, setupOf, isMember, recordAt, memberIn, countsOf, isMarked}
+use Rattle.card.specs.Sound.{isSound}
+use Rattle.events.specs.Events.{setupWith, setUp}
 use Rattle.admin.specs.Command.{respond, commandOf}
-use Rattle.difference.specs.Claims.{Claims as MergedLists}
-use Rattle.salvage.specs.Claims.{Claims as SalvagedLists}
 use Rattle.staging.specs.Staging.{dropOf}
 use Rattle.staging.specs.Claims.{FinishIsPartsSet, HoldsJoined, CutAnywhere}
-use Rattle.demands.specs.Calls.{Call, command, handBack, wipe, cardReset, cardStore, restoreBegin, restoreFeed, restoreFinish, restoreDrop, message, written, answered, responded, refused, step, names, Resets}
+use Rattle.difference.specs.Claims.{Claims as MergedLists}
+use Rattle.salvage.specs.Claims.{Claims as SalvagedLists}
+use Rattle.figures.specs.Claims.{HoweverCut, AddsUp}
+use Rattle.demands.specs.Calls.{Call, command, handBack, wipe, cardReset, cardStore, restoreBegin, restoreFeed, restoreFinish, restoreDrop, message, refused, step, names, Resets}
 use Rattle.demands.specs.Statuses.{Statuses}
 use Rattle.demands.specs.Examples.{ExamplesHold}
-use Rattle.demands.specs.Lengths.{LengthExamplesHold}
+use Rattle.demands.specs.Lengths.{MissingIsZero, RestIsIgnored, LengthExamplesHold}
 use Rattle.demands.specs.QueueSizes.{RingsOnly, QueueExamplesHold}
-use Rattle.demands.specs.QueueCounts.{CountExamplesHold}
-use Rattle.demands.specs.Halves.{HalvesExamplesHold}
+use Rattle.demands.specs.QueueCounts.{SetUpFromPacked, QueuesKept, CountExamplesHold}
+use Rattle.demands.specs.Halves.{TwoHalves, MarkedRefused, HalvesExamplesHold}
 use Rattle.demands.specs.WrongPrograms.{WrongProgramsRejected}
 use Rattle.demands.specs.RoundTrip.{RoundTrip}
 use Rattle.demands.specs.Lists.{MergedSets, FoundCaptured, SalvagedAccepted}
 use Rattle.demands.specs.Host.{Taken, ReadBack}
 use Rattle.demands.specs.Places.{PlacesFound}
 use Rattle.demands.specs.Messages.{Responded, NothingApplied, OnlyConfiguration, ConfigurationKept, MessageExamplesHold}
+use Rattle.demands.specs.Holding.{HoldingKept}
+use Rattle.demands.specs.Commutation.{Commutation, CommandsCommute}
 
 -- No call makes a sound card unsound: SPEC 2.4. Example: sound-card
 abbrev pub StaysSound : Type 0
@@ -98,13 +94,6 @@ pub record SetsUp : Type 0 where
       → setUp b n q g s f .1 ≡ replicate (length b) 0
   pub zeros : (n : ℕ) → isSound (replicate n 0) ≡ false
 
--- ---- DEMAND 2, SPEC 9.2: every answer, and the card after it, is the specified one, and a full capture can be set. ----
-
--- Which status a command gets, SPEC 6.1: Statuses.antt. Example: ../proofs/StatusesExample.antt
--- The worked examples B1 to B12, SPEC 10: Examples.antt
--- The wrong programs of SPEC 11.1 fail them: WrongPrograms.antt. Example: ../proofs/WrongProgramsExample.antt
--- The round trip: RoundTrip.antt. Example: ../proofs/RoundTripExample.antt
-
 -- ---- DEMAND 3, SPEC 9.3: after a reset of member m nothing of its former guest can be observed. ----
 
 -- two lists with the same bytes but for these
@@ -146,201 +135,80 @@ pub record Integrity : Type 0 where
       → (memberIn (step c (command r room) .0) (targetOf r) .mode ≡ memberIn c (targetOf r) .mode)
       × (memberIn (step c (command r room) .0) (targetOf r) .objects ≡ memberIn c (targetOf r) .objects)
 
--- ---- REQUEST 1, SPEC 13.1: the host's half ----
-
--- A built request is taken, and whatever is answered to it is read: Host.antt. Example: ../proofs/HostExample.antt
--- The round trip of demand 2 is by built requests: RoundTrip.antt
-
--- ---- REQUEST 2, SPEC 13.2: requests of any length ----
-
--- Whatever the card is, zeros more at the end of a request change neither the card after it nor its reply, as long as
--- they stay within the fixed fields of its command: what is missing reads as zero. Example: cut-create
-abbrev pub MissingIsZero : Type 0
-MissingIsZero =
-    (c r : List ℕ) (n room : ℕ) → 24 ≤ length r → length r + n ≤ 24 + fixedSize (opcodeOf r)
-    → respond c (r ++ replicate n 0) room ≡ respond c r room
-
--- Nor do any bytes past the fixed fields of a command that has no open list, up to 4,096 in all. Example: whole-create
-abbrev pub RestIsIgnored : Type 0
-RestIsIgnored =
-    (c r x : List ℕ) (room : ℕ) → 24 + fixedSize (opcodeOf r) ≤ length r → opcodeRow (opcodeOf r) .listed ≡ false
-    → length r + length x ≤ 4096 → respond c (r ++ x) room ≡ respond c r room
-
--- The worked examples L1 to L15: Lengths.antt
-
--- ---- REQUEST 3, SPEC 13.3: configuration by message ----
-
--- What a message leaves, what it touches, what else touches a configuration, and the worked examples M1 to M12:
--- Messages.antt
-
--- ---- REQUEST 4, SPEC 13.4: the place of a part ----
-
--- It is the p-th exactly if the p-th part of the member's inventory is the one asked for, and none exactly if no part is:
--- Places.antt. Example: ../proofs/PlacesExample.antt
-
--- ---- REQUEST 5, SPEC 13.5: queue sizes that no ring has ----
-
--- What a sound card holds, and the worked examples S1 to S6: QueueSizes.antt. That every call keeps it is StaysSound,
--- and that a capture can still be set RoundTrip.
-
--- ---- REQUEST 6, SPEC 13.6: a restore in fragments ----
-
--- What finish does, what is held, and that it does not matter how the bytes are cut: staging/specs/Claims.antt. Example:
--- ../proofs/RestoreExample.antt
-
--- member m's holding place holds the same bytes in two cards, or is in neither
-pub record SameHolding (c d : List ℕ) (m : ℕ) : Type 0 where
-  pub held : memberIn d m .held ≡ memberIn c m .held
-  pub bytes : holdingIn d m ≡ holdingIn c m
-
--- No command and no card store touches a holding place, whomever it is for: the four calls and both resets alone do.
--- Example: member-begun in ../proofs/RestoreExample.antt
-pub record HoldingKept : Type 0 where
-  pub commands : (c : List ℕ) (m : ℕ) → isMember c m ≡ true → (r : List ℕ) (room : ℕ) → SameHolding c (step c (command r room) .0) m
-  pub cardStores : (c : List ℕ) (m : ℕ) → isMember c m ≡ true → (k t s : ℕ) (value : List ℕ) → SameHolding c (step c (cardStore k t s value) .0) m
-
--- ---- REQUEST 7, SPEC 13.7: a night's difference ----
-
--- The list made of two, and what is looked up in them: difference/specs/Claims.antt, on a member's values, and
--- Lists.antt, on commands. Examples: difference/proofs/Example.antt, ../proofs/ListsExample.antt
-
--- ---- REQUEST 8, SPEC 13.8: salvage of a torn capture ----
-
--- What is written, kept, filled, dropped and left over: salvage/specs/Claims.antt; that a stopped member takes it:
--- Lists.antt. Examples: salvage/proofs/Example.antt, ../proofs/ListsExample.antt
-
--- ---- REQUEST 9, SPEC 13.9: setups that outlive a release ----
-
--- What is written reads back the same, a refusal writes nothing, what is read is in range: setups/specs/Claims.antt,
--- and the worked examples of setups/specs/Examples.antt.
-
--- A setup that is written and then set up gives the card that setup gives for it, byte for byte: n bytes were written
--- at the front of a buffer, which is b now. Example: ../proofs/QueueCounts.antt
-abbrev pub SetUpFromPacked : Type 0
-SetUpFromPacked =
-    (c buffer : List ℕ) (members : ℕ) (queues : List ℕ) (gets sets : ℕ) (features : List ℕ) (n : ℕ) (b : List ℕ)
-    → _≡_ {A = ℕ × List ℕ} (n, b) (packedIn buffer members queues gets sets features) → (n ≡ 0 → ⊥)
-    → setUpFrom c (take n b) ≡ setUp c members queues gets sets features
-
--- No call changes a queue count, the resets included. Example: ../proofs/QueueCounts.antt
-abbrev pub QueuesKept : Type 0
-QueuesKept = (c : List ℕ) (m : ℕ) → isMember c m ≡ true → (x : Call) → memberIn (step c x .0) m .queues ≡ memberIn c m .queues
-
--- The worked examples Q1 to Q4: QueueCounts.antt
-
--- ---- REQUEST 10, SPEC 13.10: reset in two halves ----
-
--- The two in a row do what member reset did: on a sound card, for a member that is not marked, both answer 0 and leave
--- the card that `resetMember` gives. Example: ../proofs/HalvesExample.antt
-pub record DoesReset (c : List ℕ) (m generation : ℕ) : Type 0 where
-  pub handsBack : step c (handBack m) .1 ≡ answered 0
-  pub wipes : step (step c (handBack m) .0) (wipe m generation) ≡ (resetMember c m generation .1, answered 0)
-
-abbrev pub TwoHalves : Type 0
-TwoHalves =
-    (c : List ℕ) (m generation : ℕ) → isSound c ≡ true → isMember c m ≡ true → isMarked c m ≡ false → DoesReset c m generation
-
--- Between them a command that names m, and whose opcode is in use, answers 11/7 in any buffer of 8 bytes or more, and a
--- call of SPEC 13.6 for m answers 11/7; a message that names m gets the bus outcome; the card stays. Example:
--- ../proofs/HalvesExample.antt
-abbrev pub refusesMarked : ℕ
-refusesMarked = 11 + 65536 * 7
-
-pub record Between (c : List ℕ) (m : ℕ) : Type 0 where
-  pub commands : (r : List ℕ) (room : ℕ) → names m (command r room) ≡ true → usable (inUseOf c) (opcodeOf r) ≡ true → 8 ≤ room
-      → step c (command r room) ≡ (c, written (headOf Marked))
-  pub begins : step c (restoreBegin m) ≡ (c, answered refusesMarked)
-  pub feeds : (x : List ℕ) → step c (restoreFeed m x) ≡ (c, answered refusesMarked)
-  pub finishes : (id : ℕ) → step c (restoreFinish m id) ≡ (c, answered refusesMarked)
-  pub drops : step c (restoreDrop m) ≡ (c, answered refusesMarked)
-  pub messages : (x : List ℕ) (room : ℕ) → names m (message x room) ≡ true → step c (message x room) ≡ (c, responded [])
-
-abbrev pub MarkedRefused : Type 0
-MarkedRefused = (c : List ℕ) (m : ℕ) → isSound c ≡ true → isMember c m ≡ true → isMarked c m ≡ true → Between c m
-
--- ---- REQUEST 11, SPEC 13.11: a year of captures in figures ----
-
--- However a stream is cut, feeding the chunks gives the sheet of the whole, and its lines add up:
--- figures/specs/Claims.antt. Example: figures/proofs/Example.antt
-
--- ---- REQUEST 12, SPEC 13.12: calls for different members, in any order ----
-
--- In any sequence of calls on any card, p, then x and y, then t, where x and y name different members: x and y can
--- change places. Each keeps its own reply, all other replies are the same one by one, and so is the card at the end,
--- byte for byte. Replies of any length, refused calls included. Example: ../proofs/CommutationExample.antt
-abbrev pub Commutation : Type 0
-Commutation =
-    (c : List ℕ) (m k : ℕ) → m ≢ k → (x y : Call) → names m x ≡ true → names k y ≡ true
-    → (p t : List Call) → Swappable step c p x y t
-
--- the same of commands alone: q in a buffer of i bytes, and r in one of j
-abbrev pub CommandsCommute : Type 0
-CommandsCommute =
-    (c : List ℕ) (m k : ℕ) → m ≢ k → (q : List ℕ) (i : ℕ) (r : List ℕ) (j : ℕ)
-    → names m (command q i) ≡ true → names k (command r j) ≡ true
-    → (p t : List Call) → Swappable step c p (command q i) (command r j) t
-
--- ---- all of them ----
+-- ---- all claims ----
 
 pub record Claims : Type 1 where
   pub staysSound : StaysSound
-  -- demand 1
+  -- DEMAND 1
   pub notWritten : NotWritten
   pub delivered : Delivered
   pub refusals : RefusalsChangeNothing
   pub setsUp : SetsUp
-  -- demand 2
+  -- DEMAND 2, SPEC 9.2: every answer, and the card after it, is the specified one, and a full capture can be set.
+  -- Which status a command gets: Statuses.antt, with the example ../proofs/StatusesExample.antt
   pub statuses : Statuses
+  -- the worked examples B1 to B12, and the wrong programs that fail them: Examples.antt, WrongPrograms.antt, with the example
+  -- ../proofs/WrongProgramsExample.antt
   pub examples : ExamplesHold
   pub wrongPrograms : WrongProgramsRejected
+  -- the round trip: RoundTrip.antt, with the example ../proofs/RoundTripExample.antt
   pub roundTrip : RoundTrip
-  -- demand 3
+  -- DEMAND 3
   pub isolation : Isolation
   pub integrity : Integrity
-  -- request 1
+  -- REQUEST 1, the host's half: a built request is taken, and whatever is answered to it is read. Host.antt, with the example
+  -- ../proofs/HostExample.antt. The round trip is by built requests
   pub taken : Taken
   pub readBack : ReadBack
-  -- request 2
+  -- REQUEST 2, requests of any length: Lengths.antt, and its worked examples L1 to L15
   pub missingIsZero : MissingIsZero
   pub restIsIgnored : RestIsIgnored
   pub lengthExamples : LengthExamplesHold
-  -- request 3
+  -- REQUEST 3, configuration by message: what a message leaves, what it touches, and what else touches a configuration.
+  -- Messages.antt, and its worked examples M1 to M12
   pub responded : Responded
   pub nothingApplied : NothingApplied
   pub onlyConfiguration : OnlyConfiguration
   pub configurationKept : ConfigurationKept
   pub messageExamples : MessageExamplesHold
-  -- request 4
+  -- REQUEST 4, the place of a part: Places.antt, with the example ../proofs/PlacesExample.antt
   pub placesFound : PlacesFound
-  -- request 5
+  -- REQUEST 5, queue sizes that no ring has: what a sound card holds. QueueSizes.antt, and its worked examples S1 to S6. That
+  -- every call keeps it is staysSound, and that a capture can still be set roundTrip
   pub ringsOnly : RingsOnly
   pub queueExamples : QueueExamplesHold
-  -- request 6
+  -- REQUEST 6, a restore in fragments: what finish does, what is held, and that it does not matter how the bytes are cut.
+  -- staging/specs/Claims.antt, and Holding.antt, with the example ../proofs/RestoreExample.antt
   pub finishIsPartsSet : FinishIsPartsSet
   pub holdsJoined : HoldsJoined
   pub cutAnywhere : CutAnywhere
   pub holdingKept : HoldingKept
-  -- request 7
+  -- REQUEST 7, a night's difference: the list made of two, and what is looked up in them. difference/specs/Claims.antt, on a
+  -- member's values, and Lists.antt, on commands, with the examples difference/proofs/Example.antt and ../proofs/ListsExample.antt
   pub mergedLists : MergedLists
   pub mergedSets : MergedSets
   pub foundCaptured : FoundCaptured
-  -- request 8
+  -- REQUEST 8, salvage of a torn capture: what is written, kept, filled, dropped and left over, and that a stopped member takes
+  -- it. salvage/specs/Claims.antt and Lists.antt, with the examples salvage/proofs/Example.antt and ../proofs/ListsExample.antt
   pub salvagedLists : SalvagedLists
   pub salvagedAccepted : SalvagedAccepted
-  -- request 9
+  -- REQUEST 9, setups that outlive a release: what is written reads back the same, a refusal writes nothing, what is read is in
+  -- range. setups/specs/Claims.antt, and the worked examples of setups/specs/Examples.antt
   pub packedSetups : PackedSetups
   pub setupsWritten : SetupsWritten
   pub setupsRead : SetupsRead
+  -- and on a card: QueueCounts.antt, and its worked examples Q1 to Q4
   pub setUpFromPacked : SetUpFromPacked
   pub queuesKept : QueuesKept
   pub countExamples : CountExamplesHold
-  -- request 10
+  -- REQUEST 10, reset in two halves: Halves.antt, and its worked examples H1 to H6, with the example ../proofs/HalvesExample.antt
   pub twoHalves : TwoHalves
   pub markedRefused : MarkedRefused
   pub halvesExamples : HalvesExamplesHold
-  -- request 11
+  -- REQUEST 11, a year of captures in figures: however a stream is cut, feeding the chunks gives the sheet of the whole, and its
+  -- lines add up. figures/specs/Claims.antt, with the example figures/proofs/Example.antt
   pub howeverCut : HoweverCut
   pub addsUp : AddsUp
-  -- request 12
+  -- REQUEST 12, commands from two hosts: Commutation.antt, with the example ../proofs/CommutationExample.antt
   pub commutation : Commutation
   pub commandsCommute : CommandsCommute

@@ -1,12 +1,51 @@
--- WORKED EXAMPLES of a reset in two halves, SPEC 13.10: a table, on the card of Examples.antt and in its form. Assumes nothing.
+-- REQUEST 10, SPEC 13.10: a reset in two halves. What is claimed of it, and worked examples, on the card of Examples.antt and in
+-- its form. Assumes nothing.
 use mathlib.Core.Path.{_≡_}
+use mathlib.Core.Bool.{true, false}
 use mathlib.Core.List.{List, [], _∷_, _++_, map}
-use Prim.Native.Nat.{_+_, _*_}
+use Prim.Native.Nat.{ℕ, _+_, _*_, _≤_}
 use lib.ListN.{replicate}
+use Rattle.protocol.specs.declared.Answer.the-variants.{Marked}
+use Rattle.frame.specs.Frame.{opcodeOf}
+use Rattle.frame.specs.Ask.{usable}
+use Rattle.card.specs.Layout.{inUseOf, isMember, isMarked}
+use Rattle.card.specs.Sound.{isSound}
+use Rattle.events.specs.Events.{resetMember}
+use Rattle.reply.specs.Reply.{headOf}
 use Rattle.host.specs.Request.{getAll}
-use Rattle.demands.specs.Calls.{handBack, wipe, cardReset, cardStore, restoreBegin, restoreFeed, restoreDrop, message, answered, step}
+use Rattle.demands.specs.Calls.{handBack, wipe, cardReset, cardStore, restoreBegin, restoreFeed, restoreDrop, message, answered, step, command, restoreFinish, written, responded, names}
 use Rattle.demands.specs.Messages.{readFrom, writeTo, fourBytes, busOutcome, hasRead}
 use Rattle.demands.specs.Examples.{exampleCard, send, useList, create, setMode, allUsed, objectsLive, refuses, gives, succeeds, nineParts, Example, example, repliesTo}
+
+-- The two in a row do what member reset did: on a sound card, for a member that is not marked, both answer 0 and leave
+-- the card that `resetMember` gives. Example: ../proofs/HalvesExample.antt
+pub record DoesReset (c : List ℕ) (m generation : ℕ) : Type 0 where
+  pub handsBack : step c (handBack m) .1 ≡ answered 0
+  pub wipes : step (step c (handBack m) .0) (wipe m generation) ≡ (resetMember c m generation .1, answered 0)
+
+abbrev pub TwoHalves : Type 0
+TwoHalves =
+    (c : List ℕ) (m generation : ℕ) → isSound c ≡ true → isMember c m ≡ true → isMarked c m ≡ false → DoesReset c m generation
+
+-- Between them a command that names m, and whose opcode is in use, answers 11/7 in any buffer of 8 bytes or more, and a
+-- call of SPEC 13.6 for m answers 11/7; a message that names m gets the bus outcome; the card stays. Example:
+-- ../proofs/HalvesExample.antt
+abbrev pub refusesMarked : ℕ
+refusesMarked = 11 + 65536 * 7
+
+pub record Between (c : List ℕ) (m : ℕ) : Type 0 where
+  pub commands : (r : List ℕ) (room : ℕ) → names m (command r room) ≡ true → usable (inUseOf c) (opcodeOf r) ≡ true → 8 ≤ room
+      → step c (command r room) ≡ (c, written (headOf Marked))
+  pub begins : step c (restoreBegin m) ≡ (c, answered refusesMarked)
+  pub feeds : (x : List ℕ) → step c (restoreFeed m x) ≡ (c, answered refusesMarked)
+  pub finishes : (id : ℕ) → step c (restoreFinish m id) ≡ (c, answered refusesMarked)
+  pub drops : step c (restoreDrop m) ≡ (c, answered refusesMarked)
+  pub messages : (x : List ℕ) (room : ℕ) → names m (message x room) ≡ true → step c (message x room) ≡ (c, responded [])
+
+abbrev pub MarkedRefused : Type 0
+MarkedRefused = (c : List ℕ) (m : ℕ) → isSound c ≡ true → isMember c m ≡ true → isMarked c m ≡ true → Between c m
+
+-- ---- worked examples ----
 
 unfoldable pub halvesExamples : List Example
 halvesExamples =

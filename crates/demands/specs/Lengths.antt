@@ -1,13 +1,33 @@
--- WORKED EXAMPLES of requests of any length, SPEC 13.2: a second table, on the card of Examples.antt and in its form. The
--- program worked_examples runs L1 to L7. Assumes nothing.
+-- REQUEST 2, SPEC 13.2: requests of any length. What is claimed of them, and worked examples, on the card of Examples.antt and
+-- in its form. The program worked_examples runs L1 to L7. The hypotheses are met in ../proofs/LengthExamples.antt. Assumes
+-- nothing.
 use mathlib.Core.Path.{_≡_}
+use mathlib.Core.Bool.{false}
 use mathlib.Core.List.{List, [], _∷_, _++_, map}
-use Prim.Native.Nat.{ℕ}
-use lib.ListN.{replicate}
+use Prim.Native.Nat.{ℕ, _+_, _≤_}
+use lib.ListN.{replicate, length}
 use Rattle.wire.specs.Le.{bytes}
+use Rattle.protocol.specs.Opcodes.{opcodeRow, fixedSize}
+use Rattle.frame.specs.Frame.{opcodeOf}
+use Rattle.admin.specs.Command.{respond}
 use Rattle.host.specs.Request.{request, objectHeader, setParts}
 use Rattle.demands.specs.Calls.{Call, command, cardReset, answered, step}
 use Rattle.demands.specs.Examples.{exampleCard, send, useList, setMode, allUsed, objectsLive, refuses, gives, succeeds, aNumber, header, headerBytes, nineParts, driverPart, Example, example, repliesTo}
+
+-- Whatever the card is, zeros more at the end of a request change neither the card after it nor its reply, as long as
+-- they stay within the fixed fields of its command: what is missing reads as zero. Example: cut-create
+abbrev pub MissingIsZero : Type 0
+MissingIsZero =
+    (c r : List ℕ) (n room : ℕ) → 24 ≤ length r → length r + n ≤ 24 + fixedSize (opcodeOf r)
+    → respond c (r ++ replicate n 0) room ≡ respond c r room
+
+-- Nor do any bytes past the fixed fields of a command that has no open list, up to 4,096 in all. Example: whole-create
+abbrev pub RestIsIgnored : Type 0
+RestIsIgnored =
+    (c r x : List ℕ) (room : ℕ) → 24 + fixedSize (opcodeOf r) ≤ length r → opcodeRow (opcodeOf r) .listed ≡ false
+    → length r + length x ≤ 4096 → respond c (r ++ x) room ≡ respond c r room
+
+-- ---- worked examples ----
 
 -- a command with this data, for member 1
 abbrev pub sendData : ℕ → List ℕ → Call

@@ -11,4 +11,6 @@ pub mod Host
 pub mod Places
 pub mod Messages
 pub mod Halves
+pub mod Holding
+pub mod Commutation
 pub mod Claims

@@ -1,15 +1,31 @@
--- REQUEST 9, SPEC 13.9: worked examples of members that differ in their queue counts, in the form of Examples.antt. Assumes
--- nothing.
+-- REQUEST 9, SPEC 13.9: packed setups, and queue counts that differ. What is claimed of a card that is set up from a packed setup
+-- and of queue counts, and worked examples, in the form of Examples.antt. Assumes nothing.
 use mathlib.Core.Path.{_≡_}
+use mathlib.Core.Bool.{true}
 use mathlib.Core.List.{List, [], _∷_, _++_, map}
 use Prim.Native.Nat.{ℕ}
-use lib.ListN.{replicate}
-use Rattle.card.specs.Layout.{cardSize}
-use Rattle.events.specs.Events.{setUp}
+use lib.ListN.{replicate, take}
+use Rattle.setups.specs.Writing.{written as packedIn}
+use Rattle.card.specs.Layout.{cardSize, isMember, memberIn}
+use Rattle.events.specs.Events.{setUp, setUpFrom}
 use Rattle.host.specs.declared.Command.the-variants as host
 use Rattle.host.specs.Request.{getAll, setParts}
 use Rattle.demands.specs.Calls.{Call, handBack, wipe, cardReset, cardStore, answered, step}
 use Rattle.demands.specs.Examples.{Example, example, sendAlone, send, useList, setMode, gives, succeeds, refuses, aNumber, nineParts, header, headerBytes, repliesTo}
+
+-- A setup that is written and then set up gives the card that setup gives for it, byte for byte: n bytes were written
+-- at the front of a buffer, which is b now. Example: ../proofs/QueueCounts.antt
+abbrev pub SetUpFromPacked : Type 0
+SetUpFromPacked =
+    (c buffer : List ℕ) (members : ℕ) (queues : List ℕ) (gets sets : ℕ) (features : List ℕ) (n : ℕ) (b : List ℕ)
+    → _≡_ {A = ℕ × List ℕ} (n, b) (packedIn buffer members queues gets sets features) → (n ≡ 0 → ⊥)
+    → setUpFrom c (take n b) ≡ setUp c members queues gets sets features
+
+-- No call changes a queue count, the resets included. Example: ../proofs/QueueCounts.antt
+abbrev pub QueuesKept : Type 0
+QueuesKept = (c : List ℕ) (m : ℕ) → isMember c m ≡ true → (x : Call) → memberIn (step c x .0) m .queues ≡ memberIn c m .queues
+
+-- ---- worked examples ----
 
 -- member 1 has one queue, member 2 two; else as the card of Examples.antt
 unfoldable pub countsCard : List ℕ
