@@ -20,7 +20,8 @@ use Rattle.demands.proofs.Commutation.{commutation, commands-commute}
 use Rattle.demands.proofs.HoldingKept.{holding-kept}
 use Rattle.demands.proofs.ConfigurationKept.{configuration-kept}
 use Rattle.demands.proofs.Messages.{responded, nothing-applied, only-configuration, message-examples-hold}
-use Rattle.demands.proofs.Halves.{two-halves, marked-refused, halves-examples-hold}
+use Rattle.demands.proofs.Halves.{two-halves, halves-examples-hold}
+use Rattle.demands.proofs.Between.{marked-refused, marked-idle, stores-work}
 use Rattle.demands.proofs.QueuesKept.{set-up-from-packed, queues-kept}
 use Rattle.demands.proofs.QueueCounts.{count-examples-hold}
 use Rattle.setups.proofs.Claims as packed
@@ -75,6 +76,8 @@ claims = record {
   countExamples = count-examples-hold;
   twoHalves = two-halves;
   markedRefused = marked-refused;
+  storesWork = stores-work;
+  markedIdle = marked-idle;
   halvesExamples = halves-examples-hold;
   howeverCut = however-cut;
   addsUp = adds-up;

@@ -28,6 +28,7 @@ pub mod MessageMask
 pub mod Isolation
 pub mod IsolationExample
 pub mod Halves
+pub mod Between
 pub mod HalvesExample
 pub mod Integrity
 pub mod Commutation

@@ -29,7 +29,7 @@ use Rattle.demands.specs.Examples.{ExamplesHold}
 use Rattle.demands.specs.Lengths.{MissingIsZero, RestIsIgnored, LengthExamplesHold}
 use Rattle.demands.specs.QueueSizes.{RingsOnly, QueueExamplesHold}
 use Rattle.demands.specs.QueueCounts.{SetUpFromPacked, QueuesKept, CountExamplesHold}
-use Rattle.demands.specs.Halves.{TwoHalves, MarkedRefused, HalvesExamplesHold}
+use Rattle.demands.specs.Halves.{TwoHalves, MarkedRefused, StoresWork, MarkedIdle, HalvesExamplesHold}
 use Rattle.demands.specs.WrongPrograms.{WrongProgramsRejected}
 use Rattle.demands.specs.RoundTrip.{RoundTrip}
 use Rattle.demands.specs.Lists.{MergedSets, FoundCaptured, SalvagedAccepted}
@@ -204,6 +204,8 @@ pub record Claims : Type 1 where
   -- REQUEST 10, reset in two halves: Halves.antt, and its worked examples H1 to H6, with the example ../proofs/HalvesExample.antt
   pub twoHalves : TwoHalves
   pub markedRefused : MarkedRefused
+  pub storesWork : StoresWork
+  pub markedIdle : MarkedIdle
   pub halvesExamples : HalvesExamplesHold
   -- REQUEST 11, a year of captures in figures: however a stream is cut, feeding the chunks gives the sheet of the whole, and its
   -- lines add up. figures/specs/Claims.antt, with the example figures/proofs/Example.antt

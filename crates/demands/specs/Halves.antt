@@ -6,9 +6,12 @@ use mathlib.Core.List.{List, [], _∷_, _++_, map}
 use Prim.Native.Nat.{ℕ, _+_, _*_, _≤_}
 use lib.ListN.{replicate}
 use Rattle.protocol.specs.declared.Answer.the-variants.{Marked}
+use Rattle.protocol.specs.declared.Mode.the-variants.{Stopped}
 use Rattle.frame.specs.Frame.{opcodeOf}
 use Rattle.frame.specs.Ask.{usable}
-use Rattle.card.specs.Layout.{inUseOf, isMember, isMarked}
+use Rattle.objects.specs.declared.Found.the-variants.{Nothing}
+use Rattle.member.specs.Objects.{lookupOf}
+use Rattle.card.specs.Layout.{inUseOf, isMember, memberIn, isMarked}
 use Rattle.card.specs.Sound.{isSound}
 use Rattle.events.specs.Events.{resetMember}
 use Rattle.reply.specs.Reply.{headOf}
@@ -43,7 +46,26 @@ pub record Between (c : List ℕ) (m : ℕ) : Type 0 where
   pub messages : (x : List ℕ) (room : ℕ) → names m (message x room) ≡ true → step c (message x room) ≡ (c, responded [])
 
 abbrev pub MarkedRefused : Type 0
-MarkedRefused = (c : List ℕ) (m : ℕ) → isSound c ≡ true → isMember c m ≡ true → isMarked c m ≡ true → Between c m
+MarkedRefused = (c : List ℕ) (m : ℕ) → isSound c ≡ true → isMarked c m ≡ true → Between c m
+
+-- Card stores still work: one for m is answered as before the hand back, and leaves the card that a hand back after it leaves.
+-- Example: ../proofs/HalvesExample.antt
+pub record StoredAlike (c : List ℕ) (m t s : ℕ) (value : List ℕ) : Type 0 where
+  pub answer : step (step c (handBack m) .0) (cardStore m t s value) .1 ≡ step c (cardStore m t s value) .1
+  pub card : step (step c (handBack m) .0) (cardStore m t s value) .0 ≡ step (step c (cardStore m t s value) .0) (handBack m) .0
+
+abbrev pub StoresWork : Type 0
+StoresWork =
+    (c : List ℕ) (m : ℕ) → isSound c ≡ true → isMember c m ≡ true → isMarked c m ≡ false → (t s : ℕ) (value : List ℕ) → StoredAlike c m t s value
+
+-- A marked member of a sound card is stopped, with no live object and no holding place. Example: ../proofs/HalvesExample.antt
+pub record Idle (c : List ℕ) (m : ℕ) : Type 0 where
+  pub stopped : memberIn c m .mode ≡ Stopped
+  pub noObject : (id : ℕ) → lookupOf (memberIn c m) id ≡ Nothing
+  pub noPlace : memberIn c m .held ≡ 0
+
+abbrev pub MarkedIdle : Type 0
+MarkedIdle = (c : List ℕ) (m : ℕ) → isSound c ≡ true → isMarked c m ≡ true → Idle c m
 
 -- ---- worked examples ----
 
