@@ -3,12 +3,13 @@
 use mathlib.Core.Path.{_≡_, ap, sym, _∙_}
 use mathlib.Core.List.{List}
 use Prim.Native.Nat.{ℕ, _+_, _^_, _≤_, _<_}
+use native.Mathlib.Nat.{zero-add}
 use native.Mathlib.Omega.{arith}
 use lib.ListN.{length, getD, take, drop}
 use lib.Seq.{take-add, drop-at, length-take-le, getD-take}
 use Rattle.theory.specs.Bytes.{bytesAt}
 use Rattle.theory.proofs.Bytes.{length-put, put-comm, bytesAt-before, bytesAt-after, length-bytesAt, bytesAt-bytesAt}
-use Rattle.wire.specs.Le.{bytes}
+use Rattle.wire.specs.Le.{le, bytes, number}
 use Rattle.wire.proofs.Le.{length-bytes, number-put}
 use Rattle.member.specs.Member.{featuresSize}
 use Rattle.card.specs.Layout.{featuresAt, inUseAt, cardHeaderSize, setupIn, setupOf, inUseOf, withInUse, recordAt, recordBytes, withRecordBytes}
@@ -72,9 +73,17 @@ module _ (c : List ℕ) where
 pub features-long : (c : List ℕ) → inUseAt ≤ length c → length (setupOf c .features) ≡ featuresSize
 features-long c h = rw (← features-read c h) (length-bytesAt featuresAt featuresSize c h)
 
--- the same bytes before a record hold the same setup
-pub same-setup : (c d : List ℕ) (m : ℕ) → take (recordAt m) c ≡ take (recordAt m) d → setupOf c ≡ setupOf d
-unfolding setupOf
-same-setup c d m e =
-    let p : (l : List ℕ) → bytesAt 0 inUseAt (take (recordAt m) l) ≡ bytesAt 0 inUseAt l = λ l. bytesAt-bytesAt 0 inUseAt 0 (recordAt m) l (omega arith) in
-    ap setupIn (sym (p c) ∙ ap (bytesAt 0 inUseAt) e ∙ p d)
+-- the same bytes before a record hold the same setup and the same list in use
+module _ (c d : List ℕ) (m : ℕ) (e : take (recordAt m) c ≡ take (recordAt m) d) where
+  same-front : (at n : ℕ) → at + n ≤ cardHeaderSize → bytesAt at n c ≡ bytesAt at n d
+  same-front at n h =
+      let p : (l : List ℕ) → bytesAt at n (take (recordAt m) l) ≡ bytesAt at n l = λ l. rw zero-add at (bytesAt-bytesAt at n 0 (recordAt m) l (omega arith)) in
+      sym (p c) ∙ ap (bytesAt at n) e ∙ p d
+
+  pub same-setup : setupOf c ≡ setupOf d
+  unfolding setupOf
+  same-setup = ap setupIn (same-front 0 inUseAt (omega arith))
+
+  pub same-use : inUseOf c ≡ inUseOf d
+  unfolding inUseOf number
+  same-use = ap le (same-front inUseAt 8 (omega arith))

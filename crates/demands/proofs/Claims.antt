@@ -10,6 +10,7 @@ use Rattle.demands.proofs.QueueSizes.{rings-only, queue-examples-hold}
 use Rattle.demands.proofs.Taken.{taken}
 use Rattle.demands.proofs.ReadBack.{read-back}
 use Rattle.demands.proofs.AnyLength.{missing-is-zero, rest-is-ignored}
+use Rattle.demands.proofs.InUse.{nothing-in-use}
 use Rattle.demands.proofs.Places.{places-found}
 use Rattle.demands.proofs.WrongPrograms.{wrong-programs-rejected}
 use Rattle.demands.proofs.RoundTrip.{round-trip}
@@ -50,6 +51,7 @@ claims = record {
   readBack = read-back;
   missingIsZero = missing-is-zero;
   restIsIgnored = rest-is-ignored;
+  nothingInUse = nothing-in-use;
   lengthExamples = length-examples-hold;
   responded = responded;
   nothingApplied = nothing-applied;

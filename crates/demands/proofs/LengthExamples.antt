@@ -1,15 +1,18 @@
 -- The worked examples of requests of any length hold, all at once, by computation, and the hypotheses of request 2's claims can be
 -- met. Assumes nothing.
-use mathlib.Core.Path.{refl, _≡_}
-use mathlib.Core.Bool.{false}
-use mathlib.Core.List.{List}
+use mathlib.Core.Path.{_≡_, refl}
+use mathlib.Core.Bool.{true, false}
+use mathlib.Core.List.{List, []}
 use Prim.Native.Nat.{ℕ, _+_, _≤_}
 use lib.Dec.{leb→le}
 use lib.ListN.{length, replicate}
-use Rattle.protocol.specs.Opcodes.{opcodeRow, fixedSize}
+use Rattle.protocol.specs.Opcodes.{opcodeRow, fixedSize, bit}
 use Rattle.frame.specs.Frame.{opcodeOf}
+use Rattle.card.specs.Layout.{inUseOf}
 use Rattle.host.specs.Request.{request}
-use Rattle.demands.specs.Lengths.{lengthExamples, LengthExamplesHold}
+use Rattle.demands.specs.Calls.{step}
+use Rattle.demands.specs.Examples.{exampleCard}
+use Rattle.demands.specs.Lengths.{sendData, lengthExamples, LengthExamplesHold}
 use Rattle.demands.proofs.Model.{model}
 
 pub length-examples-hold : LengthExamplesHold
@@ -45,3 +48,14 @@ no-list = refl
 room-left : length wholeRequest + 6 ≤ 4096
 unfolding model
 room-left = leb→le _ _ tt
+
+-- ---- empty list use ----
+
+-- on a fresh card list use is in use
+use-in-use : bit (inUseOf exampleCard) 0x01 ≡ true
+unfolding model
+use-in-use = refl
+
+empty-use : inUseOf (step exampleCard (sendData 0x01 []) .0) ≡ 0
+unfolding model
+empty-use = refl

@@ -12,6 +12,7 @@ pub mod ReadBack
 pub mod HostExample
 pub mod Named
 pub mod AnyLength
+pub mod InUse
 pub mod Sound
 pub mod Refusals
 pub mod Demand1

@@ -26,7 +26,7 @@ use Rattle.figures.specs.Claims.{HoweverCut, AddsUp}
 use Rattle.demands.specs.Calls.{Call, command, handBack, wipe, cardReset, cardStore, restoreBegin, restoreFeed, restoreFinish, restoreDrop, message, refused, step, names, Resets}
 use Rattle.demands.specs.Statuses.{Statuses}
 use Rattle.demands.specs.Examples.{ExamplesHold}
-use Rattle.demands.specs.Lengths.{MissingIsZero, RestIsIgnored, LengthExamplesHold}
+use Rattle.demands.specs.Lengths.{MissingIsZero, RestIsIgnored, NothingInUse, LengthExamplesHold}
 use Rattle.demands.specs.QueueSizes.{RingsOnly, QueueExamplesHold}
 use Rattle.demands.specs.QueueCounts.{SetUpFromPacked, QueuesKept, CountExamplesHold}
 use Rattle.demands.specs.Halves.{TwoHalves, MarkedRefused, StoresWork, MarkedIdle, HalvesExamplesHold}
@@ -163,6 +163,7 @@ pub record Claims : Type 1 where
   -- REQUEST 2, requests of any length: Lengths.antt, and its worked examples L1 to L15
   pub missingIsZero : MissingIsZero
   pub restIsIgnored : RestIsIgnored
+  pub nothingInUse : NothingInUse
   pub lengthExamples : LengthExamplesHold
   -- REQUEST 3, configuration by message: what a message leaves, what it touches, and what else touches a configuration.
   -- Messages.antt, and its worked examples M1 to M12

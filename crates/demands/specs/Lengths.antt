@@ -2,16 +2,19 @@
 -- in its form. The program worked_examples runs L1 to L7. The hypotheses are met in ../proofs/LengthExamples.antt. Assumes
 -- nothing.
 use mathlib.Core.Path.{_≡_}
-use mathlib.Core.Bool.{false}
+use mathlib.Core.Logic.{_≢_}
+use mathlib.Core.Bool.{true, false}
 use mathlib.Core.List.{List, [], _∷_, _++_, map}
 use Prim.Native.Nat.{ℕ, _+_, _≤_}
 use lib.ListN.{replicate, length}
 use Rattle.wire.specs.Le.{bytes}
-use Rattle.protocol.specs.Opcodes.{opcodeRow, fixedSize}
+use Rattle.protocol.specs.Opcodes.{opcodeRow, fixedSize, bit}
 use Rattle.frame.specs.Frame.{opcodeOf}
+use Rattle.card.specs.Layout.{inUseOf}
+use Rattle.card.specs.Sound.{isSound}
 use Rattle.admin.specs.Command.{respond}
 use Rattle.host.specs.Request.{request, objectHeader, setParts}
-use Rattle.demands.specs.Calls.{Call, command, cardReset, answered, step}
+use Rattle.demands.specs.Calls.{Call, command, cardReset, answered, refused, step}
 use Rattle.demands.specs.Examples.{exampleCard, send, useList, setMode, allUsed, objectsLive, refuses, gives, succeeds, aNumber, header, headerBytes, nineParts, driverPart, Example, example, repliesTo}
 
 -- Whatever the card is, zeros more at the end of a request change neither the card after it nor its reply, as long as
@@ -26,6 +29,14 @@ abbrev pub RestIsIgnored : Type 0
 RestIsIgnored =
     (c r x : List ℕ) (room : ℕ) → 24 + fixedSize (opcodeOf r) ≤ length r → opcodeRow (opcodeOf r) .listed ≡ false
     → length r + length x ≤ 4096 → respond c (r ++ x) room ≡ respond c r room
+
+-- Empty list use leaves nothing in use. Then every command is refused, until a reset of the card: no other call puts a command
+-- in use. Example: empty-use
+pub record NothingInUse : Type 0 where
+  pub emptied : (c : List ℕ) (m room : ℕ) → isSound c ≡ true → bit (inUseOf c) 0x01 ≡ true → 8 ≤ room
+      → inUseOf (step c (command (request 0x01 1 m []) room) .0) ≡ 0
+  pub blocks : (c r : List ℕ) (room : ℕ) → inUseOf c ≡ 0 → refused (step c (command r room) .1) ≡ true
+  pub lasts : (c : List ℕ) (x : Call) → inUseOf c ≡ 0 → ((generation : ℕ) → x ≢ cardReset generation) → inUseOf (step c x .0) ≡ 0
 
 -- ---- worked examples ----
 
