@@ -2,19 +2,19 @@
 -- two ways. Assumes nothing.
 use mathlib.Core.Path.{_≡_, refl}
 use mathlib.Core.Logic.{_≢_}
-use mathlib.Core.Bool.{true}
+use mathlib.Core.Bool.{true, false}
 use mathlib.Core.List.{List, [], _∷_, _++_}
 use Prim.Native.Nat.{ℕ, _+_, _*_, _≤_}
 use native.Mathlib.Omega.{arith}
 use lib.ListN.{length, getD, take, drop, replicate}
 use Rattle.theory.specs.Machine.{replies, run}
 use Rattle.member.specs.Record.{valuesAt, holdingSize}
-use Rattle.card.specs.Layout.{recordAt, isMember}
+use Rattle.card.specs.Layout.{recordAt, isMember, isMarked}
 use Rattle.card.specs.Sound.{isSound}
-use Rattle.staging.specs.Staging.{heldIn, isOpen}
-use Rattle.staging.specs.Claims.{SetsParts, joined, restored}
+use Rattle.staging.specs.Staging.{heldIn, isOpen, heldBytes, beginOf}
+use Rattle.staging.specs.Claims.{SetsParts, joined, fed, restored}
 use Rattle.staging.proofs.SetsParts.{finish-is-parts-set}
-use Rattle.staging.proofs.Cut.{cut-anywhere}
+use Rattle.staging.proofs.Cut.{holds-joined, cut-anywhere}
 use Rattle.demands.specs.Calls.{restoreBegin, restoreFeed, restoreFinish, restoreDrop, Reply, answered, refused, step}
 use Rattle.demands.specs.Examples.{exampleCard, setMode, objectsLive, statusPart}
 use Rattle.demands.proofs.Model.{model}
@@ -38,7 +38,7 @@ example : Unit {0}
 unfolding model target three one begun
 example = tt
 
--- ---- cut anywhere: each hypothesis, and the claim ----
+-- ---- cut anywhere, and held joined: each hypothesis, and the claims ----
 
 sound-target : isSound target ≡ true
 unfolding example
@@ -51,6 +51,10 @@ member-here = refl
 nothing-open : heldIn target 1 ≡ 0
 unfolding example
 nothing-open = refl
+
+not-marked : isMarked target 1 ≡ false
+unfolding example
+not-marked = refl
 
 same-joined : joined three ≡ joined one
 unfolding example
@@ -66,6 +70,9 @@ cut-differently = omega arith
 
 same-restored : restored target 1 1 three ≡ restored target 1 1 one
 same-restored = cut-anywhere target 1 1 sound-target member-here nothing-open three one same-joined few-joined
+
+joined-held : heldBytes (fed 1 (beginOf target 1 .1) three) 1 ≡ joined three
+joined-held = holds-joined target 1 sound-target member-here not-marked nothing-open three few-joined
 
 -- the device status is set: it stands behind the features of the device and the driver and 12 bytes of configuration
 status-at : ℕ

@@ -1,5 +1,5 @@
--- WHAT IS CLAIMED of configuration by message, SPEC 13.3, and WORKED EXAMPLES of it, on the card of Examples.antt and in its
--- form. Assumes nothing.
+-- REQUEST 3, SPEC 13.3: configuration by message. What is claimed of it, and worked examples, on the card of Examples.antt and in
+-- its form. The hypotheses are met in ../proofs/MessageExample.antt. Assumes nothing.
 use mathlib.Core.Path.{_≡_}
 use mathlib.Core.Bool.{true, false}
 use mathlib.Core.List.{List, [], _∷_, _++_, map}
@@ -26,7 +26,7 @@ abbrev pub Responded : Type 0
 Responded = (c x b : List ℕ) → Responds c x b
 
 -- Where there is no response, the bus outcome, nothing is written and nothing changes, and after an answer of length 0 the card
--- is as it was. Examples: no-response, no-data in ../proofs/MessageExample.antt
+-- is as it was. Examples: no-response, no-data
 pub record NothingApplied : Type 0 where
   pub busOutcome : (c x b : List ℕ) → messageOf c x b .0 ≡ 0 → messageOf c x b ≡ (0, (c, b))
   pub lengthZero : (c x b : List ℕ) → lengthOf (answerOf c x (length b) .1) ≡ 0 → messageOf c x b .1 .0 ≡ c
@@ -49,8 +49,7 @@ pub record OnlyConfiguration : Type 0 where
       → SameConfiguration c (step c (message x room) .0) m
 
 -- No command, card store, hand back or call of a restore touches a configuration, whomever it is for: messages, wipes and resets
--- of the card alone do.
--- Example: member-here
+-- of the card alone do. Example: member-here
 pub record KeepsConfiguration (c : List ℕ) (m : ℕ) : Type 0 where
   pub commands : (r : List ℕ) (room : ℕ) → SameConfiguration c (step c (command r room) .0) m
   pub cardStores : (k t s : ℕ) (value : List ℕ) → SameConfiguration c (step c (cardStore k t s value) .0) m

@@ -19,7 +19,8 @@ pub data Ring (size enabled : ℕ) : Type 0 where
   unused : size ≡ 0 → enabled ≡ 0 → Ring size enabled
 
 -- A sound card holds no queue part of another size: k is any queue that member m has got, its size the first two bytes of its
--- value, and its enabled field two from byte 4 on. Every call keeps that: StaysSound. Example: sound-card
+-- value, and its enabled field two from byte 4 on. Every call keeps that: StaysSound. Example:
+-- fresh-queue in ../proofs/QueueSizes.antt
 abbrev pub RingsOnly : Type 0
 RingsOnly =
     (c : List ℕ) → isSound c ≡ true → (m : ℕ) → isMember c m ≡ true → (k : ℕ) → k < memberIn c m .queues
