@@ -25,12 +25,14 @@ use Rattle.demands.proofs.Halves.{two-halves, halves-examples-hold}
 use Rattle.demands.proofs.Between.{marked-refused, marked-idle, stores-work}
 use Rattle.demands.proofs.QueuesKept.{set-up-from-packed, queues-kept}
 use Rattle.demands.proofs.QueueCounts.{count-examples-hold}
+use Rattle.host.proofs.Examples.{requests-built, replies-read}
 use Rattle.setups.proofs.Claims as packed
 use Rattle.difference.proofs.Claims as difference
 use Rattle.salvage.proofs.Claims as salvage
 use Rattle.setups.proofs.Examples.{setups-written, setups-read}
 use Rattle.figures.proofs.HoweverCut.{however-cut}
 use Rattle.figures.proofs.AddsUp.{adds-up}
+use Rattle.figures.proofs.Sheets.{sheets}
 use Rattle.staging.proofs.SetsParts.{finish-is-parts-set}
 use Rattle.staging.proofs.Cut.{holds-joined, cut-anywhere}
 
@@ -49,6 +51,8 @@ claims = record {
   integrity = integrity;
   taken = taken;
   readBack = read-back;
+  requestsBuilt = requests-built;
+  repliesRead = replies-read;
   missingIsZero = missing-is-zero;
   restIsIgnored = rest-is-ignored;
   nothingInUse = nothing-in-use;
@@ -83,6 +87,7 @@ claims = record {
   halvesExamples = halves-examples-hold;
   howeverCut = however-cut;
   addsUp = adds-up;
+  sheets = sheets;
   commutation = commutation;
   commandsCommute = commands-commute;
 }

@@ -18,11 +18,12 @@ use Rattle.card.specs.Layout.{inUseAt, recordSize, setupOf, isMember, recordAt,
 use Rattle.card.specs.Sound.{isSound}
 use Rattle.events.specs.Events.{setupWith, setUp}
 use Rattle.admin.specs.Command.{respond, commandOf}
+use Rattle.host.specs.Examples.{RequestsBuilt, RepliesRead}
 use Rattle.staging.specs.Staging.{dropOf}
 use Rattle.staging.specs.Claims.{FinishIsPartsSet, HoldsJoined, CutAnywhere}
 use Rattle.difference.specs.Claims.{Claims as MergedLists}
 use Rattle.salvage.specs.Claims.{Claims as SalvagedLists}
-use Rattle.figures.specs.Claims.{HoweverCut, AddsUp}
+use Rattle.figures.specs.Claims.{HoweverCut, AddsUp, Sheets}
 use Rattle.demands.specs.Calls.{Call, command, handBack, wipe, cardReset, cardStore, restoreBegin, restoreFeed, restoreFinish, restoreDrop, message, refused, step, names, Resets}
 use Rattle.demands.specs.Statuses.{Statuses}
 use Rattle.demands.specs.Examples.{ExamplesHold}
@@ -160,6 +161,9 @@ pub record Claims : Type 1 where
   -- ../proofs/HostExample.antt. The round trip is by built requests
   pub taken : Taken
   pub readBack : ReadBack
+  -- requests byte by byte, and replies that are read and refused: host/specs/Examples.antt
+  pub requestsBuilt : RequestsBuilt
+  pub repliesRead : RepliesRead
   -- REQUEST 2, requests of any length: Lengths.antt, and its worked examples L1 to L15
   pub missingIsZero : MissingIsZero
   pub restIsIgnored : RestIsIgnored
@@ -208,10 +212,11 @@ pub record Claims : Type 1 where
   pub storesWork : StoresWork
   pub markedIdle : MarkedIdle
   pub halvesExamples : HalvesExamplesHold
-  -- REQUEST 11, a year of captures in figures: however a stream is cut, feeding the chunks gives the sheet of the whole, and its
-  -- lines add up. figures/specs/Claims.antt, with the example figures/proofs/Example.antt
+  -- REQUEST 11, a year of captures in figures: however a stream is cut, feeding the chunks gives the sheet of the whole; its lines
+  -- add up; and the sheets that 02 gives. figures/specs/Claims.antt, with the example figures/proofs/Example.antt
   pub howeverCut : HoweverCut
   pub addsUp : AddsUp
+  pub sheets : Sheets
   -- REQUEST 12, commands from two hosts: Commutation.antt, with the example ../proofs/CommutationExample.antt
   pub commutation : Commutation
   pub commandsCommute : CommandsCommute

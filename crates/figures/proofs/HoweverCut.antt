@@ -8,7 +8,7 @@ use borrow.Author.Tests.{ne-eqb}
 use lib.Dec.{eqb}
 use lib.ListN.{length, take}
 use lib.Seq.{take-all, length-take-le}
-use Rattle.theory.specs.Logic.{if_then_else_, unless_answer_then_, _and_}
+use Rattle.theory.specs.Logic.{if_then_else_, unless_answer_then_}
 use Rattle.theory.proofs.Tests.{by-cases, and-false, false-and}
 use Rattle.setups.specs.Setup.{featuresSize}
 use Rattle.setups.specs.Reading.{versionIn, headSize, headRight, isVersion1, takeVersion1, readVersion1}

@@ -1,4 +1,5 @@
 pub mod Taking
 pub mod AddsUp
 pub mod HoweverCut
+pub mod Sheets
 pub mod Example

@@ -1,13 +1,18 @@
 -- What holds of every stream and its sheet: 02, request 11. Assumes nothing.
 use mathlib.Core.Path.{_≡_}
+use mathlib.Core.Logic.{_≢_}
 use mathlib.Core.Bool.{true}
 use mathlib.Core.List.{List, [], _∷_, _++_}
 use Prim.Native.Nat.{ℕ, _+_}
-use lib.ListN.{length, getD, take, drop}
-use Rattle.tally.specs.Rows.{longest}
+use lib.ListN.{length, getD, take, drop, replicate}
+use Rattle.setups.specs.declared.ReadAnswer.the-variants.{Done}
+use Rattle.setups.specs.Reading.{readVersion1}
+use Rattle.setups.specs.Examples.{bench}
+use Rattle.tally.specs.Rows.{longest, rowCount}
+use Rattle.sheet.specs.Text.{figures, textOf}
 use Rattle.stream.specs.Stream.{Captures}
 use Rattle.stream.specs.Totals.{totals}
-use Rattle.figures.specs.Sheet.{sheetOf}
+use Rattle.figures.specs.Sheet.{setupSize, refusedText, sheetOf}
 use Rattle.figures.specs.State.{waiting, finishedOf, over, Ready, Took}
 use Rattle.figures.specs.declared.State.{State}
 
@@ -47,3 +52,12 @@ sum (n ∷ ns) = n + sum ns
 abbrev pub AddsUp : Type 0
 AddsUp = (queues : ℕ) (features : List ℕ) (cs : Captures)
     → getD (totals queues features cs) 0 0 ≡ sum (take 8 (drop 1 (totals queues features cs)))
+
+-- ---- the two sheets that 02 gives ----
+
+pub record Sheets : Type 0 where
+  -- the setup of 01's bench and nothing after it: all 16 numbers are 0, and the stream is whole
+  pub bare : sheetOf bench ≡ textOf (figures (replicate rowCount 0) true)
+  -- a setup that the reader of version 1 does not take: `setup refused` alone, whatever follows. Example: version-2 in
+  -- ../proofs/Sheets.antt
+  pub refused : (l : List ℕ) → readVersion1 (take setupSize l) .answer ≢ Done → sheetOf l ≡ refusedText

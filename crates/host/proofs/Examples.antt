@@ -9,11 +9,11 @@ use Rattle.host.specs.Request.{sentOf, objectHeader, before, fixedOf, li
 use Rattle.host.specs.Reply.{formOf, countFits, resultFits, lengthRight, knownStatus, handledStatus, handledQualifier, readReply}
 use Rattle.host.specs.Examples.{requests, RequestsBuilt, replies, RepliesRead}
 
-requests-built : RequestsBuilt
+pub requests-built : RequestsBuilt
 unfolding if_then_else_ bytes opcodeRows opcodeRow fixedSize sentOf objectHeader before fixedOf listFor request startWith requestOf requests
 requests-built = refl
 
-replies-read : RepliesRead
+pub replies-read : RepliesRead
 unfolding if_then_else_ unless_answer_then_ _or_ le number opcodeRows opcodeRow supported selectorOf headerAt stepAt atMost partsFrom whole
     formOf countFits resultFits lengthRight knownStatus handledStatus handledQualifier readReply replies
 replies-read = refl
