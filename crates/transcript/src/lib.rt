@@ -19,83 +19,56 @@ impl Request {
     pub fn list_query() -> Request {
         let mut bytes = [0u8; 512];
         let len = host::list_query(&mut bytes);
-        Request {
-            bytes: bytes,
-            len: len,
-        }
+        Request { bytes, len }
     }
 
     pub fn list_use(mask: u64) -> Request {
         let mut bytes = [0u8; 512];
         let len = host::list_use(&mut bytes, mask);
-        Request {
-            bytes: bytes,
-            len: len,
-        }
+        Request { bytes, len }
     }
 
     pub fn create(member: u64, id: u32, kind: u8) -> Request {
         let mut bytes = [0u8; 512];
         let len = host::create(&mut bytes, member, id, kind);
-        Request {
-            bytes: bytes,
-            len: len,
-        }
+        Request { bytes, len }
     }
 
     pub fn query(member: u64, id: u32) -> Request {
         let mut bytes = [0u8; 512];
         let len = host::query(&mut bytes, member, id);
-        Request {
-            bytes: bytes,
-            len: len,
-        }
+        Request { bytes, len }
     }
 
     pub fn destroy(member: u64, id: u32) -> Request {
         let mut bytes = [0u8; 512];
         let len = host::destroy(&mut bytes, member, id);
-        Request {
-            bytes: bytes,
-            len: len,
-        }
+        Request { bytes, len }
     }
 
     pub fn metadata(member: u64, id: u32, what: u8) -> Request {
         let mut bytes = [0u8; 512];
         let len = host::metadata(&mut bytes, member, id, what);
-        Request {
-            bytes: bytes,
-            len: len,
-        }
+        Request { bytes, len }
     }
 
     // which: 0 the parts whose headers are given, 1 all.
     pub fn get(member: u64, id: u32, which: u8, headers: &[u8]) -> Request {
         let mut bytes = [0u8; 512];
         let len = host::get(&mut bytes, member, id, which, headers);
-        Request {
-            bytes: bytes,
-            len: len,
-        }
+        Request { bytes, len }
     }
 
     pub fn set(member: u64, id: u32, list: &[u8]) -> Request {
         let mut bytes = [0u8; 512];
         let len = host::set(&mut bytes, member, id, list);
-        Request {
-            bytes: bytes,
-            len: len,
-        }
+        Request { bytes, len }
     }
 
     pub fn mode_set(member: u64, mode: u8) -> Request {
         let mut bytes = [0u8; 512];
         let len = host::set_mode(&mut bytes, member, mode);
-        Request {
-            bytes: bytes,
-            len: len,
-        }
+        Request { bytes, len }
     }
 
     // All parts of a member, through its get object 0.

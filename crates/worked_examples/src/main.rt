@@ -44,86 +44,31 @@ fn metadata(what: u8) -> Request {
     Request::metadata(1, 0, what)
 }
 
-// The headers of queue notify of queue 0 and of the device status.
-const TWO: [u8; 32] = [
-    0x05,
-    1,
-    0,
-    0,
-    0,
-    0,
-    0,
-    0,
-    0,
-    0,
-    0,
-    0,
-    0,
-    0,
-    0,
-    0,
-    0x03,
-    1,
-    0,
-    0,
-    0,
-    0,
-    0,
-    0,
-    0,
-    0,
-    0,
-    0,
-    0,
-    0,
-    0,
-    0,
-];
+// The headers of queue notify of queue 0 and of the device status: types 0x105 and 0x103.
+fn two_headers() -> [u8; 32] {
+    let mut list = [0u8; 32];
+    wire::write(&mut list, 0, 2, 0x105);
+    wire::write(&mut list, 16, 2, 0x103);
+    list
+}
 
-// Driver features: the header, and the value 0x5aa5.
-const DRIVER: [u8; 32] = [
-    0x01,
-    1,
-    0,
-    0,
-    0,
-    0,
-    0,
-    0,
-    0,
-    0,
-    0,
-    0,
-    16,
-    0,
-    0,
-    0,
-    0xa5,
-    0x5a,
-    0,
-    0,
-    0,
-    0,
-    0,
-    0,
-    0,
-    0,
-    0,
-    0,
-    0,
-    0,
-    0,
-    0,
-];
+// Driver features, type 0x101, of 16 bytes: the value 0x5aa5.
+fn driver_features() -> [u8; 32] {
+    let mut part = [0u8; 32];
+    wire::write(&mut part, 0, 2, 0x101);
+    wire::write(&mut part, 12, 4, 16);
+    wire::write(&mut part, 16, 2, 0x5aa5);
+    part
+}
 
 fn set_once() -> Request {
-    Request::set(1, 1, &DRIVER)
+    Request::set(1, 1, &driver_features())
 }
 
 fn set_twice() -> Request {
     let mut list = [0u8; 64];
-    wire::copy(&mut list, 0, &DRIVER);
-    wire::copy(&mut list, 32, &DRIVER);
+    wire::copy(&mut list, 0, &driver_features());
+    wire::copy(&mut list, 32, &driver_features());
     Request::set(1, 1, &list)
 }
 
@@ -173,7 +118,7 @@ fn parts(card: &mut [u8]) {
     show(b"B9 size", metadata(0), card);
     show(
         b"B10 queue notify and device status",
-        Request::get(1, 0, 0, &TWO),
+        Request::get(1, 0, 0, &two_headers()),
         card,
     );
 }
@@ -222,33 +167,13 @@ fn create_of_30() -> Request {
     r.more(0xff).more(0xff).more(0xff)
 }
 
-// The device status and the first half of another header.
-const HALF: [u8; 24] = [
-    0x03,
-    0x01,
-    0,
-    0,
-    0,
-    0,
-    0,
-    0,
-    0,
-    0,
-    0,
-    0,
-    0,
-    0,
-    0,
-    0,
-    0x05,
-    0x01,
-    0,
-    0,
-    0,
-    0,
-    0,
-    0,
-];
+// The header of the device status, and the first half of another one.
+fn header_and_half() -> [u8; 24] {
+    let mut list = [0u8; 24];
+    wire::write(&mut list, 0, 2, 0x103);
+    wire::write(&mut list, 16, 2, 0x105);
+    list
+}
 
 // ---- each example on a card of its own ----
 
@@ -312,7 +237,7 @@ fn lists(card: &mut [u8]) {
     objects_live(card);
     show_in(
         b"L7 one header and a half, room for 8",
-        Request::get(1, 0, 0, &HALF),
+        Request::get(1, 0, 0, &header_and_half()),
         card,
         &mut short,
     );
