@@ -1,8 +1,8 @@
--- `migrate::show_fate` meets its contract. Assumes nothing.
+-- `migrate::captures::show_fate` meets its contract. Assumes nothing.
 use borrow.Author.Needs.{needs}
 use Prim.Native.Nat.{_≤_, _-_}
-use Rattle.migrate.proofs.show_fate.Statement.{statement}
-use Rattle.migrate.proofs.show_fate.Tie as tie
+use Rattle.migrate.proofs.captures.show_fate.Statement.{statement}
+use Rattle.migrate.proofs.captures.show_fate.Tie as tie
 
 abbrev Inv-loop : tie.InvT-loop
 Inv-loop name fate list kept at₀ i₀ t7 at i = i ≤ 11

@@ -1,8 +1,8 @@
--- `migrate::show_changes` meets its contract. Assumes nothing.
+-- `migrate::captures::show_changes` meets its contract. Assumes nothing.
 use borrow.Author.Needs.{needs}
 use Prim.Native.Nat.{_≤_, _-_}
-use Rattle.migrate.proofs.show_changes.Statement.{statement}
-use Rattle.migrate.proofs.show_changes.Tie as tie
+use Rattle.migrate.proofs.captures.show_changes.Statement.{statement}
+use Rattle.migrate.proofs.captures.show_changes.Tie as tie
 
 abbrev Inv-loop : tie.InvT-loop
 Inv-loop before after at₀ i₀ at i = i ≤ 11
