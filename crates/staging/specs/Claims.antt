@@ -1,4 +1,5 @@
--- WHAT IS CLAIMED of a restore in fragments: SPEC 13.6. Assumes nothing.
+-- WHAT IS CLAIMED of a restore in fragments: SPEC 13.6. demands/proofs/RestoreExample.antt has a card that meets the hypotheses.
+-- Assumes nothing.
 use mathlib.Core.Path.{_≡_}
 use mathlib.Core.Bool.{true, false}
 use mathlib.Core.List.{List, [], _∷_, _++_}

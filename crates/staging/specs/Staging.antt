@@ -61,9 +61,7 @@ memberRefusal c m =
 -- then, for feed, finish and drop: 6/1 where nothing is open, whatever is fed
 unfoldable pub openRefusal : List ℕ → ℕ → ℕ
 openRefusal c m =
-    unless isSound c answer notSound then
-    unless isMember c m answer answerNumber NoMember then
-    unless not (isMarked c m) answer answerNumber Marked then
+    unless eqb (memberRefusal c m) 0 answer memberRefusal c m then
     unless isOpen c m answer answerNumber NotLive then
     answerNumber Done
 
