@@ -22,11 +22,11 @@ target-asked : (members ids inUse m : ℕ) (c r : List ℕ) → m ≡ (if leb da
 unfolding askOf within _and_ if_then_else_ unless_answer_then_
 target-asked members ids inUse m c r e = rw e (by-cases (leb dataAt (length r)) (λ t. rw t) (λ t. rw t))
 
-pub asked-of : (c r : List ℕ) (s : Setup) (u m : ℕ) (t : Bool) (a : Ask) → s ≡ setupOf c → u ≡ inUseOf c
+pub is-asked : (c r : List ℕ) (s : Setup) (u m : ℕ) (t : Bool) (a : Ask) → s ≡ setupOf c → u ≡ inUseOf c
     → m ≡ (if leb dataAt (length r) then targetOf r else 0) → t ≡ isMarked c m
     → a ≡ askOf (s .members) (s .gets + s .sets) u t r → a ≡ askIn c r
 unfolding askIn
-asked-of c r s u m t a e f g k h = h ∙ rw (e, f, k) (target-asked _ _ _ m c r g)
+is-asked c r s u m t a e f g k h = h ∙ rw (e, f, k) (target-asked _ _ _ m c r g)
 
 -- the part of a slice from a place to its end
 pub to-the-end : (l : List ℕ) (at : ℕ) → take (length l - at) (drop at l) ≡ drop at l
