@@ -1,4 +1,4 @@
--- Requests 7 and 8 on commands as bytes. Assumes nothing.
+-- REQUESTS 7 AND 8: what is set of a made or a salvaged list, by commands as bytes. Assumes nothing.
 use mathlib.Core.Path.{_≡_, ap, sym, _∙_}
 use mathlib.Core.Bool.{true}
 use mathlib.Core.List.{List, _++_}

@@ -1,6 +1,5 @@
--- The host's half, SPEC 13.1: what is claimed of a built request and of the reply to it, over the
--- definitions that the contracts of both halves cite, requestOf and readReply at the host, askIn and respond at the card.
--- So the two halves need no third author. Assumes nothing.
+-- REQUEST 1, SPEC 13.1: the host's half. What is claimed of a built request and of the reply to it, over the definitions that the
+-- contracts of both halves go by: requestOf and readReply at the host, askIn and respond at the card. Assumes nothing.
 use mathlib.Core.Path.{_≡_}
 use mathlib.Core.Bool.{Bool, true}
 use mathlib.Core.List.{List, []}

@@ -1,4 +1,4 @@
--- The claim of specs/Claims.antt. Assumes nothing.
+-- However a stream is cut, what is fed and finished gives the sheet of the whole: an induction over the chunks. Assumes nothing.
 use mathlib.Core.Path.{_≡_, refl, ap, sym, _∙_}
 use mathlib.Core.Bool.{true, false}
 use mathlib.Core.List.{List, [], _++_, append-assoc, append-nil}

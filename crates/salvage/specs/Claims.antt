@@ -1,4 +1,5 @@
--- WHAT IS CLAIMED of a salvaged list and its report: 02, request 8. Assumes nothing.
+-- WHAT IS CLAIMED of a salvaged list and its report: 02, request 8. The record Claims at the end lists it, ../proofs/Claims.antt
+-- proves it, and ../proofs/Example.antt has lists that meet the hypotheses. Assumes nothing.
 use mathlib.Core.Path.{_≡_}
 use mathlib.Core.Bool.{Bool, true, false}
 use mathlib.Core.List.{List, []}
