@@ -4,6 +4,7 @@ use Rattle.demands.proofs.Sound.{stays-sound}
 use Rattle.demands.proofs.Demand1.{not-written, delivers, sets-up}
 use Rattle.demands.proofs.Refusals.{refusals-change-nothing}
 use Rattle.demands.proofs.Statuses.{statuses}
+use Rattle.demands.proofs.Reserved.{reserved-ignored}
 use Rattle.demands.proofs.Examples.{examples-hold}
 use Rattle.demands.proofs.LengthExamples.{length-examples-hold}
 use Rattle.demands.proofs.QueueSizes.{rings-only, queue-examples-hold}
@@ -44,6 +45,7 @@ claims = record {
   refusals = refusals-change-nothing;
   setsUp = sets-up;
   statuses = statuses;
+  reservedIgnored = reserved-ignored;
   examples = examples-hold;
   wrongPrograms = wrong-programs-rejected;
   roundTrip = round-trip;

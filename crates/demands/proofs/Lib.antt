@@ -11,7 +11,9 @@ pub mod ResultForms
 pub mod ReadBack
 pub mod HostExample
 pub mod Named
+pub mod SameAsked
 pub mod AnyLength
+pub mod Reserved
 pub mod InUse
 pub mod Sound
 pub mod Refusals

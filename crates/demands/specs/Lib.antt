@@ -1,5 +1,6 @@
 pub mod Calls
 pub mod Statuses
+pub mod Reserved
 pub mod Examples
 pub mod Lengths
 pub mod QueueSizes
