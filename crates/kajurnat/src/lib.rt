@@ -1,5 +1,5 @@
-// The exported functions: SPEC 1.2. A card is a buffer that the caller lends; each function is one call, and each contract
-// cites a definition of a lower crate.
+// The exported functions: SPEC 1.2. A card is a buffer that the caller lends; each function is one call, and its contract is one
+// equation: what it answers and leaves is what a definition gives of what it was lent.
 ghost use mathlib.Core.Path.{_≡_};
 ghost use mathlib.Core.List.{[]};
 ghost use Rattle.theory.specs.Logic.{indicator};
@@ -12,16 +12,16 @@ ghost use Rattle.events.specs.Events.{numbered, setUp, setUpFrom, handBack, wip
 ghost use Rattle.admin.specs.Command.{commandOf};
 ghost use Rattle.host.specs.Request.{built};
 ghost use Rattle.host.specs.Reply.{readReply};
-ghost use Rattle.kajurnat.specs.Told.{told};
-ghost use Rattle.kajurnat.specs.SetupTold.{setupTold};
-use host::Command;
-use host::Outcome;
-use setups::ReadOutcome;
 ghost use Rattle.staging.specs.Staging.{beginOf, feedOf, finishOf, dropOf};
 ghost use Rattle.message.specs.Message.{messageOf};
 ghost use Rattle.difference.specs.Difference.{lookupTold};
 ghost use Rattle.difference.specs.Under.{lookupUnder, mergeUnder};
 ghost use Rattle.salvage.specs.Salvage.{salvage, salvageUnder};
+ghost use Rattle.kajurnat.specs.Told.{told};
+ghost use Rattle.kajurnat.specs.SetupTold.{setupTold};
+use host::Command;
+use host::Outcome;
+use setups::ReadOutcome;
 
 // Raised whenever a card's bytes change their meaning: a card that was kept is for the same version.
 #[no_mangle]
