@@ -7,8 +7,7 @@ use native.Mathlib.Omega.{arith}
 use lib.Dec.{leb, ltb, eqb}
 use lib.ListN.{length, getD}
 use Rattle.theory.specs.Logic.{if_then_else_, unless_answer_then_, _and_, _or_, within}
-use Rattle.theory.proofs.Tests as tests
-use Rattle.theory.proofs.Tests.{by-cases, within-high, tests}
+use Rattle.theory.proofs.Tests.{by-cases, inside, within-high, tests}
 use Rattle.wire.specs.Le.{le, bytes, number}
 use Rattle.wire.proofs.Le.{le-bytes}
 use Rattle.protocol.specs.declared.ReadOp.the-variants.{QueryObject, GetMetadata, GetSelected, GetAll}
@@ -53,7 +52,7 @@ module _ (x : Command) (list : List ℕ) where
       let m = sentOf x .member in
       let d = dataFor x list in
       let n : length (request op 1 m d) ≤ longest = rw (← request-is) l in
-      rw (request-is, tests.inside dataAt longest (length (request op 1 m d)) (omega (arith, length-request op 1 m d)) n)
+      rw (request-is, inside dataAt longest (length (request op 1 m d)) (omega (arith, length-request op 1 m d)) n)
       (rw (opcode-request op 1 m d (opcode-small x), group-request op 1 m d (omega arith), target-request op 1 m d h, data-request op 1 m d))
 
 -- the list of a parts get, and that of a parts set
