@@ -4,7 +4,7 @@ use mathlib.Core.Bool.{true}
 use mathlib.Core.List.{List}
 use Prim.Native.Nat.{ℕ, _+_, _-_, _≤_}
 use native.Mathlib.Omega.{arith}
-use borrow.Author.Tests.{eqb-true, eqb-false}
+use borrow.Author.Tests.{eqb-true, eq-eqb, eqb-false}
 use lib.Dec.{eqb}
 use lib.ListN.{length}
 use Rattle.theory.specs.Logic.{unless_answer_then_}
@@ -12,7 +12,7 @@ use Rattle.theory.proofs.Tests.{by-cases, unless-cases, within-low, within-high
 use Rattle.protocol.specs.declared.EventAnswer.{EventAnswer}
 use Rattle.member.specs.declared.Member.{Member}
 use Rattle.member.specs.Record.{holdingSize}
-use Rattle.member.specs.Member.{featuresSize, freshOf, withHeld}
+use Rattle.member.specs.Member.{featuresSize, freshOf}
 use Rattle.member.proofs.Record.{fresh-shaped}
 use Rattle.changes.proofs.Kept.{change-queues}
 use Rattle.setups.specs.Setup.{inNumbers}
@@ -20,28 +20,23 @@ use Rattle.setups.specs.Writing.{written}
 use Rattle.setups.proofs.Ranges.{numbers-in}
 use Rattle.setups.proofs.InRange.{take-sixteen}
 use Rattle.setups.proofs.Claims.{claims}
-use Rattle.card.specs.Layout.{configurationAt, configurationSize, generationSize, holdingAt, setupOf, isMember, HasRecord, memberIn, withMember, withConfiguration, countsOf, withHolding, noBytes, withFresh, freshCard}
+use Rattle.card.specs.Layout.{configurationAt, configurationSize, generationSize, holdingAt, setupOf, isMember, HasRecord, memberIn, withMember, withConfiguration, countsOf, withHolding, withFresh, freshCard}
 use Rattle.card.proofs.HeaderLaws.{features-long}
 use Rattle.card.proofs.RecordLaws.{record-other, member-with-record}
-use Rattle.card.proofs.CountLaws.{count-behind, count-with-use, count-with-member, counts-long, counts-at, count-fresh}
+use Rattle.card.proofs.CountLaws.{count-other, count-behind, count-with-use, count-with-member, counts-long, counts-at, count-fresh}
 use Rattle.card.proofs.SoundLaws.{Sound, sound-of, sound-long, sound-has}
-use Rattle.events.specs.Events.{setUpOf, setUpFrom, withHandedBack, handBack as handBackOf, wipe as wipeOf, resetCard, storeIn, store}
-use Rattle.events.proofs.Cases.{if-done-cases, on-member-cases}
+use Rattle.events.specs.Events.{setUpOf, setUpFrom, withHandedBack, handBack as handBackOf, wipe as wipeOf, resetCard}
+use Rattle.events.proofs.Cases.{on-member-cases}
 use Rattle.frame.specs.declared.Ask.{Ask}
 use Rattle.frame.specs.declared.Ask.the-variants.{Refused, QueryList, UseList, Read, Change}
 use Rattle.admin.specs.Command.{perform, respond}
 use Rattle.admin.proofs.Respond.{FactsIn, asked-of, card-cases}
 use Rattle.admin.proofs.Marks.{named-here}
-use Rattle.host.specs.Request.{setParts}
-use Rattle.reply.specs.Reply.{headSize}
-use Rattle.staging.specs.Staging.{heldBytes, withHeldBytes, withoutHeld, beginOf, feedOf, finishOf, dropOf}
-use Rattle.staging.proofs.Refusals.{on-member-cases as restore-cases, on-open-cases}
 use Rattle.staging.proofs.Places.{has}
-use Rattle.staging.proofs.Kept.{respond-setup}
 use Rattle.message.proofs.Cases.{card-cases as message-cases}
-use Rattle.demands.specs.Calls.{command, handBack, wipe, cardReset, cardStore, restoreBegin, restoreFeed, restoreFinish, restoreDrop, message, step}
+use Rattle.demands.specs.Calls.{Call, names, command, handBack, wipe, cardReset, cardStore, restoreBegin, restoreFeed, restoreFinish, restoreDrop, message, step}
 use Rattle.demands.specs.QueueCounts.{SetUpFromPacked, QueuesKept}
-use Rattle.demands.proofs.Sound.{stays-sound}
+use Rattle.demands.proofs.Named.{Leaves, unchanged, changed, named-leaves}
 
 -- ---- a packed setup ----
 
@@ -76,10 +71,6 @@ module _ (k : ℕ) (l : 1 ≤ k) where
     behind-kept x y q =
         count-behind (withMember c m x) m holdingAt holdingSize y (omega arith) (r .low) k l (omega arith) ∙ member-kept x q
 
-    gone-kept : Same k c (withoutHeld c m)
-    unfolding withoutHeld withHeldBytes
-    gone-kept = behind-kept (withHeld (memberIn c m) 0) noBytes refl
-
     fresh-kept : (f : List ℕ) (g : ℕ) → length f ≡ featuresSize → Same k c (withFresh c m f g)
     unfolding freshOf
     fresh-kept f g e =
@@ -105,12 +96,19 @@ module _ (k : ℕ) (l : 1 ≤ k) where
   respond-kept : (c r : List ℕ) (room : ℕ) → Same k c (respond c r room .0)
   respond-kept c r room = card-cases c r room (Same k c) refl (λ s. perform-kept c r (sound-of c s) _ (asked-of c r))
 
--- the card after an event, and after a call of a restore
+-- a call that names m keeps m's count, and touches no other record
+leaves-kept : (k m : ℕ) → 1 ≤ k → (c d : List ℕ) → Leaves m c d → Same k c d
+leaves-kept k m l c _ unchanged = refl
+leaves-kept k m l c _ (changed {d} p h at n x i q) =
+    by-cases (eqb k m) (λ e. rw (eqb-true k m e) (q .count)) (λ e. count-other d m at n x i (within-low _ _ m h) k l (eqb-false k m e))
+    ∙ leaves-kept k m l c d p
+
+named-kept : (c : List ℕ) (k : ℕ) → isMember c k ≡ true → (m : ℕ) (x : Call) → names m x ≡ true → Same k c (step c x .0)
+named-kept c k h m x n = leaves-kept k m (within-low _ _ k h) c _ (named-leaves m c x n)
+
+-- the card after an event
 abbrev EventSame : ℕ → List ℕ → EventAnswer × List ℕ → Type 0
 EventSame k c y = Same k c (y .1)
-
-abbrev RestoreSame : ℕ → List ℕ → ℕ × List ℕ → Type 0
-RestoreSame k c y = Same k c (y .1)
 
 reset-kept : (c : List ℕ) (k g : ℕ) → isMember c k ≡ true → Sound c → Same k c (freshCard (setupOf c) (countsOf c) g)
 unfolding countsOf
@@ -124,7 +122,7 @@ reset-kept c k g h s =
     ∙ ap (λ j. memberIn c j .queues) i
 
 pub queues-kept : QueuesKept
-unfolding step handBackOf withHandedBack wipeOf resetCard store storeIn beginOf withHeldBytes feedOf finishOf dropOf
+unfolding step names handBackOf withHandedBack wipeOf resetCard
 queues-kept c k h (command r room) = respond-kept k (within-low _ _ k h) c r room
 queues-kept c k h (handBack m) =
     on-member-cases c m _ (EventSame k c) (λ a d. refl) λ s i.
@@ -134,25 +132,11 @@ queues-kept c k h (wipe m g) =
     unless-cases (EventSame k c) _ _ _ (λ t. refl)
     (λ t. fresh-kept k (within-low _ _ k h) c m (has c m s i) _ g (features-long c (omega (arith, sound-long c (sound-of c s)))))
 queues-kept c k h (cardReset g) = unless-cases (EventSame k c) _ _ _ (λ t. refl) (λ t. reset-kept c k g h (sound-of c t))
-queues-kept c k h (cardStore m t s value) =
-    on-member-cases c m _ (EventSame k c) (λ a d. refl) λ e i.
-    if-done-cases (EventSame k c) _ _ c (λ d. refl) (λ d. member-kept k (within-low _ _ k h) c m (has c m e i) _ refl)
-queues-kept c k h (restoreBegin m) =
-    restore-cases c m _ (RestoreSame k c) (λ a. refl) λ p.
-    unless-cases (RestoreSame k c) _ _ _ (λ t. refl) (λ t. member-kept k (within-low _ _ k h) c m (has c m (p .sound) (p .member)) _ refl)
-queues-kept c k h (restoreFeed m x) =
-    on-open-cases c m _ (RestoreSame k c) (λ a. refl) λ p.
-    let l = within-low _ _ k h in
-    let r = has c m (p .sound) (p .member) in
-    unless-cases (RestoreSame k c) _ _ _ (λ t. gone-kept k l c m r) (λ t. behind-kept k l c m r _ _ refl)
-queues-kept c k h (restoreFinish m id) =
-    on-open-cases c m _ (RestoreSame k c) (λ a. refl) λ p.
-    let l = within-low _ _ k h in
-    let q = setParts m id (heldBytes c m) in
-    let s = stays-sound c (command q headSize) (p .sound) in
-    gone-kept k l _ m (has _ m s (rw (respond-setup c q headSize) (p .member))) ∙ respond-kept k l c q headSize
-queues-kept c k h (restoreDrop m) =
-    on-open-cases c m _ (RestoreSame k c) (λ a. refl) (λ p. gone-kept k (within-low _ _ k h) c m (has c m (p .sound) (p .member)))
+queues-kept c k h (cardStore m t s value) = named-kept c k h m (cardStore m t s value) (eq-eqb m m refl)
+queues-kept c k h (restoreBegin m) = named-kept c k h m (restoreBegin m) (eq-eqb m m refl)
+queues-kept c k h (restoreFeed m x) = named-kept c k h m (restoreFeed m x) (eq-eqb m m refl)
+queues-kept c k h (restoreFinish m id) = named-kept c k h m (restoreFinish m id) (eq-eqb m m refl)
+queues-kept c k h (restoreDrop m) = named-kept c k h m (restoreDrop m) (eq-eqb m m refl)
 queues-kept c k h (message x room) =
     message-cases c x (Same k c) refl room λ m y g s i t.
     configuration-kept k (within-low _ _ k h) c m (within-low _ _ m i) y g
