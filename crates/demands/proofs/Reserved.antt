@@ -71,7 +71,7 @@ module _ (r s : List ℕ) (long : length s ≡ length r) (op : ℕ) (same : (i :
 
   tail-same : (k : ℕ) → ((i : ℕ) → k ≤ i → isReserved op i ≡ false) → drop k s ≡ drop k r
   tail-same k f =
-      ext-getD 0 (drop k s) (drop k r) (rw (length-drop, length-drop, long)) λ i h.
+      ext-getD 0 (drop k s) (drop k r) (rw (length-drop k s, length-drop k r, long)) λ i h.
       getD-drop k s i 0 ∙ same (k + i) (f (k + i) (omega arith)) ∙ sym (getD-drop k r i 0)
 
   -- the fields of the frame
@@ -115,7 +115,7 @@ module _ (r s : List ℕ) (long : length s ≡ length r) (op : ℕ) (same : (i :
   mode-same = byte-same 0 (free-middle op 24 (omega arith) (omega arith))
 
   data-long : length (dataOf s) ≡ length (dataOf r)
-  data-long = rw (length-drop, length-drop, long)
+  data-long = rw (length-drop 24 s, length-drop 24 r, long)
 
   -- the lists
   mask-same : op ≡ 0x01 → dataOf s ≡ dataOf r
