@@ -58,16 +58,20 @@ named-frame m r room n =
     let w = both _ _ (q .0) in
     (w .0, w .1, q .1, p .1)
 
+-- a member that is marked is one of the card's
+marked-here : (c : List ℕ) (m : ℕ) → isMarked c m ≡ true → isMember c m ≡ true
+unfolding isMarked
+marked-here c m u = both _ _ u .0
+
 module _ (c : List ℕ) (m : ℕ) (s : isSound c ≡ true) (u : isMarked c m ≡ true) where
-  h : isMember c m ≡ true
-  unfolding isMarked
-  h = both _ _ u .0
+  abbrev here : isMember c m ≡ true
+  here = marked-here c m u
 
   asked-marked : (r : List ℕ) (room : ℕ) → names m (command r room) ≡ true → usable (inUseOf c) (opcodeOf r) ≡ true → askIn c r ≡ Refused Marked
   unfolding askIn askOf framedOf reaches attended unless_answer_then_ _or_
   asked-marked r room n v =
       let p = named-frame m r room n in
-      rw (p .0, p .1, v, p .2, eqb-true (targetOf r) m (p .3), h, u)
+      rw (p .0, p .1, v, p .2, eqb-true (targetOf r) m (p .3), here, u)
 
   command-refused : (r : List ℕ) (room : ℕ) → names m (command r room) ≡ true → usable (inUseOf c) (opcodeOf r) ≡ true → 8 ≤ room
       → respond c r room ≡ (c, headOf Marked)
@@ -78,10 +82,10 @@ module _ (c : List ℕ) (m : ℕ) (s : isSound c ≡ true) (u : isMarked c m ≡
   unfolding step names beginOf feedOf finishOf dropOf
   between = record {
     commands = λ r room n v l. rw (command-refused r room n v l);
-    begins = ap ofRestore (on-member-marked c m _ s h u);
-    feeds = λ x. ap ofRestore (on-open-marked c m _ s h u);
-    finishes = λ id. ap ofRestore (on-open-marked c m _ s h u);
-    drops = ap ofRestore (on-open-marked c m _ s h u);
+    begins = ap ofRestore (on-member-marked c m _ s here u);
+    feeds = λ x. ap ofRestore (on-open-marked c m _ s here u);
+    finishes = λ id. ap ofRestore (on-open-marked c m _ s here u);
+    drops = ap ofRestore (on-open-marked c m _ s here u);
     messages = λ x room n. ap ofMessage (answer-marked c x m room u n);
   }
 
@@ -105,7 +109,7 @@ none-found (o ∷ os) e zero = free-found (o .slot) (both _ _ e .0)
 pub marked-idle : MarkedIdle
 unfolding lookupOf
 marked-idle c m s u =
-    let k = h c m s u in
+    let k = marked-here c m u in
     let e = sound-member-in c (sound-of c s) m k .mark (sym (marked-is c m k) ∙ u) in
     record { stopped = e .stopped; noObject = none-found (memberIn c m .objects) (e .noObjects); noPlace = e .noPlace }
 
