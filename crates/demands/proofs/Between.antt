@@ -113,7 +113,15 @@ marked-idle c m s u =
     let e = sound-member-in c (sound-of c s) m k .mark (sym (marked-is c m k) ∙ u) in
     record { stopped = e .stopped; noObject = none-found (memberIn c m .objects) (e .noObjects); noPlace = e .noPlace }
 
--- ---- a card store for it ----
+-- ---- a member that is handed back, and a card store for it ----
+
+pub back-member : (c : List ℕ) (m : ℕ) → isSound c ≡ true → isMember c m ≡ true → memberIn (withHandedBack c m) m ≡ handedBack (memberIn c m)
+unfolding withHandedBack
+back-member c m s h =
+    let x = handedBack (memberIn c m) in
+    let r = sound-has c (sound-of c s) m h in
+    member-with-holding (withMember c m x) m noBytes m (r .low) (r .low)
+    ∙ member-same c m x r (sound-handed-back _ _ _ (memberIn c m) (sound-member-in c (sound-of c s) m h) .shaped)
 
 module _ (c : List ℕ) (m : ℕ) (s : isSound c ≡ true) (h : isMember c m ≡ true) (u : isMarked c m ≡ false) where
   abbrev x : Member
@@ -124,12 +132,6 @@ module _ (c : List ℕ) (m : ℕ) (s : isSound c ≡ true) (h : isMember c m ≡
 
   sound-x : SoundIn c x
   sound-x = sound-member-in c (sound-of c s) m h
-
-  back-member : memberIn (withHandedBack c m) m ≡ handedBack x
-  unfolding withHandedBack
-  back-member =
-      member-with-holding (withMember c m (handedBack x)) m noBytes m (has .low) (has .low)
-      ∙ member-same c m (handedBack x) has (sound-handed-back _ _ _ x sound-x .shaped)
 
   -- a member that is sound is put, not marked, and handed back
   back-over : (z : Member) → SoundIn c z → z .marked ≡ false → step (withMember c m z) (handBack m) .0 ≡ withHolding (withMember c m (handedBack z)) m noBytes
@@ -157,7 +159,7 @@ module _ (c : List ℕ) (m : ℕ) (s : isSound c ≡ true) (h : isMember c m ≡
     unfolding store storeIn unless_answer_then_
     stored-later =
         let i : isMember (withHandedBack c m) m ≡ true = rw back-setup h in
-        rw (on-sound (withHandedBack c m) m _ (back-sound c m 0 s h u), i, back-member)
+        rw (on-sound (withHandedBack c m) m _ (back-sound c m 0 s h u), i, back-member c m s h)
 
     later-over : isEventDone a ≡ true → withMember (withHandedBack c m) m (handedBack z) ≡ step (withMember c m z) (handBack m) .0
     unfolding withHandedBack

@@ -20,6 +20,7 @@ use Rattle.demands.proofs.Isolation.{isolation}
 use Rattle.demands.proofs.Integrity.{integrity}
 use Rattle.demands.proofs.Commutation.{commutation, commands-commute}
 use Rattle.demands.proofs.HoldingKept.{holding-kept}
+use Rattle.demands.proofs.HoldingEnded.{holding-ended}
 use Rattle.demands.proofs.ConfigurationKept.{configuration-kept}
 use Rattle.demands.proofs.Messages.{responded, nothing-applied, only-configuration, message-examples-hold}
 use Rattle.demands.proofs.Halves.{two-halves, halves-examples-hold}
@@ -71,6 +72,7 @@ claims = record {
   holdsJoined = holds-joined;
   cutAnywhere = cut-anywhere;
   holdingKept = holding-kept;
+  holdingEnded = holding-ended;
   mergedLists = difference.claims;
   mergedSets = merged-sets;
   foundCaptured = found-captured;

@@ -37,6 +37,7 @@ pub mod Places
 pub mod PlacesExample
 pub mod QueueSizes
 pub mod HoldingKept
+pub mod HoldingEnded
 pub mod RestoreExample
 pub mod Lists
 pub mod ListsExample

@@ -15,7 +15,7 @@ use Rattle.staging.specs.Staging.{heldIn, isOpen, heldBytes, beginOf}
 use Rattle.staging.specs.Claims.{SetsParts, joined, fed, restored}
 use Rattle.staging.proofs.SetsParts.{finish-is-parts-set}
 use Rattle.staging.proofs.Cut.{holds-joined, cut-anywhere}
-use Rattle.demands.specs.Calls.{restoreBegin, restoreFeed, restoreFinish, restoreDrop, Reply, answered, refused, step}
+use Rattle.demands.specs.Calls.{handBack, wipe, cardReset, restoreBegin, restoreFeed, restoreFinish, restoreDrop, Reply, answered, refused, step}
 use Rattle.demands.specs.Examples.{exampleCard, setMode, objectsLive, statusPart}
 use Rattle.demands.proofs.Model.{model}
 
@@ -110,6 +110,20 @@ refused-feed = refl
 refused-finish : refused (step begun (restoreFinish 1 0) .1) ≡ true
 unfolding example
 refused-finish = refl
+
+-- ---- resets that are done ----
+
+done-back : refused (step begun (handBack 1) .1) ≡ false
+unfolding example
+done-back = refl
+
+done-wipe : refused (step (step begun (handBack 1) .0) (wipe 1 0) .1) ≡ false
+unfolding example
+done-wipe = refl
+
+done-reset : refused (step begun (cardReset 0) .1) ≡ false
+unfolding example
+done-reset = refl
 
 -- ---- every answer ----
 

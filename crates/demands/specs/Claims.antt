@@ -38,7 +38,7 @@ use Rattle.demands.specs.Lists.{MergedSets, FoundCaptured, SalvagedAccep
 use Rattle.demands.specs.Host.{Taken, ReadBack}
 use Rattle.demands.specs.Places.{PlacesFound}
 use Rattle.demands.specs.Messages.{Responded, NothingApplied, OnlyConfiguration, ConfigurationKept, MessageExamplesHold}
-use Rattle.demands.specs.Holding.{HoldingKept}
+use Rattle.demands.specs.Holding.{HoldingKept, HoldingEnded}
 use Rattle.demands.specs.Commutation.{Commutation, CommandsCommute}
 
 -- No call makes a sound card unsound: SPEC 2.4. Example: sound-card
@@ -191,6 +191,7 @@ pub record Claims : Type 1 where
   pub holdsJoined : HoldsJoined
   pub cutAnywhere : CutAnywhere
   pub holdingKept : HoldingKept
+  pub holdingEnded : HoldingEnded
   -- REQUEST 7, a night's difference: the list made of two, and what is looked up in them. difference/specs/Claims.antt, on a
   -- member's values, and Lists.antt, on commands, with the examples difference/proofs/Example.antt and ../proofs/ListsExample.antt
   pub mergedLists : MergedLists
