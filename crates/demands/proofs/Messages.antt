@@ -8,7 +8,7 @@ use native.Mathlib.Omega.{arith}
 use lib.Dec.{eqb}
 use lib.ListN.{length}
 use borrow.Author.Tests.{eqb-true, eqb-false}
-use Rattle.theory.proofs.Tests.{by-cases, within-low}
+use Rattle.theory.proofs.Tests.{by-cases, within-low, never}
 use Rattle.theory.proofs.Bytes.{put-nil, put-front}
 use Rattle.wire.specs.Le.{le, number}
 use Rattle.member.specs.Record.{holdingSize}
@@ -20,7 +20,6 @@ use Rattle.message.proofs.Cases.{card-cases, no-data-keeps, answer-fits}
 use Rattle.demands.specs.Calls.{step, names}
 use Rattle.demands.specs.Messages.{Responded, NothingApplied, SameButConfiguration, SameConfiguration, OnlyConfiguration, messageExamples, MessageExamplesHold}
 use Rattle.demands.proofs.Model.{model}
-use Rattle.demands.proofs.Named.{never}
 use Rattle.demands.proofs.ConfigurationKept.{same-bytes, kept}
 
 -- ---- what a message leaves ----

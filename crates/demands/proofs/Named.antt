@@ -10,7 +10,7 @@ use lib.Dec.{eqb}
 use lib.ListN.{length}
 use borrow.Author.Tests.{eqb-true, eq-eqb}
 use Rattle.theory.specs.Logic.{_and_, within}
-use Rattle.theory.proofs.Tests.{inside, unless-cases, true-and, false-and, and-false}
+use Rattle.theory.proofs.Tests.{inside, unless-cases, true-and, false-and, and-false, never}
 use Rattle.protocol.specs.declared.EventAnswer.{EventAnswer}
 use Rattle.protocol.specs.Opcodes.{namesMember}
 use Rattle.member.specs.declared.Member.{Member}
@@ -43,9 +43,6 @@ use Rattle.staging.proofs.Refusals.{on-member-cases as restore-cases, on-open-c
 use Rattle.staging.proofs.Places.{has, held-short}
 use Rattle.message.specs.Access.{wholeOf}
 use Rattle.message.proofs.Cases.{speaks-one, card-cases as message-cases}
-
-pub never : {P : Type 0} → false ≡ true → P
-never e = let z : _≡_ {A = ℕ} 0 1 = cc in absurd (omega arith)
 
 -- what a call for m keeps of m
 pub record SameKept (m : ℕ) (c d : List ℕ) : Type 0 where

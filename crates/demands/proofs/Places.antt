@@ -10,7 +10,7 @@ use lib.ListN.{length, take}
 use Rattle.theory.specs.Logic.{_and_, _or_}
 use Rattle.theory.specs.Bytes.{bytesAt, same}
 use Rattle.theory.specs.Items.{itemsFrom}
-use Rattle.theory.proofs.Tests.{both, same-true}
+use Rattle.theory.proofs.Tests.{both, same-true, never}
 use Rattle.theory.proofs.Table.{every, at}
 use Rattle.wire.specs.Le.{bytes}
 use Rattle.inventory.specs.Inventory.{Row, rows, rowAt, rowCount, present, partCount, placeOf}
@@ -70,8 +70,7 @@ module _ (q : ℕ) (h : q ≤ 4) where
     has-place : (t s : ℕ) → placeOf q t s ≡ Absent → Has q t s p → ⊥
     has-place t s e x =
         let both-ways : Absent ≡ At (rowOf q p) = sym e ∙ has-found t s x in
-        let z : _≡_ {A = ℕ} 0 1 = cc in
-        absurd (omega arith)
+        never cc
 
   -- a row that is found is that of a part
   found-part : (t s i : ℕ) → ((p : ℕ) → p < partCount q → Has q t s p → ⊥) → placeOf q t s ≡ At i → ⊥

@@ -4,7 +4,7 @@ use mathlib.Core.Bool.{true}
 use Prim.Native.Nat.{ℕ, zero, suc, _≤_, _<_}
 use native.Mathlib.Omega.{arith}
 use borrow.Author.Tests.{eqb-true}
-use Rattle.theory.proofs.Tests.{both, either, within-high}
+use Rattle.theory.proofs.Tests.{both, either, within-high, never}
 use Rattle.wire.specs.Le.{number}
 use Rattle.inventory.specs.Queue.{powerBelow, ringSize, queueAllowed, queueValue}
 use Rattle.inventory.proofs.Queue.{each-allowed}
@@ -17,7 +17,7 @@ use Rattle.demands.proofs.Model.{model}
 
 is-power : (k n e : ℕ) → k ≤ 16 → powerBelow k n ≡ true → Ring n e
 unfolding powerBelow
-is-power zero n e h t = absurd (let y : _≡_ {A = ℕ} 0 1 = cc in omega arith)
+is-power zero n e h t = never cc
 is-power (suc k) n e h t = either _ _ t (λ q. power {k = k} (omega arith) (eqb-true _ _ q)) (is-power k n e (omega arith))
 
 is-ring : (n e : ℕ) → ringSize n e ≡ true → Ring n e

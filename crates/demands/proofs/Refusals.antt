@@ -7,7 +7,7 @@ use Prim.Native.Nat.{ℕ}
 use lib.Dec.{eqb}
 use borrow.Author.Tests.{eqb-true}
 use Rattle.theory.specs.Logic.{if_then_else_, unless_answer_then_}
-use Rattle.theory.proofs.Tests.{by-cases, unless-cases, and-false}
+use Rattle.theory.proofs.Tests.{by-cases, unless-cases, and-false, never}
 use Rattle.wire.specs.Le.{le, bytes, number}
 use Rattle.protocol.specs.declared.Answer.{Answer}
 use Rattle.protocol.specs.declared.Answer.the-variants.{Done, BadLength, BadGroup, BadOpcode, NoMember, Marked, BadField, Exists, NotLive, NoRoom, WrongKind, Running, BadList, ShortReply}
@@ -24,7 +24,6 @@ use Rattle.admin.proofs.Respond.{lastAnswer, respond-none, respond-cases}
 use Rattle.staging.specs.Staging.{withoutHeld, beginOf, feedOf, finishOf, dropOf}
 use Rattle.staging.proofs.Refusals.{on-member-cases as restore-cases, on-open-cases, on-open-both, on-member-unsound, on-open-unsound}
 use Rattle.message.proofs.Cases.{answer-unsound, no-data-keeps}
-use Rattle.demands.proofs.Named.{never}
 
 -- a number that is refused picks the card as it was
 kept : (n : ℕ) (next c : List ℕ) → not (eqb n 0) ≡ true → (if eqb n 0 then next else c) ≡ c

@@ -8,7 +8,7 @@ use borrow.Author.Tests.{ltb-true, leb-true}
 use lib.Dec.{leb, ltb, eqb}
 use lib.ListN.{length, replicate}
 use Rattle.theory.specs.Logic.{if_then_else_, unless_answer_then_, _and_, _or_, within}
-use Rattle.theory.proofs.Tests.{both, either, and-i, within-high, tests}
+use Rattle.theory.proofs.Tests.{both, either, and-i, within-high, tests, never}
 use Rattle.wire.specs.Le.{le, bytes, number}
 use Rattle.wire.proofs.Le.{le-bytes}
 use Rattle.protocol.specs.Opcodes.{namesMember, supportedOnly}
@@ -31,7 +31,7 @@ use Rattle.host.proofs.Asked.{dataFor, laid, sent-target, asked-frame, headers-
 reached-small : (members op m : ℕ) → members ≤ 16 → namesMember op ≡ true → reaches members op m ≡ true → m < 256 ^ 8
 unfolding reaches
 reached-small members op m few n r =
-    let h : m ≤ members = either (not (namesMember op)) (within 1 members m) r (λ e. let z : _≡_ {A = ℕ} 0 1 = cc in absurd (omega arith)) (within-high 1 members m) in
+    let h : m ≤ members = either (not (namesMember op)) (within 1 members m) r (λ e. never cc) (within-high 1 members m) in
     omega arith
 
 member-small : (members : ℕ) (x : Command) → members ≤ 16 → reaches members (sentOf x .opcode) (sentOf x .member) ≡ true

@@ -5,6 +5,7 @@ use mathlib.Core.Bool.{true, false}
 use Prim.Native.Nat.{ℕ}
 use native.Mathlib.Omega.{arith}
 use lib.ListN.{getD}
+use Rattle.theory.proofs.Tests.{never}
 use Rattle.demands.specs.Calls.{Call, Reply, answered, refused}
 use Rattle.demands.specs.Examples.{create, repliesTo, sizeOf}
 use Rattle.demands.specs.WrongPrograms.{exampleB, Passes, Rejected, WrongProgramsRejected}
@@ -12,7 +13,7 @@ use Rattle.demands.proofs.Model.{model}
 
 -- a success is no refusal
 pub obeyed : {x y : Reply} → refused x ≡ true → x ≡ y → refused y ≡ false → ⊥
-obeyed h e n = let z : _≡_ {A = ℕ} 0 1 = cc in omega arith
+obeyed h e n = never cc
 
 module _ {State : Type 0} (machine : State → Call → State × Reply) (start : State) where
   -- the reply to call j of example k

@@ -3,13 +3,12 @@ use mathlib.Core.Path.{_≡_, refl, ap, sym, _∙_}
 use mathlib.Core.Bool.{true, false}
 use mathlib.Core.List.{List, []}
 use Prim.Native.Nat.{ℕ, _<_}
-use native.Mathlib.Omega.{arith}
 use borrow.Author.Tests.{eqb-true, eqb-false, ltb-true}
 use lib.Dec.{eqb, ltb}
 use lib.ListN.{length}
 use Rattle.theory.specs.Logic.{unless_answer_then_}
 use Rattle.theory.specs.Bytes.{bytesAt}
-use Rattle.theory.proofs.Tests.{by-cases}
+use Rattle.theory.proofs.Tests.{by-cases, never}
 use Rattle.inventory.specs.Inventory.{rowAt, rowCount, featuresSize, selectorOf, placeOf, onPlace}
 use Rattle.inventory.specs.declared.Place.{Place}
 use Rattle.inventory.specs.declared.Place.the-variants.{At, Absent}
@@ -41,7 +40,7 @@ by-row {P = P} q t s k f = cases (placeOf q t s) refl k
   where
     cases : (p : Place) → placeOf q t s ≡ p → onPlace p (λ i. true) false ≡ true → P
     cases (At i) e h = f i e
-    cases Absent e h = let z : _≡_ {A = ℕ} 0 1 = cc in absurd (omega arith)
+    cases Absent e h = never cc
 
 -- ---- a lookup in the pair ----
 

@@ -11,7 +11,7 @@ use lib.Dec.{eqb}
 use lib.ListN.{length}
 use Rattle.theory.specs.Logic.{if_then_else_, _and_}
 use Rattle.theory.specs.Bytes.{bytesAt}
-use Rattle.theory.proofs.Tests.{by-cases}
+use Rattle.theory.proofs.Tests.{by-cases, never}
 use Rattle.theory.proofs.Bytes.{length-bytesAt}
 use Rattle.parts.specs.declared.ListForm.the-variants.{Parts}
 use Rattle.parts.specs.declared.Step.{Step}
@@ -63,7 +63,7 @@ record Stands (t s : ℕ) (l : List ℕ) (ps : PartList) (w : Span) : Type 0 whe
   inside : (start len : ℕ) → w ≡ Value start len → start + len ≤ length l
 
 nowhere : (l : List ℕ) (start len : ℕ) → Nowhere ≡ Value start len → start + len ≤ length l
-nowhere l start len e = let z : _≡_ {A = ℕ} 0 1 = cc in absurd (omega arith)
+nowhere l start len e = never cc
 
 stands-part : (t s : ℕ) (l : List ℕ) (u f v start len : ℕ) (ps : PartList) → start + len ≤ length l
     → Stands t s l ps (spanFrom t s (start + len) ps)

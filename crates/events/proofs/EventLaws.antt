@@ -12,7 +12,7 @@ use lib.Dec.{eqb}
 use lib.ListN.{length, take, drop, replicate}
 use Rattle.theory.specs.Logic.{if_then_else_, unless_answer_then_, _and_}
 use Rattle.theory.specs.Bytes.{put}
-use Rattle.theory.proofs.Tests.{both}
+use Rattle.theory.proofs.Tests.{both, never}
 use Rattle.theory.proofs.Bytes.{put-all}
 use Rattle.theory.proofs.Ladder.{stop, pass}
 use Rattle.protocol.specs.declared.EventAnswer.{EventAnswer}
@@ -43,7 +43,7 @@ both-passed : (s m : Bool) → isEventDone (unless s answer NotSound then unless
 unfolding unless_answer_then_
 both-passed true true e = (refl, refl)
 both-passed true false e = (refl, e)
-both-passed false m e = absurd (let z : _≡_ {A = Bool} false true = e in (let y : _≡_ {A = ℕ} 0 1 = cc in omega arith))
+both-passed false m e = never e
 
 -- ---- what a test that held says ----
 

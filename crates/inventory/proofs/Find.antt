@@ -9,7 +9,7 @@ use borrow.Author.Tests.{eqb-true}
 use lib.Dec.{eqb}
 use lib.ListN.{length, getD}
 use Rattle.theory.specs.Logic.{if_then_else_}
-use Rattle.theory.proofs.Tests.{by-cases, both}
+use Rattle.theory.proofs.Tests.{by-cases, both, never}
 use Rattle.theory.proofs.Table.{every}
 use Rattle.inventory.specs.Inventory.{Row, row, rows, rowAt, rowCount, present, isRow, seek, placeOf}
 use Rattle.inventory.specs.declared.Place.{Place}
@@ -36,7 +36,7 @@ found q t s i h e =
 seek-found : (q t s : ℕ) (rs : List Row) (k i : ℕ) → k + length rs ≡ rowCount → ((j : ℕ) → getD rs j (row 0 0 0) ≡ rowAt (k + j))
     → seek q t s rs k ≡ At i → Found q t s i
 unfolding seek if_then_else_
-seek-found q t s [] k i n same e = let z : _≡_ {A = ℕ} 0 1 = cc in absurd (omega arith)
+seek-found q t s [] k i n same e = never cc
 seek-found q t s (r ∷ rs) k i n same e =
     by-cases (isRow q t s r)
     (λ y.

@@ -10,7 +10,7 @@ use lib.Bits.{bitAnd, and-step, and-self, and-shifted, and-mask, and-comm, and-b
 use lib.Dec.{eqb}
 use borrow.Author.Tests.{eqb-true, eqb-false, eq-eqb, ne-eqb}
 use Rattle.theory.specs.Logic.{_and_, _or_}
-use Rattle.theory.proofs.Tests.{by-cases, either, or-false, false-and}
+use Rattle.theory.proofs.Tests.{by-cases, either, or-false, false-and, never}
 use Rattle.theory.proofs.Ladder.{or-left, or-right}
 use Rattle.inventory.specs.Queue.{powerBelow, ringSize}
 
@@ -59,7 +59,7 @@ shares-none (suc k) n z h e =
 pub power-tested : (k n : ℕ) → 0 < n → n < 2 ^ k → eqb (bitAnd n (n - 1)) 0 ≡ powerBelow k n
 power-tested k n z h =
     by-cases (powerBelow k n) (λ e. eq-eqb _ _ (power-shares-none k n e) ∙ sym e)
-    (λ e. ne-eqb _ _ (λ q. let c = sym (shares-none k n z h q) ∙ e in let y : _≡_ {A = ℕ} 0 1 = cc in omega arith) ∙ sym e)
+    (λ e. ne-eqb _ _ (λ q. let c = sym (shares-none k n z h q) ∙ e in never cc) ∙ sym e)
 
 -- ---- the enabled field stands from bit 16 on ----
 

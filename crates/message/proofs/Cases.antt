@@ -8,7 +8,7 @@ use lib.Dec.{leb}
 use lib.ListN.{length, length-drop}
 use borrow.Author.Tests.{eqb-true, eq-eqb, leb-true}
 use Rattle.theory.specs.Logic.{unless_answer_then_}
-use Rattle.theory.proofs.Tests.{by-cases, if-cases, unless-cases, both, inside}
+use Rattle.theory.proofs.Tests.{by-cases, if-cases, unless-cases, both, inside, never}
 use Rattle.wire.specs.Le.{bytes, number}
 use Rattle.wire.proofs.Le.{le-bytes}
 use Rattle.card.specs.Layout.{configurationSize, setupOf, isMember, isMarked, generationIn, withConfiguration}
@@ -38,9 +38,6 @@ module _ (c x : List ℕ) (room : ℕ) where
   answer-cases P f g = unless-cases P _ _ _ (λ t. f) (λ s. unless-cases P _ _ _ (λ t. f) (λ t. g s))
 
 -- ---- whom a message names ----
-
-never : {P : Type 0} → false ≡ true → P
-never e = absurd (let z : _≡_ {A = ℕ} 0 1 = cc in omega arith)
 
 pub speaks-one : (a : Access) (m k : ℕ) → speaksFor m a ≡ true → speaksFor k a ≡ true → m ≡ k
 unfolding speaksFor

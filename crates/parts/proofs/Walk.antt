@@ -9,6 +9,7 @@ use lib.Dec.{leb, ltb}
 use lib.ListN.{length, getD}
 use borrow.Author.Tests.{lt-ltb, le-ltb, le-leb, leb-true}
 use Rattle.theory.specs.Logic.{unless_answer_then_}
+use Rattle.theory.proofs.Tests.{never}
 use Rattle.wire.specs.Le.{number}
 use Rattle.inventory.specs.Inventory.{selectorOf}
 use Rattle.inventory.specs.Header.{flagsAt, selectorAt, headerSize}
@@ -58,9 +59,9 @@ step-part form l at {t} {f} {s} {start} {len} e = cases _ _ _ refl refl refl e
         let h = leb-true headerSize (length l - at) e₂ in
         let h′ = leb-true (valueSize form l at) (length l - (at + headerSize)) e₃ in
         record { starts = i; ends = omega arith }
-    cases true true false e₁ e₂ e₃ e = let z : _≡_ {A = ℕ} 0 1 = cc in absurd (omega arith)
-    cases true false b₃ e₁ e₂ e₃ e = let z : _≡_ {A = ℕ} 0 1 = cc in absurd (omega arith)
-    cases false b₂ b₃ e₁ e₂ e₃ e = let z : _≡_ {A = ℕ} 0 1 = cc in absurd (omega arith)
+    cases true true false e₁ e₂ e₃ e = never cc
+    cases true false b₃ e₁ e₂ e₃ e = never cc
+    cases false b₂ b₃ e₁ e₂ e₃ e = never cc
 
 -- with a bound that is large enough, one more part changes nothing
 one-more : (form : ListForm) (n : ℕ) (l : List ℕ) (at : ℕ) → length l ≤ at + n → atMost form n l at ≡ atMost form (suc n) l at

@@ -9,7 +9,7 @@ use borrow.Author.Tests.{ltb-true, leb-true}
 use lib.Dec.{T, leb, ltb, leb→le}
 use lib.ListN.{getD, List·getD-map, List·getD-eq-default}
 use Rattle.theory.specs.Logic.{_and_, _or_, within}
-use Rattle.theory.proofs.Tests.{by-cases, either, above, within-low, within-high, or-i, tests}
+use Rattle.theory.proofs.Tests.{by-cases, either, above, within-low, within-high, or-i, tests, never}
 use Rattle.theory.proofs.Table.{every, at}
 use Rattle.protocol.specs.Opcodes.{OpcodeRow, unsupported, opcodeRows, opcodeRow, supported, fixedSize, longestFixed, namesMember}
 
@@ -29,7 +29,7 @@ module _ (op : ℕ) where
   pub supported-below : supported op ≡ true → op < 18
   supported-below s =
       by-cases (ltb 17 op)
-      (λ e. let z : _≡_ {A = ℕ} 0 1 = cc (supported-out (ltb-true 17 op e)) in omega arith)
+      (λ e. never (cc (supported-out (ltb-true 17 op e))))
       (λ e. omega tests)
 
   pub fixed-longest : fixedSize op ≤ longestFixed

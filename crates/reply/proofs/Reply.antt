@@ -11,7 +11,7 @@ use lib.ListN.{length, take, drop, replicate, length-append}
 use borrow.Author.Tests.{le-leb, lt-leb, leb-true, not-true, not-false}
 use Rattle.theory.specs.Logic.{if_then_else_, unless_answer_then_}
 use Rattle.theory.specs.Bytes.{put}
-use Rattle.theory.proofs.Tests.{by-cases}
+use Rattle.theory.proofs.Tests.{by-cases, never}
 use Rattle.theory.proofs.Bytes.{length-put, put-append}
 use Rattle.theory.proofs.Lent.{length-tail}
 use Rattle.wire.specs.Le.{bytes}
@@ -56,11 +56,8 @@ pub final-room : (a : Answer) (size room : ℕ) → isDone (finalOf a size room)
 unfolding finalOf if_then_else_ unless_answer_then_
 final-room a size room =
     by-cases (isDone a)
-    (λ d. rw d (by-cases (leb (8 + size) room) (λ l. rw l (λ e. leb-true (8 + size) room l)) (λ l. rw l (λ e. absurd-false e))))
-    (λ d. rw d (λ e. absurd-false (sym d ∙ e)))
-  where
-    absurd-false : false ≡ true → 8 + size ≤ room
-    absurd-false e = let z : _≡_ {A = ℕ} 0 1 = cc in absurd (omega arith)
+    (λ d. rw d (by-cases (leb (8 + size) room) (λ l. rw l (λ e. leb-true (8 + size) room l)) (λ l. rw l (λ e. never e))))
+    (λ d. rw d (λ e. never (sym d ∙ e)))
 
 -- ---- what is written ----
 

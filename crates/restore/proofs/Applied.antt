@@ -12,7 +12,7 @@ use lib.ListN.{length, take}
 use lib.Seq.{take-all, take-add}
 use Rattle.theory.specs.Logic.{_and_, _or_}
 use Rattle.theory.specs.Bytes.{bytesAt, same}
-use Rattle.theory.proofs.Tests.{by-cases, both, and-i, true-and, false-or, same-true}
+use Rattle.theory.proofs.Tests.{by-cases, both, and-i, true-and, false-or, same-true, never}
 use Rattle.theory.proofs.Bytes.{bytesAt-before, bytesAt-after, bytesAt-put-as}
 use Rattle.inventory.specs.Inventory.{rowAt, rowCount, deviceFeatures, featuresSize, present, offsetOf, valuesSize, placeOf}
 use Rattle.inventory.specs.declared.Place.the-variants.{At}
@@ -79,7 +79,7 @@ applied-absent q i h n cut v = refl
 applied-absent q i h n (part p ps) v =
     applied-absent q i h n ps _
     ∙ stored-other q (p .partType) (p .selector) (p .value) v i h
-    (λ f. let z : _≡_ {A = ℕ} 0 1 = cc (f .there) in omega arith)
+    (λ f. never (cc (f .there)))
 
 -- device features in a list are those given
 pub features-found : (features : List ℕ) (s : ℕ) (ps : PartList) → every (featuresSame features) ps ≡ true
@@ -148,7 +148,7 @@ module _ (q i : ℕ) (few : q < 5) (h : i < rowCount) (y : present q (rowAt i) �
       ∙ rw (
         value-on _ _ p ps (valueOf v i) n,
         stored-other q (p .partType) (p .selector) (p .value) v i h
-            (λ f. let z : _≡_ {A = ℕ} 0 1 = cc (and-i _ _ (eq-eqb _ _ (sym (f .type-is))) (eq-eqb _ _ (sym (f .selector-is)))) in omega arith),
+            (λ f. never (cc (and-i _ _ (eq-eqb _ _ (sym (f .type-is))) (eq-eqb _ _ (sym (f .selector-is)))))),
       ))
 
   -- in row i stands what the list has for it, else what stood there; the values have the device features in front

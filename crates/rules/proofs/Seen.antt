@@ -4,13 +4,12 @@ use mathlib.Core.Path.{_≡_, refl, sym, _∙_}
 use mathlib.Core.Bool.{Bool, true, false}
 use mathlib.Core.List.{List}
 use Prim.Native.Nat.{ℕ, zero, suc, _<_}
-use native.Mathlib.Omega.{arith}
 use borrow.Author.Tests.{eqb-true, eqb-false, eq-eqb}
 use lib.Dec.{eqb}
 use lib.ListN.{length, getD, set, replicate, length-set}
 use lib.Seq.{getD-set-same, getD-set-other, set-comm}
 use Rattle.theory.specs.Logic.{_and_, _or_}
-use Rattle.theory.proofs.Tests.{by-cases, both, and-i, and-false, or-false}
+use Rattle.theory.proofs.Tests.{by-cases, both, and-i, and-false, or-false, never}
 use Rattle.inventory.specs.Inventory.{rowCount, placeOf, onPlace}
 use Rattle.inventory.specs.declared.Place.{Place}
 use Rattle.inventory.specs.declared.Place.the-variants.{At, Absent}
@@ -60,7 +59,7 @@ module _ (q t s u v : ℕ) where
       → isSeen (withSeen seen a) b ≡ (onPlace a (λ i. true) false and (eqb u t and eqb v s)) or isSeen seen b
   unfolding _and_ _or_
   seen-with seen Absent b l e f = refl
-  seen-with seen (At i) Absent l e f = rw (other-row (At i) Absent e f (λ z. let o : _≡_ {A = ℕ} 0 1 = cc in omega arith))
+  seen-with seen (At i) Absent l e f = rw (other-row (At i) Absent e f (λ z. never cc))
   seen-with seen (At i) (At j) l e f =
       by-cases (eqb j i)
       (λ h.

@@ -12,7 +12,7 @@ use lib.ListN.{length, getD, set}
 use lib.Seq.{getD-set-same, getD-set-other}
 use Rattle.theory.specs.Logic.{if_then_else_, _and_, _or_}
 use Rattle.theory.specs.Bytes.{bytesAt, put}
-use Rattle.theory.proofs.Tests.{by-cases, unless-cases, both, and-i, false-and, and-false, and-true, or-true, or-false, true-or}
+use Rattle.theory.proofs.Tests.{by-cases, unless-cases, both, and-i, false-and, and-false, and-true, or-true, or-false, true-or, never}
 use Rattle.theory.proofs.Bytes.{bytesAt-before, bytesAt-after, bytesAt-put-as}
 use Rattle.inventory.specs.Inventory.{rowAt, rowCount, offsetOf, placeOf, onPlace}
 use Rattle.inventory.specs.declared.Place.{Place}
@@ -61,7 +61,7 @@ module _ (q : ℕ) (features : List ℕ) (p : Part) where
     where
       cases : (r : Place) → placeOf q (p .partType) (p .selector) ≡ r → onPlace r (λ i. true) false ≡ true → P
       cases (At j) e k = f j e
-      cases Absent e k = let z : _≡_ {A = ℕ} 0 1 = cc in absurd (omega arith)
+      cases Absent e k = never cc
 
   sized-at : (j : ℕ) → allowed q features p ≡ true → placeOf q (p .partType) (p .selector) ≡ At j → length (p .value) ≡ rowAt j .size
   unfolding allowed lengthRight
@@ -94,8 +94,7 @@ module _ (q : ℕ) (features : List ℕ) (p : Part) where
         let t : p .partType ≡ rowAt i .partType = sym (f .type-is) ∙ rw same in
         let s : p .selector ≡ rowAt i .selector = sym (f .selector-is) ∙ rw same in
         let y = and-i _ _ (and-i _ _ (eq-eqb _ _ t) (eq-eqb _ _ s)) a in
-        let z : _≡_ {A = ℕ} 0 1 = cc in
-        omega arith
+        never cc
 
     -- ---- what it leaves in row i ----
 

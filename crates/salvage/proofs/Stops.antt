@@ -10,6 +10,7 @@ use lib.Dec.{ltb, leb}
 use lib.ListN.{length}
 use Rattle.theory.specs.Logic.{unless_answer_then_}
 use Rattle.theory.proofs.Bytes.{length-bytesAt}
+use Rattle.theory.proofs.Tests.{never}
 use Rattle.inventory.specs.Header.{headerSize}
 use Rattle.parts.specs.declared.ListForm.the-variants.{Parts}
 use Rattle.parts.specs.declared.Step.{Step}
@@ -28,9 +29,9 @@ end-reached l at e =
     cases : (b₁ b₂ b₃ : Bool) → ltb at (length l) ≡ b₁
         → (unless b₁ answer step.End then unless b₂ answer step.Cut then unless b₃ answer step.Cut then headerAt Parts l at) ≡ step.End
         → length l ≤ at
-    cases true true true e₁ e = let z : _≡_ {A = ℕ} 0 1 = cc in absurd (omega arith)
-    cases true true false e₁ e = let z : _≡_ {A = ℕ} 0 1 = cc in absurd (omega arith)
-    cases true false b₃ e₁ e = let z : _≡_ {A = ℕ} 0 1 = cc in absurd (omega arith)
+    cases true true true e₁ e = never cc
+    cases true true false e₁ e = never cc
+    cases true false b₃ e₁ e = never cc
     cases false b₂ b₃ e₁ e = ltb-false at (length l) e₁
 
 -- of the parts from a position

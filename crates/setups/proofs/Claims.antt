@@ -9,7 +9,7 @@ use lib.ListN.{length, take, length-append}
 use lib.Seq.{take-at}
 use Rattle.theory.specs.Logic.{if_then_else_, unless_answer_then_}
 use Rattle.theory.specs.Bytes.{put}
-use Rattle.theory.proofs.Tests.{by-cases}
+use Rattle.theory.proofs.Tests.{by-cases, never}
 use Rattle.theory.proofs.Bytes.{put-front, drop-after}
 use Rattle.setups.specs.declared.ReadAnswer.the-variants.{Done, Version2}
 use Rattle.setups.specs.Setup.{featuresSize, inNumbers}
@@ -79,12 +79,12 @@ read-alike l e = by-cases (eqb (versionIn l) 2) (λ t. let d = rw t at e in cc) 
 
 never-named : (l : List ℕ) → readSetup l .answer ≡ Version2 → ⊥
 never-named l =
-    read-cases (λ o. o .answer ≡ Version2 → ⊥) l (λ e. let z : _≡_ {A = ℕ} 0 1 = cc in omega arith)
-    (λ s r e. let z : _≡_ {A = ℕ} 0 1 = cc in omega arith)
+    read-cases (λ o. o .answer ≡ Version2 → ⊥) l (λ e. never cc)
+    (λ s r e. never cc)
 
 in-range : (l : List ℕ) → readSetup l .answer ≡ Done → InRange (readSetup l .setup)
 in-range l =
-    read-cases (λ o. o .answer ≡ Done → InRange (o .setup)) l (λ e. let z : _≡_ {A = ℕ} 0 1 = cc in absurd (omega arith))
+    read-cases (λ o. o .answer ≡ Done → InRange (o .setup)) l (λ e. never cc)
     (λ s r e. r)
 
 pub claims : Claims

@@ -1,13 +1,13 @@
 -- What a setup says of one member is in range. Assumes nothing.
 use mathlib.Core.Path.{_≡_, refl}
-use mathlib.Core.Bool.{true, false}
+use mathlib.Core.Bool.{true}
 use mathlib.Core.List.{List}
 use Prim.Native.Nat.{ℕ, _-_, _≤_, _<_}
 use native.Mathlib.Omega.{arith}
 use lib.ListN.{length, getD, take}
 use lib.Seq.{getD-take}
 use Rattle.theory.specs.Logic.{unless_answer_then_, within}
-use Rattle.theory.proofs.Tests.{by-cases, within-low, within-high}
+use Rattle.theory.proofs.Tests.{by-cases, within-low, within-high, never}
 use Rattle.setups.specs.declared.Setup.{Setup}
 use Rattle.setups.specs.declared.MemberSetup.{MemberSetup}
 use Rattle.setups.specs.declared.ReadOutcome.{ReadOutcome}
@@ -17,9 +17,6 @@ use Rattle.setups.specs.Member.{noMember, memberOf, memberSetup}
 use Rattle.setups.specs.Claims.{InRange, MemberInRange}
 use Rattle.setups.proofs.Ranges.{numbers-in, all-at}
 use Rattle.setups.proofs.InRange.{read-cases}
-
-never : {P : Type 0} → false ≡ true → P
-never e = let z : _≡_ {A = ℕ} 0 1 = cc in absurd (omega arith)
 
 pub members-few : (l : List ℕ) → readSetup l .setup .members ≤ 16
 unfolding noSetup

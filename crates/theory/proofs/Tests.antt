@@ -20,6 +20,10 @@ pub by-cases {ℓ} : {P : Type ℓ} (v : Bool) → (v ≡ true → P) → (v ≡
 by-cases true f g = f refl
 by-cases false f g = g refl
 
+-- a case that cannot be: `never cc` closes one in which two facts name different constructors
+pub never {ℓ} : {P : Type ℓ} → false ≡ true → P
+never e = let z : _≡_ {A = ℕ} 0 1 = cc in absurd (omega arith)
+
 -- a fact about a choice follows from the fact about each of the two
 pub if-cases {ℓ κ} : {A : Type κ} (P : A → Type ℓ) (v : Bool) (x y : A)
     → (v ≡ true → P x) → (v ≡ false → P y) → P (if v then x else y)
