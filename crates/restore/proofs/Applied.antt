@@ -1,7 +1,7 @@
 -- What a list that is accepted leaves in each row: the list's value where it has one, else what was there. And values that
 -- are the same in each row are the same. Assumes nothing.
 use mathlib.Core.Path.{_≡_, refl, ap, sym, _∙_}
-use mathlib.Core.Bool.{Bool, true, false}
+use mathlib.Core.Bool.{true, false}
 use mathlib.Core.List.{List}
 use Prim.Native.Nat.{ℕ, zero, suc, _+_, _<_, _≤_}
 use native.Mathlib.Numerals.{add-one}
@@ -10,9 +10,9 @@ use borrow.Author.Tests.{eqb-true, eq-eqb, ltb-true, ltb-false}
 use lib.Dec.{eqb, ltb}
 use lib.ListN.{length, take}
 use lib.Seq.{take-all, take-add}
-use Rattle.theory.specs.Logic.{_and_, _or_}
+use Rattle.theory.specs.Logic.{_and_}
 use Rattle.theory.specs.Bytes.{bytesAt, same}
-use Rattle.theory.proofs.Tests.{by-cases, both, and-i, true-and, false-or, same-true, never}
+use Rattle.theory.proofs.Tests.{by-cases, both, and-i, true-and, false-or, same-true, never, neither}
 use Rattle.theory.proofs.Bytes.{bytesAt-before, bytesAt-after, bytesAt-put-as}
 use Rattle.inventory.specs.Inventory.{rowAt, rowCount, deviceFeatures, featuresSize, present, offsetOf, valuesSize, placeOf}
 use Rattle.inventory.specs.declared.Place.the-variants.{At}
@@ -96,17 +96,6 @@ features-found features s (part p ps) e =
     value-here deviceFeatures s p ps features (eqb-true _ _ (n .0)) (eqb-true _ _ (n .1)) ∙ same-true _ _ x)
     (λ n. value-on deviceFeatures s p ps features n ∙ features-found features s ps (b .1))
 
--- a part in front is not named again, and those after it are not repeated
-not-first : (a b : Bool) → a or b ≡ false → a ≡ false
-unfolding _or_
-not-first true b e = e
-not-first false b e = refl
-
-not-later : (a b : Bool) → a or b ≡ false → b ≡ false
-unfolding _or_
-not-later true b e = cc
-not-later false b e = e
-
 -- of a row that the member has
 module _ (q i : ℕ) (few : q < 5) (h : i < rowCount) (y : present q (rowAt i) ≡ true) where
   place : placeOf q (rowAt i .partType) (rowAt i .selector) ≡ At i
@@ -128,7 +117,8 @@ module _ (q i : ℕ) (few : q < 5) (h : i < rowCount) (y : present q (rowAt i) �
   later-at z (part p ps) v e r l =
       let b = both _ _ e in
       let after = stored q (p .partType) (p .selector) (p .value) v in
-      let ih = later-at z ps after (b .1) (not-later _ _ r) (stored-length q _ _ (p .value) v ∙ l) in
+      let o = neither _ _ r in
+      let ih = later-at z ps after (b .1) (o .1) (stored-length q _ _ (p .value) v ∙ l) in
       by-cases (eqb (p .partType) (rowAt i .partType) and eqb (p .selector) (rowAt i .selector))
       (λ n.
       let m = both _ _ n in
@@ -136,7 +126,7 @@ module _ (q i : ℕ) (few : q < 5) (h : i < rowCount) (y : present q (rowAt i) �
       let s = eqb-true (p .selector) (rowAt i .selector) (m .1) in
       let at-i : placeOf q (p .partType) (p .selector) ≡ At i = rw (t, s) place in
       let last : among (p .partType) (p .selector) ps ≡ false =
-      sym (true-and _) ∙ rw (known-at (p .partType) (p .selector) at-i) at (not-first _ _ r) in
+      sym (true-and _) ∙ rw (known-at (p .partType) (p .selector) at-i) at (o .0) in
       let size = sized-at p at-i (b .0) in
       ih
       ∙ value-none _ _ ps _ (rw (t, s) at last)

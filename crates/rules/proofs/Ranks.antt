@@ -7,7 +7,7 @@ use lib.Dec.{leb}
 use borrow.Author.Needs.{needs}
 use borrow.Author.Tests.{leb-true, leb-false, le-leb, ne-eqb}
 use Rattle.theory.specs.Logic.{if_then_else_, unless_answer_then_, _and_, _or_}
-use Rattle.theory.proofs.Tests.{by-cases}
+use Rattle.theory.proofs.Tests.{by-cases, not-or}
 use Rattle.rules.specs.declared.Cause.{Cause}
 use Rattle.rules.specs.declared.Cause.the-variants.{Accepted, Cut, Unknown, Length, Size, Features, Twice}
 use Rattle.rules.specs.Ranks.{rankOf, least, causeAt}
@@ -56,11 +56,6 @@ least-step r true false x y h k = least-right x r h
 least-step r false true x y h k = least-left r y k
 least-step r false false x y h k = least-left r r (omega arith)
 
-neither : (a b : Bool) → not a and not b ≡ not (a or b)
-unfolding _and_ _or_
-neither true b = refl
-neither false b = refl
-
 pub rank-both : (k n z f d k′ n′ z′ f′ d′ : Bool)
     → least (rankOf k n z f d) (rankOf k′ n′ z′ f′ d′) ≡ rankOf (k and k′) (n and n′) (z and z′) (f and f′) (d or d′)
 unfolding rankOf
@@ -73,7 +68,7 @@ rank-both k n z f d k′ n′ z′ f′ d′ =
     ∙ ap (λ r. unless z and z′ answer 2 then r)
     (least-step 3 f f′ _ _ (search (needs, at-least)) (search (needs, at-least))
     ∙ ap (λ r. unless f and f′ answer 3 then r)
-    (least-step 4 (not d) (not d′) 5 5 (omega arith) (omega arith) ∙ rw (neither d d′, least-left 5 5 (omega arith))))))
+    (least-step 4 (not d) (not d′) 5 5 (omega arith) (omega arith) ∙ rw (not-or d d′, least-left 5 5 (omega arith))))))
 
 -- ---- the cause of a rank ----
 

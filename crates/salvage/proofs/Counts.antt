@@ -1,7 +1,6 @@
 -- What the walk counts: the parts that are dropped for each cause, where the flags say which rows the parts before it keep.
 -- Assumes nothing.
 use mathlib.Core.Path.{_≡_, refl, ap, sym, _∙_}
-use mathlib.Core.Bool.{Bool, true, false}
 use mathlib.Core.List.{List}
 use Prim.Native.Nat.{ℕ, _+_, _<_}
 use native.Mathlib.Nat.{add-zero}
@@ -10,8 +9,8 @@ use borrow.Author.Tests.{eqb-true, eqb-false}
 use lib.Dec.{eqb}
 use lib.ListN.{length, getD}
 use lib.Seq.{getD-set-same, getD-set-other}
-use Rattle.theory.specs.Logic.{unless_answer_then_, _or_, indicator}
-use Rattle.theory.proofs.Tests.{by-cases}
+use Rattle.theory.specs.Logic.{unless_answer_then_, indicator}
+use Rattle.theory.proofs.Tests.{by-cases, or-comm}
 use Rattle.inventory.specs.Inventory.{rowAt, rowCount, placeOf, onPlace}
 use Rattle.inventory.specs.declared.Place.{Place}
 use Rattle.inventory.specs.declared.Place.the-variants.{At, Absent}
@@ -22,13 +21,6 @@ use Rattle.salvage.specs.Salvage.{isKept, fateOf, isDropped, droppedFrom
 use Rattle.salvage.specs.Walk.{State, counted, keeping, taken, walked, Sized}
 use Rattle.salvage.proofs.Fates.{flag, keptBefore, done, taken-fate, taken-sized}
 use Rattle.salvage.proofs.Rows.{fate-cases, taken-flag}
-
-or-comm : (a b : Bool) → a or b ≡ b or a
-unfolding _or_
-or-comm true true = refl
-or-comm true false = refl
-or-comm false true = refl
-or-comm false false = refl
 
 counted-is : (d : List ℕ) (c cause : ℕ) → c < length d → getD (counted d c) cause 0 ≡ getD d cause 0 + indicator (eqb c cause)
 unfolding indicator

@@ -1,18 +1,19 @@
 -- What is not refused has the lengths that the walk and the writers ask. Assumes nothing.
-use mathlib.Core.Path.{_≡_, refl, sym, _∙_}
-use mathlib.Core.Bool.{Bool, true, false, not, _&&_}
+use mathlib.Core.Path.{_≡_, sym, _∙_}
+use mathlib.Core.Bool.{Bool, false, not, _&&_}
 use mathlib.Core.List.{List}
 use Prim.Native.Nat.{ℕ}
 use native.Mathlib.Omega.{arith}
 use borrow.Author.Tests.{eqb-true, leb-true, not-false}
 use lib.Dec.{leb, eqb}
 use lib.ListN.{length}
-use Rattle.theory.specs.Logic.{_and_, within}
-use Rattle.theory.proofs.Tests.{and-bits, both, within-high}
+use Rattle.theory.specs.Logic.{within}
+use Rattle.theory.proofs.Tests.{both, within-high, and-bits}
 use Rattle.inventory.specs.Inventory.{featuresSize, partCount, partsSize}
 use Rattle.salvage.specs.Salvage.{longestList, isTaken}
 use Rattle.salvage.specs.Walk.{Fits}
 
+-- the code's tests, joined by `&`
 pub taken-tests : (q f d l k n size count : ℕ) → size ≡ partsSize q → count ≡ partCount q
     → ((((((leb 1 q && leb q 4) && eqb f featuresSize) && leb d longestList) && leb size l) && leb count k) && leb 4 n) ≡ isTaken q f d l k n
 unfolding isTaken within

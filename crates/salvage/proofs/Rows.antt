@@ -12,7 +12,7 @@ use lib.ListN.{length, getD, set}
 use lib.Seq.{getD-set-same, getD-set-other}
 use Rattle.theory.specs.Logic.{if_then_else_, _and_, _or_}
 use Rattle.theory.specs.Bytes.{bytesAt, put}
-use Rattle.theory.proofs.Tests.{by-cases, unless-cases, both, and-i, false-and, and-false, and-true, or-true, or-false, true-or, never}
+use Rattle.theory.proofs.Tests.{by-cases, unless-cases, both, and-i, false-and, and-false, and-true, or-true, or-false, true-or, never, or-assoc, if-same}
 use Rattle.theory.proofs.Bytes.{bytesAt-before, bytesAt-after, bytesAt-put-as}
 use Rattle.inventory.specs.Inventory.{rowAt, rowCount, offsetOf, placeOf, onPlace}
 use Rattle.inventory.specs.declared.Place.{Place}
@@ -28,16 +28,6 @@ use Rattle.salvage.proofs.Fates.{flag, keptBefore, done, taken-fate, ta
 -- the bytes of row i's value
 abbrev pub valueOf : List ℕ → ℕ → List ℕ
 valueOf v i = bytesAt (offsetOf i) (rowAt i .size) v
-
-or-assoc : (a b c : Bool) → a or b or c ≡ a or (b or c)
-unfolding _or_
-or-assoc true b c = refl
-or-assoc false b c = refl
-
-both-same : (b : Bool) (x : List ℕ) → x ≡ (if b then x else x)
-unfolding if_then_else_
-both-same true x = refl
-both-same false x = refl
 
 -- ---- one part: it is kept exactly if it is allowed and no copy of it was kept before ----
 
@@ -113,7 +103,7 @@ module _ (q : ℕ) (features : List ℕ) (p : Part) where
           (λ c.
           let kept : flag s i ≡ true = sym (before-is c) ∙ not-false _ (sym (rw (copy-allowed c) (and-true _)) ∙ none) in
           record { flagged = rw (kept, c) (sym (true-or _)); valued = rw kept })
-          (λ c. record { flagged = rw c (sym (or-false _)); valued = rw c (both-same (flag s i) (valueOf (s .values) i)) })
+          (λ c. record { flagged = rw c (sym (or-false _)); valued = rw c (sym (if-same (flag s i) _)) })
 
       after-kept : keptBefore q p s ≡ false → allowed q features p ≡ true → After s (done q Kept p s)
       unfolding if_then_else_
@@ -139,7 +129,7 @@ module _ (q : ℕ) (features : List ℕ) (p : Part) where
           (λ t.
           let less : j < i = omega (arith, ltb-false i j t, other) in
           bytesAt-after (offsetOf i) (rowAt i .size) (offsetOf j) (p .value) (s .values) (rw size (rows-apart j (f .below) i below less))) in
-          rw place (record { flagged = rw (kept-on, c) (sym (or-false _)); valued = on ∙ rw c (both-same (flag s i) (valueOf (s .values) i)) })))
+          rw place (record { flagged = rw (kept-on, c) (sym (or-false _)); valued = on ∙ rw c (sym (if-same (flag s i) _)) })))
 
       taken-row : After s (taken q features p s)
       taken-row =
@@ -169,8 +159,8 @@ module _ (q : ℕ) (features : List ℕ) (i : ℕ) (below : i < rowCount) where
   pub walked-value : (ps : PartList) (s : State) (n : ℕ) → Sized n s
       → valueOf (walked q features ps s .values) i ≡ (if flag s i then valueOf (s .values) i else keptOr q features t v (valueOf (s .values) i) ps)
   unfolding walked keptOr if_then_else_ _or_
-  walked-value end s n h = both-same (flag s i) (valueOf (s .values) i)
-  walked-value cut s n h = both-same (flag s i) (valueOf (s .values) i)
+  walked-value end s n h = sym (if-same (flag s i) _)
+  walked-value cut s n h = sym (if-same (flag s i) _)
   walked-value (part p ps) s n h =
       let a = taken-row q features p i below s n h in
       walked-value ps (taken q features p s) (n + 1) (taken-sized q n features p s h)

@@ -1,6 +1,6 @@
 -- Case analysis on a test, and the laws of the choices and tests of specs/Logic.antt and of `same`. Assumes nothing.
-use mathlib.Core.Path.{_≡_, refl, ap}
-use mathlib.Core.Bool.{Bool, true, false, _&&_}
+use mathlib.Core.Path.{_≡_, refl, ap, sym}
+use mathlib.Core.Bool.{Bool, true, false, not, _&&_}
 use mathlib.Core.List.{List, [], _∷_}
 use Prim.Native.Nat.{ℕ, _+_, _≤_, _<_}
 use native.Mathlib.Numerals.{add-one}
@@ -37,7 +37,13 @@ unfolding unless_answer_then_
 unless-cases P true a rest f g = g refl
 unless-cases P false a rest f g = f refl
 
--- ---- and, or ----
+-- two choices that are the same
+pub if-same {ℓ} : {A : Type ℓ} (v : Bool) (x : A) → (if v then x else x) ≡ x
+unfolding if_then_else_
+if-same true x = refl
+if-same false x = refl
+
+-- ---- and, or, not ----
 
 pub true-and : (b : Bool) → true and b ≡ b
 unfolding _and_
@@ -62,12 +68,6 @@ unfolding _and_
 and-assoc true b c = refl
 and-assoc false b c = refl
 
--- the code's tests, joined by `&`
-pub and-bits : (a b : Bool) → (a && b) ≡ a and b
-unfolding _and_
-and-bits true b = refl
-and-bits false b = refl
-
 pub true-or : (b : Bool) → true or b ≡ true
 unfolding _or_
 true-or b = refl
@@ -86,11 +86,42 @@ unfolding _or_
 or-false true = refl
 or-false false = refl
 
--- both hold
+pub or-assoc : (a b c : Bool) → a or b or c ≡ a or (b or c)
+unfolding _or_
+or-assoc true b c = refl
+or-assoc false b c = refl
+
+pub or-comm : (a b : Bool) → a or b ≡ b or a
+unfolding _or_
+or-comm true b = sym (or-true b)
+or-comm false b = sym (or-false b)
+
+pub not-and : (a b : Bool) → not a or not b ≡ not (a and b)
+unfolding _and_ _or_
+not-and true b = refl
+not-and false b = refl
+
+pub not-or : (a b : Bool) → not a and not b ≡ not (a or b)
+unfolding _and_ _or_
+not-or true b = refl
+not-or false b = refl
+
+-- the code's `&` of two tests
+pub and-bits : (a b : Bool) → (a && b) ≡ a and b
+unfolding _and_
+and-bits true b = refl
+and-bits false b = refl
+
+-- both hold; neither holds
 pub both : (a b : Bool) → a and b ≡ true → (a ≡ true) × (b ≡ true)
 unfolding _and_
 both true b e = (refl, e)
 both false b e = (e, cc)
+
+pub neither : (a b : Bool) → a or b ≡ false → (a ≡ false) × (b ≡ false)
+unfolding _or_
+neither true b e = (e, cc)
+neither false b e = (refl, e)
 
 pub and-i : (a b : Bool) → a ≡ true → b ≡ true → a and b ≡ true
 and-i a b e f = rw (e, f) (true-and true)
