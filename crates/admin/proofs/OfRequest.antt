@@ -5,8 +5,7 @@ use mathlib.Core.List.{List}
 use Prim.Native.Nat.{ℕ, _+_, _-_, _≤_, _<_}
 use native.Mathlib.Omega.{arith}
 use lib.Dec.{leb}
-use lib.ListN.{length, take, drop, length-drop, drop-of-length-le}
-use lib.Seq.{take-all}
+use lib.ListN.{length, take, drop, drop-of-length-le}
 use Rattle.theory.specs.Logic.{if_then_else_, unless_answer_then_, _and_, within}
 use Rattle.theory.proofs.Tests.{by-cases}
 use Rattle.card.specs.declared.Setup.{Setup}
@@ -28,10 +27,7 @@ pub is-asked : (c r : List ℕ) (s : Setup) (u m : ℕ) (t : Bool) (a : Ask) →
 unfolding askIn
 is-asked c r s u m t a e f g k h = h ∙ rw (e, f, k) (target-asked _ _ _ m c r g)
 
--- the part of a slice from a place to its end
-pub to-the-end : (l : List ℕ) (at : ℕ) → take (length l - at) (drop at l) ≡ drop at l
-to-the-end l at = take-all (length l - at) (drop at l) (rw length-drop (omega arith))
-
+-- the part of a slice from a place past its end
 pub past-the-end : (l : List ℕ) (at : ℕ) → length l < at → take (length l - length l) (drop (length l) l) ≡ drop at l
 past-the-end l at h =
     let k : length l - length l ≡ 0 = omega arith in

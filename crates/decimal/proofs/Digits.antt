@@ -11,7 +11,7 @@ use lib.ListN.{length, length-append, length-set, set}
 use borrow.Author.Tests.{lt-ltb, le-ltb, ltb-true, ltb-false, leb-true, leb-false}
 use Rattle.theory.specs.Logic.{if_then_else_}
 use Rattle.theory.specs.Bytes.{put}
-use Rattle.theory.proofs.Bytes.{put-cons, put-nil, put-append, length-put}
+use Rattle.theory.proofs.Bytes.{put-cons, put-append, length-put, put-one}
 use Rattle.theory.proofs.Tests.{by-cases}
 use Rattle.decimal.specs.Decimal.{lastDigit, digits, decimal, line}
 
@@ -64,9 +64,6 @@ line-short name n h = omega (arith, length-line name n, decimal-fits 19 n (omega
 
 -- ---- what the code puts ----
 
-put-one : (at v : ℕ) (l : List ℕ) → set l at v ≡ put at (v ∷ []) l
-put-one at v l = sym (put-cons at v [] l ∙ put-nil (suc at) (set l at v))
-
 -- the digits of n at `at`; h: they fit
 module _ (at n : ℕ) (out : List ℕ) (h : at + length (decimal n) ≤ length out) where
   module _ (small : n < 10) where
@@ -77,7 +74,7 @@ module _ (at n : ℕ) (out : List ℕ) (h : at + length (decimal n) ≤ length o
     one-end = omega (arith, length-one n small)
 
     pub one-put : (d : ℕ) → d ≡ lastDigit n → set out at d ≡ put at (decimal n) out
-    one-put d e = rw (decimal-one n small, e) (put-one at (lastDigit n) out)
+    one-put d e = rw (decimal-one n small, e) (sym (put-one at (lastDigit n) out))
 
   module _ (large : 10 ≤ n) where
     pub tens-less : n / 10 < n
@@ -100,7 +97,7 @@ module _ (at n : ℕ) (out : List ℕ) (h : at + length (decimal n) ≤ length o
       pub last-put : (d : ℕ) → d ≡ lastDigit n → set tens next d ≡ put at (decimal n) out
       last-put d g =
           rw (decimal-more n large, put-append, e, f, g)
-          (put-one (at + length (decimal (n / 10))) (lastDigit n) (put at (decimal (n / 10)) out))
+          (sym (put-one (at + length (decimal (n / 10))) (lastDigit n) (put at (decimal (n / 10)) out)))
 
 -- a line: the name is put, then a space, the number, a line feed
 pub line-name : (at n : ℕ) (name out : List ℕ) → at + length (line name n) ≤ length out → at + length name ≤ length out
@@ -128,7 +125,7 @@ module _ (at n : ℕ) (name out named : List ℕ) (h : at + length (line name n)
     unfolding line
     line-put =
         let z : suc (at + length name) ≡ at + length name + 1 = omega arith in
-        put-one end 10 numbered ∙ sym (rw (put-append, put-cons, z, put-append, ← e, ← f, ← g))
+        sym (put-one end 10 numbered) ∙ sym (rw (put-append, put-cons, z, put-append, ← e, ← f, ← g))
 
     pub line-fits : length out < 2 ^ 64 → Fits w64 (end + 1)
     line-fits l = record { fits = omega (arith, length-line name n) }

@@ -3,14 +3,15 @@ use mathlib.Core.Path.{_≡_, refl, ap, sym, _∙_}
 use mathlib.Core.Logic.{_≢_}
 use mathlib.Core.Bool.{true, false}
 use mathlib.Core.List.{List}
-use Prim.Native.Nat.{ℕ, zero, suc, _≤_}
+use Prim.Native.Nat.{ℕ, _≤_}
 use native.Mathlib.Omega.{arith}
 use lib.Dec.{leb}
-use lib.ListN.{length, getD, replicate, length-append}
+use lib.ListN.{length, replicate, length-append}
 use borrow.Author.Tests.{lt-leb, eqb-true}
 use Rattle.theory.specs.Logic.{_and_}
 use Rattle.theory.proofs.Tests.{by-cases, both, unless-cases, false-and, and-false}
 use Rattle.theory.proofs.Bytes.{put-nil, put-front}
+use Rattle.theory.proofs.Lists.{getD-same}
 use Rattle.protocol.specs.declared.Answer.{Answer}
 use Rattle.protocol.specs.declared.EventAnswer.{EventAnswer}
 use Rattle.protocol.specs.declared.EventAnswer.the-variants.{Done}
@@ -77,15 +78,11 @@ sets-up = record {
   zeros = zeros-unsound;
 }
   where
-    first-zero : (n : ℕ) → getD {A = ℕ} (replicate n 0) 0 0 ≡ 0
-    first-zero zero = refl
-    first-zero (suc n) = refl
-
     -- a sound card has a member
     zeros-unsound : (n : ℕ) → isSound (replicate n 0) ≡ false
     zeros-unsound n =
         by-cases (isSound (replicate n 0))
         (λ t.
-        let z : setupOf (replicate n 0) .members ≡ 0 = sym (members-read (replicate n 0)) ∙ first-zero n in
+        let z : setupOf (replicate n 0) .members ≡ 0 = sym (members-read (replicate n 0)) ∙ getD-same {A = ℕ} n 0 0 in
         absurd (omega (arith, sound-of (replicate n 0) t .numbers .someMembers)))
         (λ t. t)

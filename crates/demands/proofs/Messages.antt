@@ -2,7 +2,7 @@
 use mathlib.Core.Path.{_≡_, refl, sym, _∙_}
 use mathlib.Core.Logic.{_≢_}
 use mathlib.Core.Bool.{true, false}
-use mathlib.Core.List.{List, [], _∷_}
+use mathlib.Core.List.{List}
 use Prim.Native.Nat.{ℕ, _≤_}
 use native.Mathlib.Omega.{arith}
 use lib.Dec.{eqb}
@@ -10,6 +10,7 @@ use lib.ListN.{length}
 use borrow.Author.Tests.{eqb-true, eqb-false}
 use Rattle.theory.proofs.Tests.{by-cases, within-low, never}
 use Rattle.theory.proofs.Bytes.{put-nil, put-front}
+use Rattle.theory.proofs.Lists.{length-zero}
 use Rattle.wire.specs.Le.{le, number}
 use Rattle.member.specs.Record.{holdingSize}
 use Rattle.card.specs.Layout.{holdingAt, isMember, holdingIn, withConfiguration}
@@ -33,14 +34,10 @@ responded c x b = record {
   buffer = put-front (answerOf c x (length b) .1) b (answer-fits c x (length b));
 }
 
-none : (l : List ℕ) → length l ≡ 0 → l ≡ []
-none [] e = refl
-none (b ∷ l) e = absurd (omega arith)
-
 no-response : (c x b : List ℕ) → messageOf c x b .0 ≡ 0 → messageOf c x b ≡ (0, (c, b))
 unfolding messageOf delivered number le
 no-response c x b e =
-    let z = none (answerOf c x (length b) .1) e in
+    let z = length-zero (answerOf c x (length b) .1) e in
     rw (no-data-keeps c x (length b) (rw z refl), z, put-nil)
 
 no-data : (c x b : List ℕ) → number 16 4 (answerOf c x (length b) .1) ≡ 0 → messageOf c x b .1 .0 ≡ c

@@ -1,14 +1,15 @@
 -- A built request is taken by the card as the command that it is. Assumes nothing.
 use mathlib.Core.Path.{_≡_, refl, _∙_}
 use mathlib.Core.Bool.{true, not}
-use mathlib.Core.List.{List, [], _∷_, _++_}
+use mathlib.Core.List.{List, [], _++_}
 use Prim.Native.Nat.{ℕ, _+_, _%_, _^_, _≤_, _<_}
 use native.Mathlib.Omega.{arith}
-use borrow.Author.Tests.{ltb-true, leb-true}
+use borrow.Author.Tests.{ltb-true, leb-true, eqb-true}
 use lib.Dec.{leb, ltb, eqb}
 use lib.ListN.{length, replicate}
 use Rattle.theory.specs.Logic.{if_then_else_, unless_answer_then_, _and_, _or_, within}
-use Rattle.theory.proofs.Tests.{both, either, and-i, within-high, tests, never}
+use Rattle.theory.proofs.Tests.{both, either, and-i, within-high, never}
+use Rattle.theory.proofs.Lists.{length-zero}
 use Rattle.wire.specs.Le.{le, bytes, number}
 use Rattle.wire.proofs.Le.{le-bytes}
 use Rattle.protocol.specs.Opcodes.{namesMember, supportedOnly}
@@ -70,10 +71,6 @@ get-fields ids m id which list h =
     let q = both _ _ (both _ _ (p .0) .0) in
     record { valid = q .0; typed = q .1; alone = p .1 }
 
-no-list : (list : List ℕ) → eqb (length list) 0 ≡ true → list ≡ []
-no-list [] e = refl
-no-list (b ∷ list) e = let z : length (b ∷ list) ≡ 0 = omega tests in absurd (omega arith)
-
 mask-read : (mask : ℕ) (list : List ℕ) → supportedOnly mask ≡ true → list ≡ [] → le (dataFor (host.ListUse mask) list) ≡ mask
 unfolding laid
 mask-read mask list h e = rw e (le-bytes 8 mask (mask-fits mask h))
@@ -84,7 +81,7 @@ unfolding inside fieldsOf if_then_else_ unless_answer_then_ flagsValid number le
 fields-read ids host.ListQuery list n h = refl
 fields-read ids (host.ListUse mask) list n h =
     let p = both _ _ h in
-    use-read mask (dataFor (host.ListUse mask) list) (mask-read mask list (p .0) (no-list list (p .1))) (p .0)
+    use-read mask (dataFor (host.ListUse mask) list) (mask-read mask list (p .0) (length-zero list (eqb-true _ 0 (p .1)))) (p .0)
 fields-read ids (host.Create m id kind) list n h =
     let p = both _ _ h in
     create-read id (replicate 8 0 ++ (bytes 8 kind ++ [])) (id-small ids id n (p .0)) ids m (p .0) kind refl (byte-small kind 1 (omega arith) (p .1)) (p .1)

@@ -14,6 +14,7 @@ use Rattle.theory.specs.Logic.{if_then_else_, _or_}
 use Rattle.theory.specs.Bytes.{bytesAt}
 use Rattle.theory.proofs.Tests.{by-cases, false-or}
 use Rattle.theory.proofs.Bytes.{length-bytesAt}
+use Rattle.theory.proofs.Items.{items-same}
 use Rattle.inventory.specs.Inventory.{rowAt, rowCount, featuresRow, featuresSize, present, offsetOf, valuesSize, partsSize, placeOf, onPlace}
 use Rattle.inventory.specs.Queue.{valueAllowed}
 use Rattle.inventory.proofs.Queue.{rows-allowed}
@@ -27,7 +28,6 @@ use Rattle.values.specs.Apply.{applied}
 use Rattle.values.proofs.Kept.{applied-length, applied-features}
 use Rattle.capture.specs.Capture.{All, partAt, asks, partItem, partsWritten, captureOf}
 use Rattle.capture.proofs.Sizes.{capture-length}
-use Rattle.restore.proofs.Rows.{items-same}
 use Rattle.restore.proofs.PartValues.{Accepts, accepts, valueOr, value-none, value-there, value-obeys}
 use Rattle.restore.proofs.Applied.{valueOf, rowValue, features-found, applied-absent, applied-at}
 use Rattle.restore.proofs.RoundTrip.{accepted, capture-value, capture-set}

@@ -2,12 +2,13 @@
 use mathlib.Core.Path.{_≡_, refl, ap, sym, _∙_}
 use mathlib.Core.List.{List, _++_, append-assoc}
 use Prim.Native.Nat.{ℕ, _+_, _-_, _≤_, _<_}
-use native.Mathlib.Nat.{sub-zero, le-refl}
+use native.Mathlib.Nat.{sub-zero}
 use native.Mathlib.Omega.{arith}
-use lib.ListN.{length, take, drop, replicate, take-append-drop, length-drop}
-use lib.Seq.{take-at, drop-at, take-all, length-take-le}
+use lib.ListN.{length, take, drop, replicate, take-append-drop}
+use lib.Seq.{take-at, drop-at, length-take-le}
 use Rattle.theory.specs.Bytes.{put}
 use Rattle.theory.proofs.Bytes.{length-put}
+use Rattle.theory.proofs.Lent.{tail-is}
 use Rattle.setups.specs.declared.Setup.{Setup}
 use Rattle.setups.specs.declared.ReadAnswer.{ReadAnswer}
 use Rattle.setups.specs.declared.ReadAnswer.the-variants.{Done, Version2, Refused}
@@ -161,7 +162,7 @@ module _ (s : State) (b chunk : List ℕ) (w : Ready s b) where
       rest = take (length chunk - (setupSize - s .have)) (drop (setupSize - s .have) chunk)
 
       rest-is : rest ≡ drop (setupSize - s .have) chunk
-      rest-is = take-all (length chunk - (setupSize - s .have)) (drop (setupSize - s .have) chunk) (rw length-drop (le-refl _))
+      rest-is = tail-is (setupSize - s .have) chunk
 
       chunk-is : piece ++ rest ≡ chunk
       chunk-is = rw (piece-is, rest-is) (take-append-drop (setupSize - s .have) chunk)

@@ -14,6 +14,7 @@ use Rattle.theory.specs.Logic.{if_then_else_, unless_answer_then_, _and_}
 use Rattle.theory.specs.Bytes.{put}
 use Rattle.theory.proofs.Tests.{by-cases, inside, tests}
 use Rattle.theory.proofs.Bytes.{put-nil, length-bytesAt}
+use Rattle.theory.proofs.Lists.{getD-same}
 use Rattle.wire.specs.Le.{le, number}
 use Rattle.protocol.specs.Opcodes.{opcodeRows, opcodeRow, supported, fixedSize, longestFixed}
 use Rattle.protocol.proofs.Rows.{fixed-is, fixed-longest, data-long}
@@ -114,9 +115,7 @@ rest-ignored ids m op d x s o h =
     (λ e. let z = rw e at o in cc) (λ e. let z = rw e at o in cc)
 
 zeros-read : (d : List ℕ) (n i : ℕ) → getD (d ++ replicate n 0) i 0 ≡ getD d i 0
-zeros-read [] zero i = refl
-zeros-read [] (suc n) zero = refl
-zeros-read [] (suc n) (suc i) = zeros-read [] n i
+zeros-read [] n i = getD-same n i 0
 zeros-read (b ∷ d) n zero = refl
 zeros-read (b ∷ d) n (suc i) = zeros-read d n i
 

@@ -2,12 +2,11 @@
 use mathlib.Core.Path.{_≡_, refl, sym, _∙_}
 use mathlib.Core.Bool.{Bool, true, false, not}
 use mathlib.Core.List.{List}
-use Prim.Native.Nat.{ℕ, _+_, _*_, _-_, _≤_, _<_}
+use Prim.Native.Nat.{ℕ, _+_, _*_, _≤_, _<_}
 use native.Mathlib.Omega.{arith}
 use borrow.Author.Tests.{ne-eqb, le-leb, not-true, not-false}
 use lib.Dec.{eqb}
-use lib.ListN.{length, take, drop, length-drop}
-use lib.Seq.{take-all}
+use lib.ListN.{length, drop}
 use Rattle.theory.proofs.Ladder.{pass, stop, said-true}
 use Rattle.wire.specs.Le.{number}
 use Rattle.protocol.specs.Opcodes.{supported}
@@ -16,10 +15,6 @@ use Rattle.reply.specs.Reply.{headSize}
 use Rattle.host.specs.declared.ResultForm.{ResultForm}
 use Rattle.host.specs.declared.Outcome.the-variants.{Refused}
 use Rattle.host.specs.Reply.{formOf, countFits, resultFits, lengthRight, handledStatus, handledQualifier, answered, readReply}
-
--- the part of a reply that starts after its head
-pub to-the-end : (r : List ℕ) → take (length r - headSize) (drop headSize r) ≡ drop headSize r
-to-the-end r = take-all (length r - headSize) (drop headSize r) (rw length-drop (omega arith))
 
 -- ---- a list by its count ----
 

@@ -7,12 +7,12 @@ use native.Mathlib.Nat.{add-sub-cancel-left}
 use native.Mathlib.Omega.{arith}
 use lib.Dec.{leb}
 use lib.ListN.{length, take, drop, length-drop}
-use lib.Seq.{take-all}
 use borrow.Author.Tests.{leb-true, not-true, not-false}
 use Rattle.theory.specs.Logic.{if_then_else_, unless_answer_then_}
 use Rattle.theory.specs.Bytes.{put}
 use Rattle.theory.proofs.Tests.{by-cases, both}
 use Rattle.theory.proofs.Bytes.{put-nil, length-bytesAt-le}
+use Rattle.theory.proofs.Lent.{tail-is}
 use Rattle.card.specs.Layout.{configurationSize, HasRecord, configurationIn, generationIn, withConfiguration}
 use Rattle.card.proofs.ConfigurationLaws.{configuration-long}
 use Rattle.message.specs.declared.Access.the-variants.{Read, Write}
@@ -50,13 +50,10 @@ readable-few l offset n r e = rw e (by-cases (isInside offset n)
 
 -- ---- the bytes that are written ----
 
-pub to-the-end : (x : List ℕ) → take (length x - dataAt) (drop dataAt x) ≡ dataOf x
-to-the-end x = take-all (length x - dataAt) (drop dataAt x) (rw length-drop (omega arith))
-
 -- bs are the message's bytes from the data on, as they are lent
 module _ (x bs : List ℕ) (offset : ℕ) (e : bs ≡ take (length x - dataAt) (drop dataAt x)) (h : offset + length (dataOf x) ≤ configurationSize) where
   pub bytes-inside : offset + length bs ≤ configurationSize
-  bytes-inside = rw (e, to-the-end x) h
+  bytes-inside = rw (e, tail-is dataAt x) h
 
   pub bytes-few : length bs ≤ configurationSize
   bytes-few = omega (arith, bytes-inside)
@@ -131,7 +128,7 @@ module _ (c x l l′ : List ℕ) (m k : ℕ) where
       (e : (k, l′) ≡ sentIn (responseOf x q offset (take (length x - dataAt) (drop dataAt x))) l) where
     as-applied : (k, l′) ≡ sentIn (appliedTo c m x offset .1) l
     unfolding appliedTo nextGeneration
-    as-applied = e ∙ rw (to-the-end x, eq, eg)
+    as-applied = e ∙ rw (tail-is dataAt x, eq, eg)
 
     some : 0 < length (appliedTo c m x offset .1)
     unfolding appliedTo
@@ -143,7 +140,7 @@ module _ (c x l l′ : List ℕ) (m k : ℕ) where
     written : (d : List ℕ) → d ≡ withConfiguration c m (put offset (take (length x - dataAt) (drop dataAt x)) (configurationIn c m)) q
         → d ≡ appliedTo c m x offset .0
     unfolding appliedTo nextGeneration
-    written d f = f ∙ rw (to-the-end x, eq, eg)
+    written d f = f ∙ rw (tail-is dataAt x, eq, eg)
 
     pub apply-done : (d : List ℕ) → (k ≡ 0 → ⊥)
         → d ≡ withConfiguration c m (put offset (take (length x - dataAt) (drop dataAt x)) (configurationIn c m)) q

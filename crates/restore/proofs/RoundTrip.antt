@@ -12,6 +12,7 @@ use Rattle.theory.specs.Logic.{unless_answer_then_, _and_}
 use Rattle.theory.specs.Bytes.{bytesAt}
 use Rattle.theory.proofs.Tests.{by-cases, both, and-false, and-i, true-or, or-true, or-i, eq-same}
 use Rattle.theory.proofs.Bytes.{length-bytesAt}
+use Rattle.theory.proofs.Items.{items-same}
 use Rattle.inventory.specs.Inventory.{rowAt, rowCount, deviceFeatures, featuresSize, present, offsetOf, valuesSize, placeOf}
 use Rattle.inventory.specs.Queue.{queuesAllowed}
 use Rattle.inventory.proofs.Queue.{row-allowed}
@@ -25,7 +26,7 @@ use Rattle.rules.specs.Rules.{known, knownOrSkipped, lengthRight, sizeRight, fe
 use Rattle.values.specs.Apply.{applied}
 use Rattle.values.proofs.Kept.{applied-length}
 use Rattle.capture.specs.Capture.{All, partItem, partsWritten, captureOf}
-use Rattle.restore.proofs.Rows.{rowPart, rowParts, capture-parts, by-rows, items-same, item-same}
+use Rattle.restore.proofs.Rows.{rowPart, rowParts, capture-parts, by-rows, item-same}
 use Rattle.restore.proofs.PartValues.{Accepts, value-here, value-on}
 use Rattle.restore.proofs.Applied.{valueOf, rowValue, by-value, applied-absent, applied-at}
 

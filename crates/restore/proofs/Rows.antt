@@ -123,14 +123,6 @@ module _ (q : ℕ) (v : List ℕ) where
       let ih = by-rows P z s t k (i + 1) (omega arith) in
       by-cases (present q (rowAt i)) (λ y. rw y (s i _ (omega arith) y ih)) (λ y. rw y (t i _ (omega arith) y ih))
 
--- ---- equal items ----
-
-pub items-same : (item item′ : ℕ → List ℕ) (n k i : ℕ) → i + k ≡ n → ((j : ℕ) → j < n → item j ≡ item′ j)
-    → itemsFrom item k i ≡ itemsFrom item′ k i
-unfolding itemsFrom
-items-same item item′ n zero i e s = refl
-items-same item item′ n (suc k) i e s = rw (s i (omega arith), items-same item item′ n k (i + 1) (omega arith) s)
-
 -- a row's part is the same where its value is
 pub item-same : (q : ℕ) (v w : List ℕ) (i : ℕ)
     → (present q (rowAt i) ≡ true → bytesAt (offsetOf i) (rowAt i .size) v ≡ bytesAt (offsetOf i) (rowAt i .size) w)

@@ -3,13 +3,14 @@
 use mathlib.Core.Path.{_≡_, refl, sym, _∙_}
 use mathlib.Core.Bool.{Bool, true, false}
 use mathlib.Core.List.{List}
-use Prim.Native.Nat.{ℕ, zero, suc, _<_}
+use Prim.Native.Nat.{ℕ, _<_}
 use borrow.Author.Tests.{eqb-true, eqb-false, eq-eqb}
 use lib.Dec.{eqb}
 use lib.ListN.{length, getD, set, replicate, length-set}
 use lib.Seq.{getD-set-same, getD-set-other, set-comm}
 use Rattle.theory.specs.Logic.{_and_, _or_}
 use Rattle.theory.proofs.Tests.{by-cases, both, and-i, and-false, or-false, never}
+use Rattle.theory.proofs.Lists.{getD-same}
 use Rattle.inventory.specs.Inventory.{rowCount, placeOf, onPlace}
 use Rattle.inventory.specs.declared.Place.{Place}
 use Rattle.inventory.specs.declared.Place.the-variants.{At, Absent}
@@ -108,14 +109,9 @@ again-with q p seen (part r ps) l =
     )
     (shuffled _ _ _ _ _)
 
-none-getD : (n i : ℕ) → getD (replicate n false) i false ≡ false
-none-getD zero i = refl
-none-getD (suc n) zero = refl
-none-getD (suc n) (suc i) = none-getD n i
-
 none-at : (a : Place) → isSeen none a ≡ false
 unfolding none
-none-at (At i) = none-getD rowCount i
+none-at (At i) = getD-same rowCount i false
 none-at Absent = refl
 
 none-long : length none ≡ rowCount

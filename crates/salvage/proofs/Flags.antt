@@ -2,7 +2,7 @@
 use mathlib.Core.Path.{_≡_, refl, ap, _∙_}
 use mathlib.Core.Bool.{Bool, true, false, not}
 use mathlib.Core.List.{List, [], _∷_}
-use Prim.Native.Nat.{ℕ, suc, _+_, _^_, _<_}
+use Prim.Native.Nat.{ℕ, _+_, _^_, _<_}
 use native.Mathlib.Omega.{arith}
 use borrow.Author.Tests.{eqb-true}
 use mir.Syntax.{w64}
@@ -10,10 +10,9 @@ use mir.Val.{Fits, boolByte}
 use lib.Dec.{eqb}
 use lib.ListN.{length, getD, set}
 use Rattle.theory.specs.Logic.{if_then_else_, indicator}
-use Rattle.theory.specs.Bytes.{put}
 use Rattle.theory.specs.Items.{itemsFrom}
 use Rattle.theory.proofs.Tests.{bool-byte}
-use Rattle.theory.proofs.Bytes.{put-nil, put-cons}
+use Rattle.theory.proofs.Bytes.{put-one}
 use Rattle.theory.proofs.Sums.{sumFrom, length-items}
 use Rattle.theory.proofs.Items.{Written, written-start, written-room, written-next, written-skip}
 use Rattle.inventory.specs.Inventory.{row, rowAt, rowCount, present, partCount}
@@ -63,8 +62,7 @@ module _ (q : ℕ) (kept out₀ out : List ℕ) (at i : ℕ) (w : Written (flagI
   pub flags-on : b ≡ true → Written (flagItem q kept) rowCount 0 out₀ (set out at (boolByte (not (eqb (getD kept i 0) 0)))) (at + 1) (i + 1)
   flags-on y =
       let x = indicator (not (eqb (getD kept i 0) 0)) in
-      let stored : put at (x ∷ []) out ≡ set out at x = put-cons at x [] out ∙ put-nil (suc at) (set out at x) in
-      rw (bool-byte, ← stored) (rw (item-there y) at (written-next _ _ _ _ _ _ _ w h))
+      rw (bool-byte, ← put-one at x out) (rw (item-there y) at (written-next _ _ _ _ _ _ _ w h))
 
   pub flags-skip : b ≡ false → Written (flagItem q kept) rowCount 0 out₀ out at (i + 1)
   unfolding flagItem if_then_else_

@@ -12,7 +12,7 @@ use lib.Seq.{drop-cons}
 use Rattle.theory.specs.Logic.{if_then_else_, indicator}
 use Rattle.theory.specs.Items.{itemsFrom}
 use Rattle.theory.proofs.Tests.{by-cases, either}
-use Rattle.theory.proofs.Sums.{sumFrom}
+use Rattle.theory.proofs.Sums.{sumFrom, sums-same}
 use Rattle.inventory.specs.Inventory.{rowAt, rowCount, featuresSize, present, total}
 use Rattle.inventory.proofs.Find.{place-found}
 use Rattle.parts.specs.declared.ListForm.the-variants.{Parts}
@@ -51,11 +51,6 @@ total-from l (suc k) i e =
     let h : i < length l = omega arith in
     let rest = ap (λ j. total (drop j l)) (sym (add-one i)) ∙ total-from l k (i + 1) (omega arith) in
     ap total (drop-cons l i 0 h) ∙ ap (λ n. getD l i 0 + n) rest
-
-sum-alike : (f g : ℕ → ℕ) (n : ℕ) → ((j : ℕ) → j < n → f j ≡ g j) → (k i : ℕ) → i + k ≡ n → sumFrom f k i ≡ sumFrom g k i
-unfolding sumFrom
-sum-alike f g n s zero i e = refl
-sum-alike f g n s (suc k) i e = rw (s i (omega arith), sum-alike f g n s k (i + 1) (omega arith))
 
 -- ---- one part adds one ----
 
@@ -120,7 +115,7 @@ module _ (q : ℕ) (features l : List ℕ) (sixteen : length features ≡ featur
   unfolding keptReport
   kept-total =
       total-items (keptItem q features l) rowCount 0
-      ∙ sum-alike (λ j. total (keptItem q features l j)) (λ j. getD endKept j 0) rowCount row-total rowCount 0 refl
+      ∙ sums-same (λ j. total (keptItem q features l j)) (λ j. getD endKept j 0) rowCount rowCount 0 refl row-total
       ∙ sym (total-from endKept rowCount 0 (sym (end-sized q features l sixteen .kept)))
 
   pub report-total : total (keptReport q features l) + total (droppedReport q features l) ≡ partsRead (partsOf Parts l)

@@ -11,12 +11,12 @@ use Rattle.theory.specs.Logic.{if_then_else_, _and_, _or_, indicator}
 use Rattle.theory.specs.Bytes.{same}
 use Rattle.theory.specs.Items.{itemsFrom}
 use Rattle.theory.proofs.Tests.{by-cases, both, and-i, and-true, same-true}
+use Rattle.theory.proofs.Items.{items-same}
 use Rattle.inventory.specs.Inventory.{rowAt, rowCount, present, partCount}
 use Rattle.inventory.proofs.Rules.{table, every-count}
 use Rattle.parts.specs.declared.ListForm.the-variants.{Parts}
 use Rattle.parts.specs.List.{Part, PartList, end, cut, part, partsOf, among}
 use Rattle.rules.specs.Rules.{every}
-use Rattle.restore.proofs.Rows.{items-same}
 use Rattle.salvage.specs.Salvage.{allowed, isCopy, keptOr, isKept, fateOf, isDropped, droppedFrom, isKeptRow, keptItem, keptReport, droppedReport}
 use Rattle.salvage.specs.Claims.{InSetup, HasRow, valueIn, Undamaged, Back}
 use Rattle.salvage.proofs.Rows.{fate-cases}

@@ -2,7 +2,7 @@
 use mathlib.Core.Path.{_≡_, refl, ap, sym, _∙_}
 use mathlib.Core.Bool.{false}
 use mathlib.Core.List.{List, [], _∷_}
-use Prim.Native.Nat.{ℕ, zero, suc, _+_, _-_, _<_, _≤_}
+use Prim.Native.Nat.{ℕ, _+_, _-_, _<_, _≤_}
 use native.Mathlib.Nat.{zero-add, add-zero, add-assoc}
 use native.Mathlib.Omega.{arith}
 use lib.ListN.{length, getD, set, replicate, length-append, length-replicate}
@@ -10,11 +10,12 @@ use Rattle.theory.specs.Logic.{if_then_else_}
 use Rattle.theory.specs.Bytes.{put}
 use Rattle.theory.proofs.Tests.{false-or}
 use Rattle.theory.proofs.Bytes.{put-nil, put-cons}
+use Rattle.theory.proofs.Items.{items-same}
+use Rattle.theory.proofs.Lists.{getD-same}
 use Rattle.inventory.specs.Inventory.{rowAt, rowCount, featuresSize, valuesSize, partsSize}
 use Rattle.parts.specs.declared.ListForm.the-variants.{Parts}
 use Rattle.parts.specs.List.{PartList, end, cut, part, partsOf}
 use Rattle.capture.specs.Capture.{All, partAt, asks, partItem, partsWritten, captureOf}
-use Rattle.restore.proofs.Rows.{items-same}
 use Rattle.member.specs.Member.{freshOf}
 use Rattle.member.proofs.Record.{fresh-values}
 use Rattle.salvage.specs.Salvage.{isKept, droppedFrom, freshValue, rowValue, repairedItem, repaired, keptItem, keptReport, droppedReport, salvage, salvaged}
@@ -43,11 +44,6 @@ counts-put l out e =
 
 -- ---- the start ----
 
-getD-zeros : (n i : ℕ) → getD {A = ℕ} (replicate n 0) i 0 ≡ 0
-getD-zeros zero i = refl
-getD-zeros (suc n) zero = refl
-getD-zeros (suc n) (suc i) = getD-zeros n i
-
 -- the values of a fresh member, no row kept, nothing dropped
 abbrev pub startOf : ℕ → List ℕ → State
 startOf q features = state (freshOf q features .values) (replicate rowCount 0) (replicate 4 0)
@@ -60,8 +56,8 @@ module _ (q : ℕ) (features : List ℕ) (sixteen : length features ≡ features
         values = rw (length-append, length-replicate, sixteen);
         kept = length-replicate {A = ℕ} rowCount 0;
         dropped = length-replicate {A = ℕ} 4 0;
-        flags = λ i. omega (arith, getD-zeros rowCount i);
-        counts = λ cause. omega (arith, getD-zeros 4 cause);
+        flags = λ i. omega (arith, getD-same {A = ℕ} rowCount i 0);
+        counts = λ cause. omega (arith, getD-same {A = ℕ} 4 cause 0);
       }
 
   fresh-start : put 0 features (replicate valuesSize 0) ≡ freshOf q features .values
@@ -97,7 +93,7 @@ module _ (q : ℕ) (features l : List ℕ) (sixteen : length features ≡ featur
   end-sized = rw zero-add at (walked-sized q features ps (startOf q features) 0 (start-sized q features sixteen))
 
   start-flag : (i : ℕ) → flag (startOf q features) i ≡ false
-  start-flag i = rw (getD-zeros rowCount i)
+  start-flag i = rw (getD-same {A = ℕ} rowCount i 0)
 
   pub end-flag : (i : ℕ) → i < rowCount → flag endOf i ≡ isKept q features (rowAt i .partType) (rowAt i .selector) ps
   end-flag i h = walked-flag q features i h ps (startOf q features) 0 (start-sized q features sixteen) ∙ rw (start-flag i) (false-or _)
@@ -123,7 +119,7 @@ module _ (q : ℕ) (features l : List ℕ) (sixteen : length features ≡ featur
       count : (cause : ℕ) → getD (endOf .dropped) cause 0 ≡ droppedFrom q features cause end ps
       count cause =
           walked-count q features cause end ps (startOf q features) 0 (start-sized q features sixteen) (λ i h. start-flag i)
-          ∙ rw (getD-zeros 4 cause) (zero-add _)
+          ∙ rw (getD-same {A = ℕ} 4 cause 0) (zero-add _)
 
   -- the code's buffers, and what they are by the functions that write them
   module _ (v₀ v k d : List ℕ) (stop : ℕ) (values-are : v₀ ≡ put 0 features (replicate valuesSize 0))

@@ -6,10 +6,10 @@ use Prim.Native.Nat.{ℕ, suc, _+_, _-_, _≤_, _<_}
 use native.Mathlib.Nat.{sub-zero}
 use native.Mathlib.Omega.{arith}
 use lib.ListN.{length, set, drop, replicate, length-drop}
-use lib.Seq.{take-all}
 use Rattle.theory.specs.Bytes.{bytesAt, put}
 use Rattle.theory.proofs.Bytes.{put-nil, put-cons, put-all}
 use Rattle.theory.proofs.Tests.{both, tests}
+use Rattle.theory.proofs.Lent.{tail-is}
 use Rattle.setups.specs.declared.Setup.{Setup}
 use Rattle.setups.specs.Bits.{bitsAt}
 use Rattle.setups.specs.Setup.{featuresSize, noCounts, sixteen}
@@ -42,9 +42,8 @@ module _ (l : List ℕ) (from step n : ℕ) where
 features-copied : (l z : List ℕ) (at : ℕ) → at ≡ length l - featuresSize → featuresSize ≤ length l → length z ≡ featuresSize
     → put 0 (bytesAt at (length l - at) l) z ≡ drop (length l - featuresSize) l
 features-copied l z at e h k =
-    let t : bytesAt at (length l - at) l ≡ drop at l = take-all (length l - at) (drop at l) (rw length-drop (omega arith)) in
     let n : length (drop at l) ≡ length z = rw length-drop (omega arith) in
-    rw (t, put-all (drop at l) z n, e)
+    rw (tail-is at l, put-all (drop at l) z n, e)
 
 pub setup-read : (l z q f : List ℕ) (from step n g s : ℕ) → featuresSize ≤ length l → length z ≡ featuresSize
     → n ≡ bitsAt 4 4 l → q ≡ sixteen (countsFrom l from step (n + 1))

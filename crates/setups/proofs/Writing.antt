@@ -16,7 +16,7 @@ use lib.Seq.{drop-cons}
 use Rattle.theory.specs.Logic.{if_then_else_, within}
 use Rattle.theory.specs.Bytes.{put}
 use Rattle.theory.proofs.Tests.{by-cases, inside, below, above, tests}
-use Rattle.theory.proofs.Bytes.{put-nil, put-cons, put-append, put-comm}
+use Rattle.theory.proofs.Bytes.{put-nil, put-append, put-comm, put-one}
 use Rattle.theory.proofs.Ladder.{pass, stop, said-true, is-le, is-gt}
 use Rattle.setups.specs.declared.Front.{Front}
 use Rattle.setups.specs.Bits.{Field, field, widths, joined, bigEndian, packed}
@@ -135,9 +135,8 @@ module _ (w o : List ℕ) (v i : ℕ) (e : w ≡ put 0 (bigEndian i v) o) where
       let d : i ≡ suc (i - 1) = omega arith in
       let b = bigEndian (i - 1) (v / 256) in
       let l : 0 + length b ≡ i - 1 = zero-add (length b) ∙ length-big (i - 1) (v / 256) in
-      let s : put (i - 1) (v % 256 ∷ []) o ≡ set o (i - 1) (v % 256) = put-cons (i - 1) (v % 256) [] o ∙ put-nil (suc (i - 1)) _ in
       e ∙ ap (λ (n : ℕ). put 0 (bigEndian n v) o) d ∙ put-append 0 b (v % 256 ∷ []) o
-      ∙ rw (l, ← put-comm 0 b (i - 1) (v % 256 ∷ []) o (omega arith), s)
+      ∙ rw (l, ← put-comm 0 b (i - 1) (v % 256 ∷ []) o (omega arith), put-one (i - 1) (v % 256) o)
 
   pub number-end : i ≤ 0 → o ≡ w
   unfolding bigEndian

@@ -7,10 +7,11 @@ use native.Mathlib.Nat.{zero-add}
 use native.Mathlib.Omega.{arith}
 use borrow.Author.Tests.{lt-ltb, le-ltb, lt-leb, eqb-true, eqb-false}
 use lib.Dec.{eqb}
-use lib.ListN.{length, getD, take, replicate}
+use lib.ListN.{length, take, replicate}
 use lib.Seq.{length-take-le}
 use Rattle.theory.specs.Logic.{unless_answer_then_}
 use Rattle.theory.proofs.Tests.{by-cases}
+use Rattle.theory.proofs.Lists.{getD-same}
 use Rattle.tally.specs.Counts.{_plus_}
 use Rattle.tally.specs.Rows.{longest, rowCount}
 use Rattle.sheet.specs.Text.{figures}
@@ -25,16 +26,11 @@ use Rattle.stream.proofs.Takes.{rest-is, within-is, going-is}
 
 -- ---- the start ----
 
-zero-at : (n i : ℕ) → _≡_ {A = ℕ} (getD (replicate n 0) i 0) 0
-zero-at zero i = refl
-zero-at (suc n) zero = refl
-zero-at (suc n) (suc i) = zero-at n i
-
 pub started-ready : (b : List ℕ) → length b ≡ longest → Ready started b
 started-ready b h = record {
   room = h;
   more = omega arith;
-  counted = record { some = omega arith; bound = λ i. omega (arith, zero-at rowCount i); upTo = omega arith };
+  counted = record { some = omega arith; bound = λ i. omega (arith, getD-same {A = ℕ} rowCount i 0); upTo = omega arith };
   within = refl;
   going = omega arith;
 }

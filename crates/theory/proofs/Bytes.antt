@@ -68,6 +68,9 @@ put-cons at v x [] = refl
 put-cons zero v x (b ∷ l) = refl
 put-cons (suc at) v x (b ∷ l) = ap (b ∷_) (put-cons at v x l)
 
+pub put-one : (at v : ℕ) (l : List ℕ) → put at (v ∷ []) l ≡ set l at v
+put-one at v l = put-cons at v [] l ∙ put-nil (suc at) (set l at v)
+
 -- one list after the other
 pub put-append : (at : ℕ) (x y l : List ℕ) → put at (x ++ y) l ≡ put (at + length x) y (put at x l)
 put-append at [] y l = rw (add-zero, put-nil)

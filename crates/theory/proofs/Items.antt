@@ -2,7 +2,7 @@
 -- It holds of any items. Assumes nothing.
 use mathlib.Core.Path.{_≡_, refl, ap, sym, _∙_}
 use mathlib.Core.List.{List, [], _++_}
-use Prim.Native.Nat.{ℕ, suc, _+_, _-_, _≤_, _<_}
+use Prim.Native.Nat.{ℕ, zero, suc, _+_, _-_, _≤_, _<_}
 use native.Mathlib.Nat.{sub-zero}
 use native.Mathlib.Omega.{arith}
 use lib.ListN.{length, length-append}
@@ -18,6 +18,13 @@ items-step item n i h = let e : n - i ≡ suc (n - (i + 1)) = omega arith in rw 
 pub items-end : (item : ℕ → List ℕ) (n i : ℕ) → n ≤ i → itemsFrom item (n - i) i ≡ []
 unfolding itemsFrom
 items-end item n i h = let e : n - i ≡ 0 = omega arith in rw e
+
+-- items that are the same one by one
+pub items-same : (item item′ : ℕ → List ℕ) (n k i : ℕ) → i + k ≡ n → ((j : ℕ) → j < n → item j ≡ item′ j)
+    → itemsFrom item k i ≡ itemsFrom item′ k i
+unfolding itemsFrom
+items-same item item′ n zero i e s = refl
+items-same item item′ n (suc k) i e s = rw (s i (omega arith), items-same item item′ n k (i + 1) (omega arith) s)
 
 -- out₀ is the buffer before the loop, out after i items; the next goes to `at`
 pub record Written (item : ℕ → List ℕ) (n b : ℕ) (out₀ out : List ℕ) (at i : ℕ) : Type 0 where

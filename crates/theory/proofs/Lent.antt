@@ -5,14 +5,17 @@ use Prim.Native.Nat.{ℕ, _+_, _-_, _≤_}
 use native.Mathlib.Nat.{add-zero}
 use native.Mathlib.Omega.{arith}
 use lib.ListN.{length, take, drop, length-drop, take-append-drop, drop-of-length-le}
-use lib.Seq.{length-take-le}
+use lib.Seq.{take-all}
 use borrow.Rule.Slice.PartMut.{midOf, postOf, putMid}
 use Rattle.theory.specs.Bytes.{put}
 use Rattle.theory.proofs.Bytes.{length-put, drop-put, take-put, take-before}
 
--- what is lent from a place to the end is so long
+-- what is lent from a place to the end, and how long it is
+pub tail-is : (at : ℕ) (l : List ℕ) → take (length l - at) (drop at l) ≡ drop at l
+tail-is at l = take-all (length l - at) (drop at l) (rw length-drop (omega arith))
+
 pub length-tail : (at : ℕ) (l : List ℕ) → length (take (length l - at) (drop at l)) ≡ length l - at
-length-tail at l = length-take-le (length l - at) (drop at l) (rw length-drop (omega arith))
+length-tail at l = rw tail-is (length-drop at l)
 
 -- The lent part came back as `last`, which is the part with x put at i: then x is put there in the whole. What was lent is l; the
 -- definition may say it otherwise, as m (what an earlier call left). Where they are the same, `refl` proves that premise.

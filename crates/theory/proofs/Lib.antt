@@ -1,5 +1,6 @@
 pub mod Tests
 pub mod Ladder
+pub mod Lists
 pub mod Bytes
 pub mod Lent
 pub mod Copies

@@ -28,6 +28,12 @@ length-items item f n zero i e l = refl
 length-items item f n (suc k) i e l =
     rw (length-append, l i (omega arith), length-items item f n k (i + 1) (omega arith) l)
 
+-- numbers that are the same one by one
+pub sums-same : (f g : ℕ → ℕ) (n k i : ℕ) → i + k ≡ n → ((j : ℕ) → j < n → f j ≡ g j) → sumFrom f k i ≡ sumFrom g k i
+unfolding sumFrom
+sums-same f g n zero i e s = refl
+sums-same f g n (suc k) i e s = rw (s i (omega arith), sums-same f g n k (i + 1) (omega arith) s)
+
 -- the same number k times
 pub sum-same : (x k i : ℕ) → sumFrom (λ j. x) k i ≡ k * x
 unfolding sumFrom

@@ -1,6 +1,7 @@
 -- `admin::from` meets its contract. Assumes nothing.
 use borrow.Author.Needs.{needs}
-use Rattle.admin.proofs.OfRequest.{to-the-end, past-the-end}
+use Rattle.theory.proofs.Lent.{tail-is}
+use Rattle.admin.proofs.OfRequest.{past-the-end}
 use Rattle.admin.proofs.from.Statement.{statement}
 use Rattle.admin.proofs.from.Tie as tie
 
@@ -11,4 +12,4 @@ pub from-spec : {M : Type 1} → statement M
 from-spec =
     tie.close
     (tie.spec (λ c. search needs) (λ c. search needs) (λ c. search needs) returns (λ c. search needs) (λ c. search needs)
-    (λ c. search needs) (λ c. search (needs, to-the-end)))
+    (λ c. search needs) (λ c. search (needs, tail-is)))
