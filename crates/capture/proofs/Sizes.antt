@@ -9,20 +9,18 @@ use lib.Dec.{eqb}
 use lib.ListN.{length, length-append}
 use Rattle.theory.specs.Logic.{if_then_else_}
 use Rattle.theory.proofs.Tests.{by-cases}
-use Rattle.theory.proofs.Bytes.{length-bytesAt}
 use Rattle.theory.proofs.Sums.{sumFrom, length-items}
-use Rattle.inventory.specs.Inventory.{rowAt, rowCount, present, offsetOf, valuesSize, partCount, partsSize}
+use Rattle.inventory.proofs.Values.{value-long}
+use Rattle.inventory.specs.Inventory.{rowAt, rowCount, present, valuesSize, partCount, partsSize}
 use Rattle.inventory.specs.Header.{headerOf, headerSize}
-use Rattle.inventory.proofs.Rules.{table, every-count, row-within, size-below, length-header}
+use Rattle.inventory.proofs.Rules.{table, every-count, size-below, length-header}
 use Rattle.capture.specs.Capture.{Selection, All, headerItem, headersOf, partAt, asks, partItem, partsWritten, captureOf}
 
 -- ---- one item ----
 
 pub part-length : (v : List ℕ) (i : ℕ) → i < rowCount → length v ≡ valuesSize → length (partAt v i) ≡ headerSize + rowAt i .size
 unfolding partAt
-part-length v i h e =
-    let w = row-within i h in
-    rw (length-append, length-header, length-bytesAt (offsetOf i) (rowAt i .size) v (omega arith))
+part-length v i h e = rw (length-append, length-header, value-long v e i h)
 
 -- an item that is written if a test holds
 abbrev chosenSize : Bool → ℕ → ℕ

@@ -5,9 +5,8 @@ use mathlib.Core.Path.{_≡_}
 use Prim.Native.Nat.{ℕ, _≤_, _<_}
 use lib.ListN.{length}
 use Rattle.theory.specs.Logic.{if_then_else_, _and_}
-use Rattle.theory.specs.Bytes.{bytesAt}
 use Rattle.theory.specs.Items.{itemsFrom}
-use Rattle.inventory.specs.Inventory.{Row, rowAt, rowCount, offsetOf, present, valuesSize, partsSize}
+use Rattle.inventory.specs.Inventory.{Row, rowAt, rowCount, present, valuesSize, partsSize, valueOf}
 use Rattle.inventory.specs.Header.{headerOf}
 use Rattle.parts.specs.declared.ListForm.the-variants.{Headers}
 use Rattle.parts.specs.List.{partsOf, among}
@@ -21,7 +20,7 @@ headersOf queues = itemsFrom (headerItem queues) rowCount 0
 
 -- a part: the header and the value
 unfoldable pub partAt : List ℕ → ℕ → List ℕ
-partAt values i = headerOf (rowAt i) ++ bytesAt (offsetOf i) (rowAt i .size) values
+partAt values i = headerOf (rowAt i) ++ valueOf values i
 
 -- all parts that the member has, or those of them that the asked list names
 pub data Selection : Type 0 where

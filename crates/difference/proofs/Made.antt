@@ -13,12 +13,12 @@ use lib.Seq.{take-at}
 use Rattle.theory.specs.Logic.{if_then_else_, _or_}
 use Rattle.theory.specs.Bytes.{bytesAt}
 use Rattle.theory.proofs.Tests.{by-cases, false-or}
-use Rattle.theory.proofs.Bytes.{length-bytesAt}
 use Rattle.theory.proofs.Items.{items-same}
-use Rattle.inventory.specs.Inventory.{rowAt, rowCount, featuresRow, featuresSize, present, offsetOf, valuesSize, partsSize, placeOf, onPlace}
+use Rattle.inventory.proofs.Values.{value-long}
+use Rattle.inventory.specs.Inventory.{rowAt, rowCount, featuresRow, featuresSize, present, valuesSize, partsSize, placeOf, onPlace, valueOf}
 use Rattle.inventory.specs.Queue.{valueAllowed}
 use Rattle.inventory.proofs.Queue.{rows-allowed}
-use Rattle.inventory.proofs.Rules.{table, row-within, row-zero}
+use Rattle.inventory.proofs.Rules.{table, row-zero}
 use Rattle.inventory.proofs.Find.{own-place}
 use Rattle.parts.specs.declared.ListForm.the-variants.{Parts}
 use Rattle.parts.specs.List.{PartList, partsOf, among}
@@ -29,7 +29,7 @@ use Rattle.values.proofs.Kept.{applied-length, applied-features}
 use Rattle.capture.specs.Capture.{All, partAt, asks, partItem, partsWritten, captureOf}
 use Rattle.capture.proofs.Sizes.{capture-length}
 use Rattle.restore.proofs.PartValues.{Accepts, accepts, valueOr, value-none, value-there, value-obeys}
-use Rattle.restore.proofs.Applied.{valueOf, rowValue, features-found, applied-absent, applied-at}
+use Rattle.restore.proofs.Applied.{rowValue, features-found, applied-absent, applied-at}
 use Rattle.restore.proofs.RoundTrip.{accepted, capture-value, capture-set}
 use Rattle.difference.specs.Difference.{placeIn, valueAt, isFull, madePart, madeItem, made}
 use Rattle.difference.specs.Claims.{Pair, bothSet}
@@ -191,6 +191,5 @@ module _ (q : ℕ) (features full later : List ℕ) (pair : Pair q features full
 
   pub pair-length : (i : ℕ) → i < rowCount → present q (rowAt i) ≡ true → length (lookedUp full later i) ≡ rowAt i .size
   pair-length i h y =
-      let n = both-long q full later v₀ fresh-long fresh-pair in
       ap length (looked-up q full later v₀ fresh-long fresh-pair i h y)
-      ∙ length-bytesAt (offsetOf i) (rowAt i .size) (bothSet q full later v₀) (omega (arith, row-within i h))
+      ∙ value-long (bothSet q full later v₀) (both-long q full later v₀ fresh-long fresh-pair) i h

@@ -7,7 +7,7 @@ use mathlib.Core.List.{List, []}
 use Prim.Native.Nat.{ℕ, _<_}
 use lib.ListN.{length}
 use Rattle.theory.specs.Bytes.{bytesAt}
-use Rattle.inventory.specs.Inventory.{rowAt, offsetOf, featuresSize, valuesSize, partsSize, selectorOf, placeOf}
+use Rattle.inventory.specs.Inventory.{featuresSize, valuesSize, partsSize, selectorOf, placeOf, valueOf}
 use Rattle.inventory.specs.declared.Place.the-variants.{At}
 use Rattle.parts.specs.declared.ListForm.the-variants.{Parts}
 use Rattle.parts.specs.List.{partsOf}
@@ -44,7 +44,7 @@ pub record MadeIsFull (queues : ℕ) (features full later : List ℕ) : Type 0 w
 pub record SetsBoth (queues : ℕ) (full later values : List ℕ) : Type 0 where
   pub same : applied queues (partsOf Parts (made queues full later)) values ≡ bothSet queues full later values
   pub found : (t s i : ℕ) → placeOf queues t (selectorOf t s) ≡ At i
-      → valueFound queues (bytesAt 0 featuresSize values) full later t s ≡ bytesAt (offsetOf i) (rowAt i .size) (bothSet queues full later values)
+      → valueFound queues (bytesAt 0 featuresSize values) full later t s ≡ valueOf (bothSet queues full later values) i
 
 pub record Claims : Type 0 where
   -- what is found is not empty, since no value of the table is; so an empty part is a refusal

@@ -1,5 +1,6 @@
 pub mod Columns
 pub mod Rules
+pub mod Values
 pub mod Find
 pub mod Headers
 pub mod Places

@@ -15,7 +15,7 @@ use Rattle.theory.specs.Bytes.{bytesAt}
 use Rattle.theory.proofs.Tests.{by-cases, unless-cases, both, and-i, false-or, or-true, true-or}
 use Rattle.theory.proofs.Bytes.{length-bytesAt, bytesAt-bytesAt}
 use Rattle.wire.specs.Le.{number}
-use Rattle.inventory.specs.Inventory.{queue, row, rows, rowAt, rowCount, present, offsetOf, valuesSize}
+use Rattle.inventory.specs.Inventory.{queue, row, rows, rowAt, rowCount, present, offsetOf, valuesSize, valueOf}
 use Rattle.inventory.specs.Worked.{queueRows}
 use Rattle.inventory.specs.Queue.{ringSize, queueSize, enabledAt, queueAllowed, valueAllowed, queueRow, queueValue, queuesAllowed}
 use Rattle.inventory.proofs.Rules.{table, every-row, row-within}
@@ -135,13 +135,9 @@ is-queue i h e =
     let b = both _ _ (rw (eq-eqb _ _ e) at t) in
     record { place = eqb-true _ _ (b .0); few = ltb-true _ _ (b .1) }
 
--- row i's value, among a member's values
-abbrev rowValue : List ℕ → ℕ → List ℕ
-rowValue v i = bytesAt (offsetOf i) (rowAt i .size) v
-
 module _ (q : ℕ) (v : List ℕ) where
   pub row-allowed : queuesAllowed q v ≡ true → (i : ℕ) → i < rowCount → present q (rowAt i) ≡ true
-      → valueAllowed (rowAt i .partType) (rowValue v i) ≡ true
+      → valueAllowed (rowAt i .partType) (valueOf v i) ≡ true
   unfolding valueAllowed present _or_
   row-allowed a i h y =
       unless-cases (λ b. b ≡ true) _ _ _ (λ t. refl) λ t.
@@ -153,7 +149,7 @@ module _ (q : ℕ) (v : List ℕ) where
       rw (w .place, r) (each-allowed q v a (rowAt i .selector) k (w .few))
 
   pub rows-allowed : length v ≡ valuesSize
-      → ((i : ℕ) → i < rowCount → present q (rowAt i) ≡ true → valueAllowed (rowAt i .partType) (rowValue v i) ≡ true)
+      → ((i : ℕ) → i < rowCount → present q (rowAt i) ≡ true → valueAllowed (rowAt i .partType) (valueOf v i) ≡ true)
       → queuesAllowed q v ≡ true
   unfolding valueAllowed present unless_answer_then_
   rows-allowed n f = all-allowed q v λ k h l.

@@ -1,7 +1,7 @@
 -- Rules of the whole inventory: each is one test that antt computes over the table. Assumes nothing.
 use mathlib.Core.Path.{_≡_, refl}
 use mathlib.Core.Bool.{Bool, true, not}
-use mathlib.Core.List.{List, [], _∷_, map}
+use mathlib.Core.List.{List, [], _∷_}
 use Prim.Native.Nat.{ℕ, _+_, _<_, _≤_, _^_}
 use borrow.Author.Tests.{eqb-true, ltb-true, leb-true, lt-leb, eq-eqb}
 use lib.Dec.{leb, ltb, eqb}
@@ -9,7 +9,7 @@ use lib.ListN.{length}
 use Rattle.theory.specs.Logic.{_and_, _or_, indicator, if_then_else_}
 use Rattle.theory.proofs.Table.{every, at}
 use Rattle.wire.specs.Le.{bytes}
-use Rattle.inventory.specs.Inventory.{Row, row, rows, rowAt, rowCount, featuresRow, deviceFeatures, featuresSize, total, present, offsetOf, valuesSize, selectorOf, isRow, seek, placeOf}
+use Rattle.inventory.specs.Inventory.{Row, row, rows, rowAt, rowCount, featuresRow, deviceFeatures, featuresSize, present, offsetOf, valuesSize, selectorOf, isRow, seek, placeOf}
 use Rattle.inventory.specs.Header.{headerOf, headerSize}
 
 -- what computes where a proof says `unfolding table`
@@ -22,10 +22,6 @@ table = tt
 row-count : length rows ≡ rowCount
 unfolding rows
 row-count = refl
-
-pub values-size : total (map (λ (r : Row). r .size) rows) ≡ valuesSize
-unfolding rows
-values-size = refl
 
 -- a test of each row and its index holds at each
 pub every-row : (f : ℕ → Row → Bool) → every f 0 rows ≡ true → (i : ℕ) → i < rowCount → f i (rowAt i) ≡ true

@@ -5,6 +5,7 @@ use Prim.Native.Nat.{ℕ, _+_, _*_, _%_, _^_}
 use lib.Dec.{ltb, eqb}
 use lib.ListN.{getD, take}
 use Rattle.theory.specs.Logic.{if_then_else_, _and_, _or_}
+use Rattle.theory.specs.Bytes.{bytesAt}
 use Rattle.inventory.specs.declared.Place.{Place}
 use Rattle.inventory.specs.declared.Place.the-variants.{At, Absent}
 
@@ -75,6 +76,10 @@ offsetOf i = total (take i (map (λ (r : Row). r .size) rows))
 
 abbrev pub valuesSize : ℕ
 valuesSize = 205
+
+-- row i's value among them
+abbrev pub valueOf : List ℕ → ℕ → List ℕ
+valueOf values i = bytesAt (offsetOf i) (rowAt i .size) values
 
 -- how many parts a member with so many queues has, and their bytes, headers included
 abbrev pub partCount : ℕ → ℕ

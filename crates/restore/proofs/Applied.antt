@@ -1,22 +1,19 @@
--- What a list that is accepted leaves in each row: the list's value where it has one, else what was there. And values that
--- are the same in each row are the same. Assumes nothing.
-use mathlib.Core.Path.{_≡_, refl, ap, sym, _∙_}
+-- What a list that is accepted leaves in each row: the list's value where it has one, else what was there. Assumes nothing.
+use mathlib.Core.Path.{_≡_, refl, sym, _∙_}
 use mathlib.Core.Bool.{true, false}
 use mathlib.Core.List.{List}
-use Prim.Native.Nat.{ℕ, zero, suc, _+_, _<_, _≤_}
-use native.Mathlib.Numerals.{add-one}
+use Prim.Native.Nat.{ℕ, _<_}
 use native.Mathlib.Omega.{arith}
 use borrow.Author.Tests.{eqb-true, eq-eqb, ltb-true, ltb-false}
 use lib.Dec.{eqb, ltb}
-use lib.ListN.{length, take}
-use lib.Seq.{take-all, take-add}
+use lib.ListN.{length}
 use Rattle.theory.specs.Logic.{_and_}
 use Rattle.theory.specs.Bytes.{bytesAt, same}
 use Rattle.theory.proofs.Tests.{by-cases, both, and-i, true-and, false-or, same-true, never, neither}
-use Rattle.theory.proofs.Bytes.{bytesAt-before, bytesAt-after, bytesAt-put-as}
-use Rattle.inventory.specs.Inventory.{rowAt, rowCount, deviceFeatures, featuresSize, present, offsetOf, valuesSize, placeOf}
+use Rattle.inventory.proofs.Values.{own-value, other-value}
+use Rattle.inventory.specs.Inventory.{rowAt, rowCount, deviceFeatures, featuresSize, present, valuesSize, placeOf, valueOf}
 use Rattle.inventory.specs.declared.Place.the-variants.{At}
-use Rattle.inventory.proofs.Rules.{table, row-within, rows-apart, row-zero, offset-zero, offset-next}
+use Rattle.inventory.proofs.Rules.{row-zero, offset-zero}
 use Rattle.inventory.proofs.Find.{Found, place-found, own-place}
 use Rattle.parts.specs.List.{Part, PartList, end, cut, part, among}
 use Rattle.rules.specs.Rules.{known, lengthRight, featuresSame, every, repeated}
@@ -24,32 +21,9 @@ use Rattle.values.specs.Apply.{stored, applied}
 use Rattle.values.proofs.Kept.{stored-cases, stored-at, stored-length, applied-features}
 use Rattle.restore.proofs.PartValues.{Accepts, valueOr, value-here, value-on, value-none}
 
--- the bytes of row i's value
-abbrev pub valueOf : List ℕ → ℕ → List ℕ
-valueOf v i = bytesAt (offsetOf i) (rowAt i .size) v
-
 -- row i's value in a list, or y
 abbrev pub rowValue : ℕ → PartList → List ℕ → List ℕ
 rowValue i ps y = valueOr (rowAt i .partType) (rowAt i .selector) ps y
-
--- ---- values by rows ----
-
-offset-end : offsetOf rowCount ≡ valuesSize
-unfolding table
-offset-end = refl
-
-rows-to : (v w : List ℕ) → ((i : ℕ) → i < rowCount → valueOf v i ≡ valueOf w i) → (k : ℕ) → k ≤ rowCount
-    → take (offsetOf k) v ≡ take (offsetOf k) w
-rows-to v w e zero h = rw offset-zero
-rows-to v w e (suc k) h =
-    let n : offsetOf (suc k) ≡ offsetOf k + rowAt k .size = ap offsetOf (sym (add-one k)) ∙ offset-next k (omega arith) in
-    rw (n, take-add (offsetOf k) (rowAt k .size) v, take-add (offsetOf k) (rowAt k .size) w, rows-to v w e k (omega arith), e k (omega arith))
-
-pub by-value : (v w : List ℕ) → length v ≡ valuesSize → length w ≡ valuesSize
-    → ((i : ℕ) → i < rowCount → valueOf v i ≡ valueOf w i) → v ≡ w
-by-value v w a b e =
-    let x = rw offset-end at (rows-to v w e rowCount (omega arith)) in
-    sym (take-all valuesSize v (omega arith)) ∙ x ∙ take-all valuesSize w (omega arith)
 
 -- ---- one store ----
 
@@ -57,16 +31,7 @@ by-value v w a b e =
 stored-other : (q t s : ℕ) (x v : List ℕ) (i : ℕ) → i < rowCount → (Found q t s i → ⊥) → valueOf (stored q t s x v) i ≡ valueOf v i
 stored-other q t s x v i h other =
     stored-cases q t s x v (λ w. valueOf w i ≡ valueOf v i) refl
-    (λ j p z l.
-    let f = place-found q t s j p in
-    by-cases (ltb i j)
-    (λ a. bytesAt-before (offsetOf i) (rowAt i .size) (offsetOf j) x v (rows-apart i h j (f .below) (ltb-true i j a)))
-    (λ a.
-    by-cases (ltb j i)
-    (λ b. bytesAt-after (offsetOf i) (rowAt i .size) (offsetOf j) x v (rw l (rows-apart j (f .below) i h (ltb-true j i b))))
-    (λ b.
-    let e : j ≡ i = omega (arith, ltb-false i j a, ltb-false j i b) in
-    absurd (other (rw e at f)))))
+    (λ j p z l. let f = place-found q t s j p in other-value j (f .below) x v l i h (λ e. other (rw e f)))
 
 -- ---- a list ----
 
@@ -130,8 +95,7 @@ module _ (q i : ℕ) (few : q < 5) (h : i < rowCount) (y : present q (rowAt i) �
       let size = sized-at p at-i (b .0) in
       ih
       ∙ value-none _ _ ps _ (rw (t, s) at last)
-      ∙ rw (stored-at q _ _ (p .value) v i at-i z size)
-      (bytesAt-put-as (offsetOf i) (rowAt i .size) (p .value) v size (omega (arith, row-within i h)))
+      ∙ rw (stored-at q _ _ (p .value) v i at-i z size) (own-value i h (p .value) v size l)
       ∙ sym (value-here _ _ p ps _ t s))
       (λ n.
       ih

@@ -11,12 +11,12 @@ use lib.ListN.{length}
 use Rattle.theory.specs.Logic.{unless_answer_then_, _and_}
 use Rattle.theory.specs.Bytes.{bytesAt}
 use Rattle.theory.proofs.Tests.{by-cases, both, and-false, and-i, true-or, or-true, or-i, eq-same}
-use Rattle.theory.proofs.Bytes.{length-bytesAt}
 use Rattle.theory.proofs.Items.{items-same}
-use Rattle.inventory.specs.Inventory.{rowAt, rowCount, deviceFeatures, featuresSize, present, offsetOf, valuesSize, placeOf}
+use Rattle.inventory.proofs.Values.{value-long, features-value, by-value}
+use Rattle.inventory.specs.Inventory.{rowAt, rowCount, deviceFeatures, featuresSize, present, valuesSize, placeOf, valueOf}
 use Rattle.inventory.specs.Queue.{queuesAllowed}
 use Rattle.inventory.proofs.Queue.{row-allowed}
-use Rattle.inventory.proofs.Rules.{row-within, features-row, row-zero, offset-zero}
+use Rattle.inventory.proofs.Rules.{features-row}
 use Rattle.inventory.proofs.Find.{own-place, rows-distinct}
 use Rattle.inventory.specs.declared.Place.the-variants.{At}
 use Rattle.parts.specs.declared.ListForm.the-variants.{Parts}
@@ -28,20 +28,14 @@ use Rattle.values.proofs.Kept.{applied-length}
 use Rattle.capture.specs.Capture.{All, partItem, partsWritten, captureOf}
 use Rattle.restore.proofs.Rows.{rowPart, rowParts, capture-parts, by-rows, item-same}
 use Rattle.restore.proofs.PartValues.{Accepts, value-here, value-on}
-use Rattle.restore.proofs.Applied.{valueOf, rowValue, by-value, applied-absent, applied-at}
+use Rattle.restore.proofs.Applied.{rowValue, applied-absent, applied-at}
 
 abbrev featuresOf : List ℕ → List ℕ
 featuresOf v = bytesAt 0 featuresSize v
 
-features-value : (i : ℕ) (v : List ℕ) → i ≡ 0 → valueOf v i ≡ featuresOf v
-features-value i v e = ap (valueOf v) e ∙ rw (offset-zero, row-zero)
-
 -- v is what is captured, in a member with q queues
 module _ (q : ℕ) (v : List ℕ) (few : q < 5) (long : length v ≡ valuesSize) where
   -- ---- one part ----
-
-  value-long : (i : ℕ) → i < rowCount → length (valueOf v i) ≡ rowAt i .size
-  value-long i h = length-bytesAt (offsetOf i) (rowAt i .size) v (omega (arith, row-within i h))
 
   module _ (i : ℕ) (h : i < rowCount) (y : present q (rowAt i) ≡ true) where
     place : placeOf q (rowAt i .partType) (rowAt i .selector) ≡ At i
@@ -53,7 +47,7 @@ module _ (q : ℕ) (v : List ℕ) (few : q < 5) (long : length v ≡ valuesSize)
 
     row-long : lengthRight q (rowPart v i) ≡ true
     unfolding lengthRight
-    row-long = rw place (eq-eqb _ _ (value-long i h))
+    row-long = rw place (eq-eqb _ _ (value-long v long i h))
 
     row-size : queuesAllowed q v ≡ true → sizeRight q (rowPart v i) ≡ true
     unfolding sizeRight
@@ -65,7 +59,7 @@ module _ (q : ℕ) (v : List ℕ) (few : q < 5) (long : length v ≡ valuesSize)
         by-cases (eqb (rowAt i .partType) deviceFeatures)
         (λ e.
         let z = features-row i h (eqb-true _ _ e) in
-        rw (eq-same (valueOf v i) features (features-value i v z ∙ f)) (or-true _))
+        rw (eq-same (valueOf v i) features (ap (valueOf v) z ∙ features-value v ∙ f)) (or-true _))
         (λ e. rw e (true-or _))
 
   -- ---- the rules of step 10 ----

@@ -11,11 +11,11 @@ use Rattle.theory.specs.Logic.{if_then_else_}
 use Rattle.theory.specs.Bytes.{bytesAt}
 use Rattle.theory.specs.Items.{itemsFrom}
 use Rattle.theory.proofs.Tests.{by-cases}
-use Rattle.theory.proofs.Bytes.{length-bytesAt}
+use Rattle.inventory.proofs.Values.{value-long}
 use Rattle.wire.specs.Le.{number}
-use Rattle.inventory.specs.Inventory.{rowAt, rowCount, present, offsetOf, valuesSize}
+use Rattle.inventory.specs.Inventory.{rowAt, rowCount, present, valuesSize, valueOf}
 use Rattle.inventory.specs.Header.{flagsAt, selectorAt, lengthAt, headerSize, headerOf, flagsOf}
-use Rattle.inventory.proofs.Rules.{row-within, length-header, selector-own}
+use Rattle.inventory.proofs.Rules.{length-header, selector-own}
 use Rattle.inventory.proofs.Headers.{read-type, read-flags, read-selector, read-size}
 use Rattle.parts.specs.declared.ListForm.the-variants.{Parts}
 use Rattle.parts.specs.declared.Step.the-variants as step
@@ -64,7 +64,7 @@ module _ (pre : List ℕ) (i : ℕ) (h : i < rowCount) (x rest : List ℕ) (n : 
 
 -- row i's part, with its value among the values v
 abbrev pub rowPart : List ℕ → ℕ → Part
-rowPart v i = partWith (rowAt i .partType) (flagsOf (rowAt i)) (rowAt i .selector) (bytesAt (offsetOf i) (rowAt i .size) v)
+rowPart v i = partWith (rowAt i .partType) (flagsOf (rowAt i)) (rowAt i .selector) (valueOf v i)
 
 -- those that the member has of k rows from the i-th on
 unfoldable pub rowParts : ℕ → List ℕ → ℕ → ℕ → PartList
@@ -85,9 +85,9 @@ module _ (q : ℕ) (v : List ℕ) where
   unfolding partItem asks if_then_else_
   item-absent i y = rw y
 
-  split : (i : ℕ) (rest : List ℕ) → partAt v i ++ rest ≡ headerOf (rowAt i) ++ (bytesAt (offsetOf i) (rowAt i .size) v ++ rest)
+  split : (i : ℕ) (rest : List ℕ) → partAt v i ++ rest ≡ headerOf (rowAt i) ++ (valueOf v i ++ rest)
   unfolding partAt
-  split i rest = append-assoc (headerOf (rowAt i)) (bytesAt (offsetOf i) (rowAt i .size) v) rest
+  split i rest = append-assoc (headerOf (rowAt i)) (valueOf v i) rest
 
   read-back : length v ≡ valuesSize → (k i : ℕ) (pre : List ℕ) → i + k ≡ rowCount
       → partsFrom Parts (pre ++ itemsFrom item k i) (length pre) ≡ rowParts q v k i
@@ -95,13 +95,12 @@ module _ (q : ℕ) (v : List ℕ) where
   read-back e zero i pre n = rw append-nil (parts-end Parts pre (length pre) (step-end Parts pre (length pre) (omega arith)))
   read-back e (suc k) i pre n =
       let h : i < rowCount = omega arith in
-      let w = row-within i h in
       let rest = itemsFrom item k (i + 1) in
       by-cases (present q (rowAt i))
       (λ y.
       let long = part-length v i h e in
       let len : length (pre ++ partAt v i) ≡ length pre + headerSize + rowAt i .size = rw (length-append, long) (omega arith) in
-      let here = part-stands pre i h (bytesAt (offsetOf i) (rowAt i .size) v) rest (length-bytesAt (offsetOf i) (rowAt i .size) v (omega arith)) in
+      let here = part-stands pre i h (valueOf v i) rest (value-long v e i h) in
       let after = rw (append-assoc, split i rest, len) at (read-back e k (i + 1) (pre ++ partAt v i) (omega arith)) in
       rw (item-there i y, y, split i rest) (here ∙ ap (part (rowPart v i)) after))
       (λ y. rw (item-absent i y, y) (read-back e k (i + 1) pre (omega arith)))
@@ -125,7 +124,7 @@ module _ (q : ℕ) (v : List ℕ) where
 
 -- a row's part is the same where its value is
 pub item-same : (q : ℕ) (v w : List ℕ) (i : ℕ)
-    → (present q (rowAt i) ≡ true → bytesAt (offsetOf i) (rowAt i .size) v ≡ bytesAt (offsetOf i) (rowAt i .size) w)
+    → (present q (rowAt i) ≡ true → valueOf v i ≡ valueOf w i)
     → partItem All q [] v i ≡ partItem All q [] w i
 unfolding partAt
 item-same q v w i f =

@@ -6,13 +6,11 @@ use Prim.Native.Nat.{ℕ, zero, suc, _+_, _<_}
 use native.Mathlib.Omega.{arith}
 use lib.ListN.{length, length-append}
 use Rattle.theory.specs.Logic.{if_then_else_}
-use Rattle.theory.specs.Bytes.{bytesAt}
 use Rattle.theory.specs.Items.{itemsFrom}
 use Rattle.theory.proofs.Tests.{by-cases}
-use Rattle.theory.proofs.Bytes.{length-bytesAt}
-use Rattle.inventory.specs.Inventory.{rowAt, rowCount, offsetOf, valuesSize}
+use Rattle.inventory.proofs.Values.{value-long}
+use Rattle.inventory.specs.Inventory.{rowAt, rowCount, valuesSize, valueOf}
 use Rattle.inventory.specs.Header.{headerSize}
-use Rattle.inventory.proofs.Rules.{row-within}
 use Rattle.parts.specs.declared.ListForm.the-variants.{Parts}
 use Rattle.parts.specs.List.{partsFrom, partsOf, whole}
 use Rattle.parts.proofs.Walk.{step-end, parts-end}
@@ -28,13 +26,12 @@ module _ (selection : Selection) (queues : ℕ) (list values : List ℕ) (e : le
   whole-from zero i pre n = rw (append-nil, parts-end Parts pre (length pre) (step-end Parts pre (length pre) (omega arith)))
   whole-from (suc k) i pre n =
       let h : i < rowCount = omega arith in
-      let value : List ℕ = bytesAt (offsetOf i) (rowAt i .size) values in
       let rest = itemsFrom (partItem selection queues list values) k (i + 1) in
       by-cases (asks selection queues list (rowAt i))
       (λ y.
       let long : length (pre ++ partAt values i) ≡ length pre + headerSize + rowAt i .size =
       rw (length-append, part-length values i h e) (omega arith) in
-      let here = part-stands pre i h value rest (length-bytesAt (offsetOf i) (rowAt i .size) values (omega (arith, row-within i h))) in
+      let here = part-stands pre i h (valueOf values i) rest (value-long values e i h) in
       let after = rw (append-assoc, append-assoc, long) at (whole-from k (i + 1) (pre ++ partAt values i) (omega arith)) in
       rw (y, append-assoc, here) after)
       (λ y. rw y (whole-from k (i + 1) pre (omega arith)))

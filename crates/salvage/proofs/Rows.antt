@@ -6,28 +6,21 @@ use mathlib.Core.Logic.{_≢_}
 use mathlib.Core.List.{List}
 use Prim.Native.Nat.{ℕ, _+_, _<_}
 use native.Mathlib.Omega.{arith}
-use borrow.Author.Tests.{eqb-true, eq-eqb, ltb-true, ltb-false, not-true, not-false}
-use lib.Dec.{ltb}
+use borrow.Author.Tests.{eqb-true, eq-eqb, not-true, not-false}
 use lib.ListN.{length, getD, set}
 use lib.Seq.{getD-set-same, getD-set-other}
 use Rattle.theory.specs.Logic.{if_then_else_, _and_, _or_}
-use Rattle.theory.specs.Bytes.{bytesAt, put}
 use Rattle.theory.proofs.Tests.{by-cases, unless-cases, both, and-i, false-and, and-false, and-true, or-true, or-false, true-or, never, or-assoc, if-same}
-use Rattle.theory.proofs.Bytes.{bytesAt-before, bytesAt-after, bytesAt-put-as}
-use Rattle.inventory.specs.Inventory.{rowAt, rowCount, offsetOf, placeOf, onPlace}
+use Rattle.inventory.proofs.Values.{own-value, other-value}
+use Rattle.inventory.specs.Inventory.{rowAt, rowCount, placeOf, onPlace, valueOf}
 use Rattle.inventory.specs.declared.Place.{Place}
 use Rattle.inventory.specs.declared.Place.the-variants.{At, Absent}
-use Rattle.inventory.proofs.Rules.{row-within, rows-apart}
 use Rattle.inventory.proofs.Find.{place-found, rows-distinct}
 use Rattle.parts.specs.List.{Part, PartList, end, cut, part}
 use Rattle.rules.specs.Rules.{known, lengthRight}
 use Rattle.salvage.specs.Salvage.{allowed, isCopy, keptOr, isKept, Fate, Kept, Dropped, fateOf}
 use Rattle.salvage.specs.Walk.{State, dropping, taken, walked, Sized}
 use Rattle.salvage.proofs.Fates.{flag, keptBefore, done, taken-fate, taken-sized}
-
--- the bytes of row i's value
-abbrev pub valueOf : List ℕ → ℕ → List ℕ
-valueOf v i = bytesAt (offsetOf i) (rowAt i .size) v
 
 -- ---- one part: it is kept exactly if it is allowed and no copy of it was kept before ----
 
@@ -114,7 +107,7 @@ module _ (q : ℕ) (features : List ℕ) (p : Part) where
           let clear : flag s i ≡ false = sym (before-is c) ∙ free in
           let size = sized-at i a place in
           let set-flag : getD (set (s .kept) i 1) i 0 ≡ 1 = getD-set-same (s .kept) i 1 0 (omega (arith, h .kept)) in
-          let there = bytesAt-put-as (offsetOf i) (rowAt i .size) (p .value) (s .values) size (omega (arith, h .values, row-within i below)) in
+          let there = own-value i below (p .value) (s .values) size (h .values) in
           rw place (record { flagged = rw (set-flag, c) (sym (or-true _)); valued = rw (clear, c) there }))
           (λ c.
           allowed-place a
@@ -123,12 +116,7 @@ module _ (q : ℕ) (features : List ℕ) (p : Part) where
           let f = place-found q (p .partType) (p .selector) j place in
           let kept-on : getD (set (s .kept) j 1) i 0 ≡ getD (s .kept) i 0 = getD-set-other (s .kept) j i 1 0 other in
           let size = sized-at j a place in
-          let on : valueOf (put (offsetOf j) (p .value) (s .values)) i ≡ valueOf (s .values) i =
-          by-cases (ltb i j)
-          (λ t. bytesAt-before (offsetOf i) (rowAt i .size) (offsetOf j) (p .value) (s .values) (rows-apart i below j (f .below) (ltb-true i j t)))
-          (λ t.
-          let less : j < i = omega (arith, ltb-false i j t, other) in
-          bytesAt-after (offsetOf i) (rowAt i .size) (offsetOf j) (p .value) (s .values) (rw size (rows-apart j (f .below) i below less))) in
+          let on = other-value j (f .below) (p .value) (s .values) size i below other in
           rw place (record { flagged = rw (kept-on, c) (sym (or-false _)); valued = on ∙ rw c (sym (if-same (flag s i) _)) })))
 
       taken-row : After s (taken q features p s)

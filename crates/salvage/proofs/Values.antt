@@ -12,7 +12,8 @@ use Rattle.theory.specs.Logic.{if_then_else_, _and_, _or_}
 use Rattle.theory.specs.Bytes.{bytesAt, same}
 use Rattle.theory.proofs.Tests.{by-cases, both, and-i, false-or, within-high, same-true, same-refl}
 use Rattle.theory.proofs.Ladder.{or-left, or-right}
-use Rattle.inventory.specs.Inventory.{rowAt, rowCount, deviceFeatures, featuresSize, featuresRow, valuesSize, partsSize}
+use Rattle.inventory.proofs.Values.{features-value}
+use Rattle.inventory.specs.Inventory.{rowAt, rowCount, deviceFeatures, featuresSize, featuresRow, valuesSize, partsSize, valueOf}
 use Rattle.inventory.specs.Queue.{valueAllowed, queuesAllowed}
 use Rattle.inventory.proofs.Rules.{row-zero, offset-zero}
 use Rattle.inventory.proofs.Find.{rows-distinct}
@@ -28,7 +29,6 @@ use Rattle.member.specs.Member.{freshOf}
 use Rattle.member.proofs.Sound.{SoundMember, sound-fresh}
 use Rattle.salvage.specs.Salvage.{valueRight, allowed, isCopy, keptOr, isKept, freshValue, rowValue, repaired}
 use Rattle.salvage.specs.Claims.{InSetup, HasRow, valueIn, valueAt, stands}
-use Rattle.salvage.proofs.Rows.{valueOf}
 use Rattle.salvage.proofs.Whole.{endOf, end-sized, end-value, list-is}
 
 -- ---- the first allowed copy ----
@@ -152,13 +152,12 @@ module _ (q : ℕ) (features l : List ℕ) (g : InSetup q features) where
   front : bytesAt 0 featuresSize v ≡ features
   unfolding freshValue
   front =
-      let place : bytesAt 0 featuresSize v ≡ valueOf v featuresRow = rw (offset-zero, row-zero) in
       let own : valueOf v featuresRow ≡ rowValue q features l featuresRow = end-value q features l (g .long) featuresRow (omega arith) in
       let kept : rowValue q features l featuresRow ≡ features =
       kept-or q features (rowAt featuresRow .partType) (rowAt featuresRow .selector) (λ x. x ≡ features) (freshValue q features featuresRow)
       (rw (offset-zero, row-zero) (fresh .kept))
       (copy-features q features (rowAt featuresRow .partType) (rowAt featuresRow .selector) (rw row-zero)) (partsOf Parts l) in
-      place ∙ own ∙ kept
+      sym (features-value v) ∙ own ∙ kept
 
   pub list-passes : isAccepted (causeOf q features (repaired q features l)) ≡ true
   list-passes = ap isAccepted (rw (front, list-is q features l (g .long)) at (accepted q v few long queues v refl))

@@ -12,7 +12,7 @@ use Rattle.theory.proofs.Tests.{false-or}
 use Rattle.theory.proofs.Bytes.{put-nil, put-cons}
 use Rattle.theory.proofs.Items.{items-same}
 use Rattle.theory.proofs.Lists.{getD-same}
-use Rattle.inventory.specs.Inventory.{rowAt, rowCount, featuresSize, valuesSize, partsSize}
+use Rattle.inventory.specs.Inventory.{rowAt, rowCount, featuresSize, valuesSize, partsSize, valueOf}
 use Rattle.parts.specs.declared.ListForm.the-variants.{Parts}
 use Rattle.parts.specs.List.{PartList, end, cut, part, partsOf}
 use Rattle.capture.specs.Capture.{All, partAt, asks, partItem, partsWritten, captureOf}
@@ -22,7 +22,7 @@ use Rattle.salvage.specs.Salvage.{isKept, droppedFrom, freshValue, rowVa
 use Rattle.salvage.specs.Claims.{partsRead}
 use Rattle.salvage.specs.Walk.{State, state, taken, walked, Sized, Walked, Begins, flagItem, flagsOf, Fits}
 use Rattle.salvage.proofs.Fates.{flag, taken-sized}
-use Rattle.salvage.proofs.Rows.{valueOf, walked-flag, walked-value}
+use Rattle.salvage.proofs.Rows.{walked-flag, walked-value}
 use Rattle.salvage.proofs.Counts.{walked-count}
 
 -- ---- four counts ----

@@ -5,9 +5,9 @@ use Prim.Native.Nat.{ℕ, _+_, _-_}
 use lib.Dec.{leb, eqb}
 use lib.ListN.{length}
 use Rattle.theory.specs.Logic.{if_then_else_, unless_answer_then_, _and_, _or_, within, indicator}
-use Rattle.theory.specs.Bytes.{bytesAt, put}
+use Rattle.theory.specs.Bytes.{put}
 use Rattle.theory.specs.Items.{itemsFrom}
-use Rattle.inventory.specs.Inventory.{rowAt, rowCount, featuresSize, present, offsetOf, partCount, partsSize}
+use Rattle.inventory.specs.Inventory.{rowAt, rowCount, featuresSize, present, partCount, partsSize, valueOf}
 use Rattle.inventory.specs.Queue.{valueAllowed}
 use Rattle.inventory.specs.Header.{headerSize, headerOf}
 use Rattle.parts.specs.declared.ListForm.the-variants.{Parts}
@@ -101,7 +101,7 @@ leftOver damaged = length damaged - bytesRead (partsOf Parts damaged)
 
 -- a row's value of a fresh member: SPEC 2.5
 unfoldable pub freshValue : ℕ → List ℕ → ℕ → List ℕ
-freshValue queues features i = bytesAt (offsetOf i) (rowAt i .size) (freshOf queues features .values)
+freshValue queues features i = valueOf (freshOf queues features .values) i
 
 module _ (queues : ℕ) (features damaged : List ℕ) where
   abbrev pub isKeptRow : ℕ → Bool

@@ -5,13 +5,14 @@ use mathlib.Core.Bool.{true}
 use mathlib.Core.List.{List}
 use Prim.Native.Nat.{ℕ, _<_}
 use native.Mathlib.Omega.{arith}
-use borrow.Author.Tests.{lt-ltb, ltb-true, ltb-false, eq-eqb, eqb-true, eqb-false}
+use borrow.Author.Tests.{lt-ltb, ltb-true, eq-eqb, eqb-true, eqb-false}
 use lib.Dec.{ltb, eqb}
 use lib.ListN.{length}
 use Rattle.theory.specs.Logic.{if_then_else_, unless_answer_then_, _and_}
 use Rattle.theory.specs.Bytes.{bytesAt, put}
 use Rattle.theory.proofs.Tests.{by-cases, if-cases, unless-cases, both, and-i}
-use Rattle.theory.proofs.Bytes.{length-put, bytesAt-before, bytesAt-after, bytesAt-put-as}
+use Rattle.theory.proofs.Bytes.{length-put, bytesAt-before}
+use Rattle.inventory.proofs.Values.{own-value, other-value}
 use Rattle.protocol.specs.declared.EventAnswer.{EventAnswer}
 use Rattle.protocol.specs.declared.EventAnswer.the-variants.{Done, NoPart, WrongLength, BadQueueSize}
 use Rattle.protocol.specs.Answers.{isEventDone}
@@ -20,7 +21,7 @@ use Rattle.inventory.specs.Queue.{valueAllowed, queuesAllowed}
 use Rattle.inventory.specs.declared.Place.{Place}
 use Rattle.inventory.specs.declared.Place.the-variants.{At, Absent}
 use Rattle.inventory.proofs.Find.{place-found}
-use Rattle.inventory.proofs.Rules.{row-within, rows-apart, row-zero, offset-zero}
+use Rattle.inventory.proofs.Rules.{rows-apart, row-zero, offset-zero}
 use Rattle.inventory.proofs.Queue.{row-allowed, rows-allowed}
 use Rattle.parts.specs.List.{PartList, end, cut, part}
 use Rattle.values.specs.Apply.{storable, stored, applied}
@@ -61,16 +62,9 @@ stored-allowed q t s x v n a ok =
     stored-cases q t s x v (λ w. queuesAllowed q w ≡ true) a λ i p h l.
     let f = place-found q t s i p in
     rows-allowed q _ (length-put (offsetOf i) x v ∙ n) λ j b y.
-    let apart : valueAllowed (rowAt j .partType) (bytesAt (offsetOf j) (rowAt j .size) v) ≡ true = row-allowed q v a j b y in
     by-cases (eqb j i)
-    (λ e.
-    rw (eqb-true j i e, bytesAt-put-as (offsetOf i) (rowAt i .size) x v l (omega (arith, row-within i (f .below))), f .type-is) (ok i p))
-    (λ e.
-    by-cases (ltb j i)
-    (λ u. rw (bytesAt-before (offsetOf j) (rowAt j .size) (offsetOf i) x v (rows-apart j b i (f .below) (ltb-true j i u))) apart)
-    (λ u.
-    let k : i < j = omega (arith, eqb-false j i e, ltb-false j i u) in
-    rw (bytesAt-after (offsetOf j) (rowAt j .size) (offsetOf i) x v (omega (arith, rows-apart i (f .below) j b k))) apart))
+    (λ e. rw (eqb-true j i e, own-value i (f .below) x v l n, f .type-is) (ok i p))
+    (λ e. rw (other-value i (f .below) x v l j b (eqb-false j i e)) (row-allowed q v a j b y))
 
 -- a value whose store is done is allowed
 pub done-allowed : (q t s : ℕ) (x : List ℕ) → isEventDone (storable q t s x) ≡ true → valueAllowed t x ≡ true
