@@ -15,9 +15,8 @@ use Rattle.inventory.specs.declared.Place.the-variants.{At, Absent}
 use Rattle.inventory.proofs.Rules.{table, every-row}
 use Rattle.inventory.proofs.Find.{place-found}
 use Rattle.parts.specs.declared.ListForm.the-variants.{Parts}
-use Rattle.parts.specs.List.{atMost, partsFrom, partsOf, whole}
+use Rattle.parts.specs.List.{atMost, partsFrom, partsOf, whole, valueOr}
 use Rattle.rules.specs.Rules.{known, every, repeated, causeIn, causeOf, isAccepted}
-use Rattle.restore.proofs.PartValues.{valueOr}
 use Rattle.difference.specs.declared.Verdict.{Verdict}
 use Rattle.difference.specs.declared.Lookup.the-variants.{Refused}
 use Rattle.difference.specs.Difference.{placeIn, verdictOf, codeOf, lookupOf, lookupTold, made}

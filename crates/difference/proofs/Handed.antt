@@ -12,9 +12,8 @@ use Rattle.theory.specs.Bytes.{bytesAt}
 use Rattle.theory.proofs.Tests.{if-cases}
 use Rattle.inventory.specs.Inventory.{selectorOf}
 use Rattle.parts.specs.declared.ListForm.the-variants.{Parts}
-use Rattle.parts.specs.List.{partsOf}
+use Rattle.parts.specs.List.{partsOf, valueOr}
 use Rattle.rules.specs.Rules.{known}
-use Rattle.restore.proofs.PartValues.{valueOr}
 use Rattle.difference.specs.declared.Span.{Span}
 use Rattle.difference.specs.declared.Span.the-variants.{Value, Nowhere}
 use Rattle.difference.specs.declared.Verdict.{Verdict}

@@ -21,14 +21,14 @@ use Rattle.inventory.proofs.Queue.{rows-allowed}
 use Rattle.inventory.proofs.Rules.{table, row-zero}
 use Rattle.inventory.proofs.Find.{own-place}
 use Rattle.parts.specs.declared.ListForm.the-variants.{Parts}
-use Rattle.parts.specs.List.{PartList, partsOf, among}
+use Rattle.parts.specs.List.{PartList, partsOf, among, valueOr}
 use Rattle.rules.specs.Rules.{known, lengthRight, sizeRight, causeOf, isAccepted}
 use Rattle.rules.proofs.Causes.{accepted-sizes}
 use Rattle.values.specs.Apply.{applied}
 use Rattle.values.proofs.Kept.{applied-length, applied-features}
 use Rattle.capture.specs.Capture.{All, partAt, asks, partItem, partsWritten, captureOf}
 use Rattle.capture.proofs.Sizes.{capture-length}
-use Rattle.restore.proofs.PartValues.{Accepts, accepts, valueOr, value-none, value-there, value-obeys}
+use Rattle.restore.proofs.PartValues.{Accepts, accepts, value-none, value-there, value-obeys}
 use Rattle.restore.proofs.Applied.{rowValue, features-found, applied-absent, applied-at}
 use Rattle.restore.proofs.RoundTrip.{accepted, capture-value, capture-set}
 use Rattle.difference.specs.Difference.{placeIn, valueAt, isFull, madePart, madeItem, made}

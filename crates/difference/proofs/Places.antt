@@ -16,10 +16,9 @@ use Rattle.theory.proofs.Bytes.{length-bytesAt}
 use Rattle.parts.specs.declared.ListForm.the-variants.{Parts}
 use Rattle.parts.specs.declared.Step.{Step}
 use Rattle.parts.specs.declared.Step.the-variants as step
-use Rattle.parts.specs.List.{PartList, end, cut, part, partIn, stepAt, onStep, atMost, partsFrom, partsOf}
+use Rattle.parts.specs.List.{PartList, end, cut, part, partIn, stepAt, onStep, atMost, partsFrom, partsOf, valueOr}
 use Rattle.parts.proofs.Walk.{step-part}
 use Rattle.parts.proofs.Turns.{stopped, opened}
-use Rattle.restore.proofs.PartValues.{valueOr}
 use Rattle.difference.specs.declared.Span.{Span}
 use Rattle.difference.specs.declared.Span.the-variants.{Value, Nowhere}
 use Rattle.difference.specs.Difference.{spanFrom, spanOf, onSpan}

@@ -4,7 +4,7 @@ use mathlib.Core.List.{List}
 use Prim.Native.Nat.{ℕ, zero, suc, _+_, _-_}
 use lib.Dec.{leb, ltb, eqb}
 use lib.ListN.{length, getD}
-use Rattle.theory.specs.Logic.{unless_answer_then_, _and_, _or_}
+use Rattle.theory.specs.Logic.{if_then_else_, unless_answer_then_, _and_, _or_}
 use Rattle.theory.specs.Bytes.{bytesAt}
 use Rattle.wire.specs.Le.{number}
 use Rattle.inventory.specs.Inventory.{selectorOf}
@@ -83,3 +83,9 @@ unfoldable pub among : ℕ → ℕ → PartList → Bool
 among t s end = false
 among t s cut = false
 among t s (part p ps) = (eqb (p .partType) t and eqb (p .selector) s) or among t s ps
+
+-- the value of the first that has, or y where none does
+unfoldable pub valueOr : ℕ → ℕ → PartList → List ℕ → List ℕ
+valueOr t s end y = y
+valueOr t s cut y = y
+valueOr t s (part p ps) y = if eqb (p .partType) t and eqb (p .selector) s then p .value else valueOr t s ps y

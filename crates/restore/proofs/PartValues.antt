@@ -7,7 +7,7 @@ use lib.Dec.{eqb}
 use borrow.Author.Tests.{eqb-true, eq-eqb, not-true}
 use Rattle.theory.specs.Logic.{if_then_else_, unless_answer_then_, _and_}
 use Rattle.theory.proofs.Tests.{by-cases, both, and-i, true-or, false-or}
-use Rattle.parts.specs.List.{Part, PartList, end, cut, part, whole, among}
+use Rattle.parts.specs.List.{Part, PartList, end, cut, part, whole, among, valueOr}
 use Rattle.rules.specs.declared.Cause.{Cause}
 use Rattle.rules.specs.Rules.{knownOrSkipped, lengthRight, sizeRight, featuresSame, every, repeated, causeIn, isAccepted}
 
@@ -37,12 +37,6 @@ accepts q features ps e =
     record { sized = c .0; valued = f .0; once = not-true (repeated q ps) (g .0) }
 
 -- ---- the value of a part ----
-
--- that of the first part with this type and selector, or y where there is none
-unfoldable pub valueOr : ℕ → ℕ → PartList → List ℕ → List ℕ
-valueOr t s end y = y
-valueOr t s cut y = y
-valueOr t s (part p ps) y = if eqb (p .partType) t and eqb (p .selector) s then p .value else valueOr t s ps y
 
 -- of a list with a part in front
 module _ (t s : ℕ) (p : Part) (ps : PartList) (y : List ℕ) where

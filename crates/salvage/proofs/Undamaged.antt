@@ -15,10 +15,10 @@ use Rattle.theory.proofs.Items.{items-same}
 use Rattle.inventory.specs.Inventory.{rowAt, rowCount, present, partCount}
 use Rattle.inventory.proofs.Rules.{table, every-count}
 use Rattle.parts.specs.declared.ListForm.the-variants.{Parts}
-use Rattle.parts.specs.List.{Part, PartList, end, cut, part, partsOf, among}
+use Rattle.parts.specs.List.{Part, PartList, end, cut, part, partsOf, among, valueOr}
 use Rattle.rules.specs.Rules.{every}
 use Rattle.salvage.specs.Salvage.{allowed, isCopy, keptOr, isKept, fateOf, isDropped, droppedFrom, isKeptRow, keptItem, keptReport, droppedReport}
-use Rattle.salvage.specs.Claims.{InSetup, HasRow, valueIn, Undamaged, Back}
+use Rattle.salvage.specs.Claims.{InSetup, HasRow, Undamaged, Back}
 use Rattle.salvage.proofs.Rows.{fate-cases}
 use Rattle.salvage.proofs.Values.{few, value-written}
 
@@ -59,8 +59,8 @@ module _ (q : ℕ) (features : List ℕ) where
     kept-among (part p ps) a = let b = both _ _ a in rw (copy-named p (b .0), kept-among ps (b .1))
 
     kept-first : (x : List ℕ) (ps : PartList) → every (allowed q features) ps ≡ true → among t s ps ≡ true
-        → keptOr q features t s x ps ≡ valueIn t s ps
-    unfolding every keptOr among valueIn if_then_else_ _or_
+        → keptOr q features t s x ps ≡ valueOr t s ps []
+    unfolding every keptOr among valueOr if_then_else_ _or_
     kept-first x end a y = cc
     kept-first x cut a y = cc
     kept-first x (part p ps) a y =

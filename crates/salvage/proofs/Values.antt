@@ -2,33 +2,29 @@
 -- two. So step 10 passes it. Assumes nothing.
 use mathlib.Core.Path.{_≡_, refl, ap, sym, _∙_}
 use mathlib.Core.Bool.{true, false}
-use mathlib.Core.List.{List}
-use Prim.Native.Nat.{ℕ, _<_, _≤_}
+use mathlib.Core.List.{List, []}
+use Prim.Native.Nat.{ℕ, _<_}
 use native.Mathlib.Omega.{arith}
-use borrow.Author.Tests.{eqb-true, eq-eqb, ltb-true, ltb-false}
-use lib.Dec.{eqb, ltb}
+use borrow.Author.Tests.{eqb-true, eq-eqb}
 use lib.ListN.{length}
-use Rattle.theory.specs.Logic.{if_then_else_, _and_, _or_}
-use Rattle.theory.specs.Bytes.{bytesAt, same}
+use Rattle.theory.specs.Logic.{if_then_else_, _or_}
+use Rattle.theory.specs.Bytes.{bytesAt}
 use Rattle.theory.proofs.Tests.{by-cases, both, and-i, false-or, within-high, same-true, same-refl}
 use Rattle.theory.proofs.Ladder.{or-left, or-right}
 use Rattle.inventory.proofs.Values.{features-value}
-use Rattle.inventory.specs.Inventory.{rowAt, rowCount, deviceFeatures, featuresSize, featuresRow, valuesSize, partsSize, valueOf}
+use Rattle.inventory.specs.Inventory.{rowAt, deviceFeatures, featuresSize, featuresRow, valuesSize, partsSize, valueOf}
 use Rattle.inventory.specs.Queue.{valueAllowed, queuesAllowed}
 use Rattle.inventory.proofs.Rules.{row-zero, offset-zero}
-use Rattle.inventory.proofs.Find.{rows-distinct}
 use Rattle.inventory.proofs.Queue.{row-allowed, rows-allowed}
 use Rattle.parts.specs.declared.ListForm.the-variants.{Parts}
 use Rattle.parts.specs.List.{Part, PartList, end, cut, part, partsOf}
 use Rattle.rules.specs.Rules.{featuresSame, causeOf, isAccepted}
-use Rattle.capture.specs.Capture.{captureOf}
 use Rattle.capture.proofs.Sizes.{capture-length}
-use Rattle.restore.proofs.Rows.{rowPart, capture-parts, by-rows}
-use Rattle.restore.proofs.RoundTrip.{accepted}
+use Rattle.restore.proofs.RoundTrip.{accepted, capture-value}
 use Rattle.member.specs.Member.{freshOf}
 use Rattle.member.proofs.Sound.{SoundMember, sound-fresh}
 use Rattle.salvage.specs.Salvage.{valueRight, allowed, isCopy, keptOr, isKept, freshValue, rowValue, repaired}
-use Rattle.salvage.specs.Claims.{InSetup, HasRow, valueIn, valueAt, stands}
+use Rattle.salvage.specs.Claims.{InSetup, HasRow, valueAt, stands}
 use Rattle.salvage.proofs.Whole.{endOf, end-sized, end-value, list-is}
 
 -- ---- the first allowed copy ----
@@ -79,50 +75,6 @@ module _ (q : ℕ) (features : List ℕ) (t s : ℕ) where
       let f = both _ _ (copy-right p c) .1 in
       same-true _ _ (sym (false-or _) ∙ rw (eq-eqb _ _ (copy-named p c ∙ d)) at f)
 
--- ---- a row's value in a capture ----
-
-module _ (t s : ℕ) (p : Part) (ps : PartList) where
-  value-here : p .partType ≡ t → p .selector ≡ s → valueIn t s (part p ps) ≡ p .value
-  unfolding valueIn if_then_else_
-  value-here e f = rw (and-i _ _ (eq-eqb _ _ e) (eq-eqb _ _ f))
-
-  value-on : eqb (p .partType) t and eqb (p .selector) s ≡ false → valueIn t s (part p ps) ≡ valueIn t s ps
-  unfolding valueIn if_then_else_
-  value-on e = rw e
-
--- no row has another's type and selector
-other-row : (k i : ℕ) → k < rowCount → i < rowCount → k < i
-    → eqb (rowAt k .partType) (rowAt i .partType) and eqb (rowAt k .selector) (rowAt i .selector) ≡ false
-other-row k i h l m =
-    by-cases _
-    (λ e.
-    let b = both _ _ e in
-    let z = rows-distinct k i h l (eqb-true _ _ (b .0)) (eqb-true _ _ (b .1)) in
-    absurd (omega arith))
-    (λ e. e)
-
-capture-value : (q : ℕ) (v : List ℕ) → length v ≡ valuesSize → (i : ℕ) → HasRow q i → valueAt i (captureOf q v) ≡ valueOf v i
-capture-value q v long i r =
-    rw (capture-parts q v long)
-    (by-rows q v (λ k ps. k ≤ i → valueIn (rowAt i .partType) (rowAt i .selector) ps ≡ valueOf v i)
-    (λ m. absurd (omega (arith, r .below)))
-    (λ k ps h y on m.
-    by-cases (ltb k i)
-    (λ e.
-    let less = ltb-true k i e in
-    value-on _ _ (rowPart v k) ps (other-row k i h (r .below) less) ∙ on (omega arith))
-    (λ e.
-    let same : k ≡ i = omega (arith, ltb-false k i e) in
-    rw (← same) (value-here _ _ (rowPart v k) ps refl refl)))
-    (λ k ps h n on m.
-    by-cases (ltb k i)
-    (λ e. on (omega (arith, ltb-true k i e)))
-    (λ e.
-    let same : k ≡ i = omega (arith, ltb-false k i e) in
-    let clash : true ≡ false = sym (r .there) ∙ rw same at n in
-    cc))
-    rowCount 0 refl (omega arith))
-
 -- ---- what is written ----
 
 module _ (q : ℕ) (features l : List ℕ) (g : InSetup q features) where
@@ -167,4 +119,4 @@ module _ (q : ℕ) (features l : List ℕ) (g : InSetup q features) where
 
   pub value-written : (i : ℕ) → HasRow q i → valueAt i (repaired q features l) ≡ rowValue q features l i
   value-written i r =
-      rw (← list-is q features l (g .long)) (capture-value q v long i r ∙ end-value q features l (g .long) i (r .below))
+      rw (← list-is q features l (g .long)) (capture-value q v few long i (r .below) (r .there) [] ∙ end-value q features l (g .long) i (r .below))

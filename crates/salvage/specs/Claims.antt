@@ -6,12 +6,12 @@ use mathlib.Core.List.{List, []}
 use Prim.Native.Nat.{ℕ, _+_, _-_, _<_}
 use lib.Dec.{eqb}
 use lib.ListN.{length, replicate}
-use Rattle.theory.specs.Logic.{if_then_else_, _and_, _or_, within}
+use Rattle.theory.specs.Logic.{_and_, _or_, within}
 use Rattle.theory.specs.Bytes.{same}
 use Rattle.inventory.specs.Inventory.{featuresSize, rowAt, rowCount, present, total, partCount}
 use Rattle.parts.specs.declared.ListForm.the-variants.{Parts}
 use Rattle.parts.specs.declared.Step.the-variants.{Cut}
-use Rattle.parts.specs.List.{stepAt, PartList, end, cut, part, partsOf, whole, among}
+use Rattle.parts.specs.List.{stepAt, PartList, end, cut, part, partsOf, whole, among, valueOr}
 use Rattle.rules.specs.Rules.{causeOf, isAccepted}
 use Rattle.salvage.specs.Salvage.{leftOver, freshValue, isKeptRow, repaired, keptReport, droppedReport}
 
@@ -25,15 +25,9 @@ pub record HasRow (queues i : ℕ) : Type 0 where
   pub below : i < rowCount
   pub there : present queues (rowAt i) ≡ true
 
--- the value of the part of this type and selector, the first if there are more
-unfoldable pub valueIn : ℕ → ℕ → PartList → List ℕ
-valueIn t s end = []
-valueIn t s cut = []
-valueIn t s (part p ps) = if eqb (p .partType) t and eqb (p .selector) s then p .value else valueIn t s ps
-
--- that of a row in a list
+-- the value of row i's part in a list, the first if there are more
 abbrev pub valueAt : ℕ → List ℕ → List ℕ
-valueAt i l = valueIn (rowAt i .partType) (rowAt i .selector) (partsOf Parts l)
+valueAt i l = valueOr (rowAt i .partType) (rowAt i .selector) (partsOf Parts l) []
 
 -- some part has this type, selector and value
 unfoldable pub stands : ℕ → ℕ → List ℕ → PartList → Bool
