@@ -16,7 +16,7 @@ use Rattle.theory.proofs.Bytes.{put-comm, put-append, bytesAt-put-as, length-by
 use Rattle.theory.proofs.Items.{Written, written-room, written-next, written-skip}
 use Rattle.inventory.specs.Inventory.{Row, row, rowAt, rowCount, present, valuesSize}
 use Rattle.inventory.specs.Header.{headerOf, headerSize}
-use Rattle.inventory.proofs.Columns.{types, selectors, sizes, offsets, type-at, selector-at, size-at, offset-at, row-at}
+use Rattle.inventory.proofs.Columns.{types, selectors, sizes, offsets, type-at, selector-at, size-at, offset-at, row-at, present-at}
 use Rattle.inventory.proofs.Rules.{table, every-row, row-within, selector-below, length-header}
 use Rattle.capture.specs.Capture.{Selection, All, Asked, headerItem, partAt, asks, partItem}
 use Rattle.capture.specs.Runs.{largestValue, Wrote}
@@ -66,21 +66,17 @@ pub wrote-next : (item : ℕ → List ℕ) (n b : ℕ) (out₀ out out′ x : Li
     → item i ≡ x → Wrote x at out out′ next → Written item n b out₀ out′ next (i + 1)
 wrote-next item n b out₀ out out′ x at next i w h e d = rw (d .buffer, d .place, ← e) (written-next item n b out₀ out at i w h)
 
-present-row : (q i : ℕ) → present q (row (getD types i 0) (getD selectors i 0) 0) ≡ present q (rowAt i)
-unfolding present
-present-row q i = rw (type-at i, selector-at i)
-
 pub chosen-row : (selection : Selection) (q : ℕ) (list : List ℕ) (i : ℕ)
     → asks selection q list (row (getD types i 0) (getD selectors i 0) 0) ≡ asks selection q list (rowAt i)
 unfolding asks
-chosen-row All q list i = present-row q i
-chosen-row Asked q list i = rw (present-row q i, type-at i, selector-at i)
+chosen-row All q list i = present-at q i
+chosen-row Asked q list i = rw (present-at q i, type-at i, selector-at i)
 
 module _ (q : ℕ) (out₀ out : List ℕ) (at i : ℕ) (w : Written (headerItem q) rowCount 0 out₀ out at i) (h : i < rowCount)
     (b : Bool) (told : b ≡ present q (row (getD types i 0) (getD selectors i 0) 0)) where
   header-item : b ≡ true → headerItem q i ≡ headerOf (entry i)
   unfolding headerItem if_then_else_
-  header-item y = rw (← present-row q i, ← told, y, row-at i)
+  header-item y = rw (← present-at q i, ← told, y, row-at i)
 
   pub headers-room : b ≡ true → at + headerSize ≤ length out
   headers-room y = written-room _ _ _ _ _ _ _ w headerSize h (ap length (header-item y) ∙ length-header (entry i))
@@ -95,7 +91,7 @@ module _ (q : ℕ) (out₀ out : List ℕ) (at i : ℕ) (w : Written (headerItem
 
   pub headers-skip : b ≡ false → Written (headerItem q) rowCount 0 out₀ out at (i + 1)
   unfolding headerItem if_then_else_
-  headers-skip n = written-skip _ _ _ _ _ _ _ w h (rw (← present-row q i, ← told, n))
+  headers-skip n = written-skip _ _ _ _ _ _ _ w h (rw (← present-at q i, ← told, n))
 
 module _ (selection : Selection) (q : ℕ) (list v out₀ out : List ℕ) (at i : ℕ)
     (w : Written (partItem selection q list v) rowCount 0 out₀ out at i) (h : i < rowCount)

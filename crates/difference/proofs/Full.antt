@@ -8,7 +8,7 @@ use lib.Dec.{ltb}
 use lib.ListN.{getD}
 use Rattle.theory.proofs.Tests.{by-cases, both, and-i, true-and, false-and, true-or, or-true, false-or}
 use Rattle.inventory.specs.Inventory.{row, rowAt, rowCount, present}
-use Rattle.inventory.proofs.Columns.{types, selectors, type-at, selector-at}
+use Rattle.inventory.proofs.Columns.{types, selectors, type-at, selector-at, present-at}
 use Rattle.parts.specs.List.{PartList, among}
 use Rattle.difference.specs.Difference.{hasRow, hasRows}
 
@@ -16,10 +16,10 @@ use Rattle.difference.specs.Difference.{hasRow, hasRows}
 
 module _ (queues : ℕ) (ps : PartList) (x : Bool) (i : ℕ) (e : x ≡ hasRows queues ps (rowCount - i) i) where
   -- b: the list has the part of row i, as the tables have the row
-  module _ (b : Bool) (lookupTold : b ≡ hasRow queues ps (row (getD types i 0) (getD selectors i 0) 0)) (h : i < rowCount) where
+  module _ (b : Bool) (told : b ≡ hasRow queues ps (row (getD types i 0) (getD selectors i 0) 0)) (h : i < rowCount) where
     own : hasRow queues ps (rowAt i) ≡ b
-    unfolding hasRow present
-    own = sym (lookupTold ∙ rw (type-at i, selector-at i))
+    unfolding hasRow
+    own = sym (told ∙ rw (present-at queues i, type-at i, selector-at i))
 
     pub rows-out : not b ≡ true → x ≡ false
     unfolding hasRows

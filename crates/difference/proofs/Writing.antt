@@ -14,7 +14,7 @@ use Rattle.theory.proofs.Bytes.{length-put, put-append}
 use Rattle.theory.proofs.Items.{Written, written-room, written-skip}
 use Rattle.inventory.specs.Inventory.{row, rowAt, rowCount, present}
 use Rattle.inventory.specs.Header.{headerOf, headerSize}
-use Rattle.inventory.proofs.Columns.{types, selectors, sizes, type-at, selector-at, size-at}
+use Rattle.inventory.proofs.Columns.{types, selectors, sizes, type-at, selector-at, size-at, present-at}
 use Rattle.inventory.proofs.Rules.{length-header}
 use Rattle.capture.specs.Runs.{Wrote}
 use Rattle.capture.proofs.Writes.{wrote-next}
@@ -61,11 +61,9 @@ module _ (full later r : RefT (List ℕ)) (l : Lookup) (handed : Handed full lat
 -- ---- a turn of the loop ----
 
 module _ (q : ℕ) (full later out₀ out : List ℕ) (at i : ℕ) (w : Written (madeItem q full later) rowCount 0 out₀ out at i)
-    (h : i < rowCount) (b : Bool) (lookupTold : b ≡ present q (row (getD types i 0) (getD selectors i 0) 0)) where
-  -- row i as the tables have it
+    (h : i < rowCount) (b : Bool) (told : b ≡ present q (row (getD types i 0) (getD selectors i 0) 0)) where
   own : present q (rowAt i) ≡ b
-  unfolding present
-  own = sym (lookupTold ∙ rw (type-at i, selector-at i))
+  own = sym (told ∙ present-at q i)
 
   item-is : b ≡ true → madeItem q full later i ≡ madePart full later (row (getD types i 0) (getD selectors i 0) (getD sizes i 0))
   unfolding madeItem madePart if_then_else_

@@ -7,7 +7,7 @@ use lib.Dec.{eqb}
 use lib.ListN.{getD, List·getD-map}
 use Rattle.theory.specs.Logic.{_and_}
 use Rattle.theory.proofs.Table.{every, at}
-use Rattle.inventory.specs.Inventory.{Row, row, rows, rowAt, rowCount, offsetOf}
+use Rattle.inventory.specs.Inventory.{Row, row, rows, rowAt, rowCount, offsetOf, present}
 
 abbrev pub types : List ℕ
 types = map (λ (r : Row). r .partType) rows
@@ -36,6 +36,11 @@ size-at i = List·getD-map (λ (r : Row). r .size) rows i (row 0 0 0)
 -- the three together
 pub row-at : (i : ℕ) → row (getD types i 0) (getD selectors i 0) (getD sizes i 0) ≡ rowAt i
 row-at i = rw (type-at i, selector-at i, size-at i)
+
+-- whether a member has the part of a row, as the code asks it
+pub present-at : (q i : ℕ) → present q (row (getD types i 0) (getD selectors i 0) 0) ≡ present q (rowAt i)
+unfolding present
+present-at q i = rw (type-at i, selector-at i)
 
 pub offset-at : (i : ℕ) → i < rowCount → getD offsets i 0 ≡ offsetOf i
 unfolding rows offsetOf every _and_

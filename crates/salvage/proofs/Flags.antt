@@ -16,7 +16,7 @@ use Rattle.theory.proofs.Bytes.{put-one}
 use Rattle.theory.proofs.Sums.{sumFrom, length-items}
 use Rattle.theory.proofs.Items.{Written, written-start, written-room, written-next, written-skip}
 use Rattle.inventory.specs.Inventory.{row, rowAt, rowCount, present, partCount}
-use Rattle.inventory.proofs.Columns.{types, selectors, type-at, selector-at}
+use Rattle.inventory.proofs.Columns.{types, selectors, present-at}
 use Rattle.inventory.proofs.Rules.{table, every-count}
 use Rattle.salvage.specs.Walk.{flagItem, KeptFits}
 
@@ -46,8 +46,7 @@ flags-start q kept out h =
 module _ (q : ℕ) (kept out₀ out : List ℕ) (at i : ℕ) (w : Written (flagItem q kept) rowCount 0 out₀ out at i) (h : i < rowCount)
     (b : Bool) (told : b ≡ present q (row (getD types i 0) (getD selectors i 0) 0)) where
   there : b ≡ present q (rowAt i)
-  unfolding present
-  there = told ∙ rw (type-at i, selector-at i)
+  there = told ∙ present-at q i
 
   item-there : b ≡ true → flagItem q kept i ≡ indicator (not (eqb (getD kept i 0) 0)) ∷ []
   unfolding flagItem if_then_else_
