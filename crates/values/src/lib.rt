@@ -5,15 +5,13 @@ ghost use Rattle.inventory.specs.Inventory.{valuesSize};
 ghost use Rattle.parts.specs.declared.ListForm.the-variants.{Parts};
 ghost use Rattle.parts.specs.List.{partsOf};
 ghost use Rattle.values.specs.Apply.{storable, stored, applied};
+use inventory::FEATURES_ROW;
 use inventory::Place;
 use parts::ListForm;
 use parts::Step;
 use protocol::EventAnswer;
 
-// The row of the device features, which are never set.
-const FEATURES_ROW: usize = 0;
-
-// Whether a value can be stored.
+// Whether a value can be stored. Device features are never set.
 pub fn store_answer(queues: u8, t: u16, selector: u64, value: &[u8]) -> EventAnswer
     ensures { λ r. ⌜ r ≡ storable queues t selector (now (value .entry)) ⌝ }
 {
