@@ -21,23 +21,23 @@ use protocol::ReadOp;
 // Opcode 2 bytes, group type 2, reserved 12, member 8, data; at most 4,096 bytes.
 const GROUP_AT: usize = 2;
 
-const MEMBER_AT: usize = 16;
+pub const MEMBER_AT: usize = 16;
 
-const DATA_AT: usize = 24;
+pub const DATA_AT: usize = 24;
 
-const LONGEST: usize = 4096;
+pub const LONGEST: usize = 4096;
 
 // Data starts with the object header: type 2 bytes, reserved 2, id 4.
 const ID_AT: usize = 4;
 
-const OBJECT_SIZE: usize = 8;
+pub const OBJECT_SIZE: usize = 8;
 
 // Flags of 8 bytes follow, and then a kind; or a type byte and 7 reserved, and then headers.
-const FLAGS_AT: usize = OBJECT_SIZE;
+pub const FLAGS_AT: usize = OBJECT_SIZE;
 
-const KIND_AT: usize = FLAGS_AT + 8;
+pub const KIND_AT: usize = FLAGS_AT + 8;
 
-const TYPE_AT: usize = OBJECT_SIZE;
+pub const TYPE_AT: usize = OBJECT_SIZE;
 
 const HEADERS_AT: usize = TYPE_AT + 8;
 

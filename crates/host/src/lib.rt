@@ -9,19 +9,14 @@ ghost use Rattle.protocol.specs.Opcodes.{opcodeRow};
 ghost use Rattle.reply.specs.Reply.{headSize};
 ghost use Rattle.host.specs.Request.{sent, sentOf, startWith, startOf, StartFits, begun, built};
 ghost use Rattle.host.specs.Reply.{resultIn, formOf, countFits, resultFits, lengthRight, knownStatus, handledStatus, handledQualifier, readReply};
+use frame::DATA_AT;
+use frame::FLAGS_AT;
+use frame::KIND_AT;
+use frame::LONGEST;
+use frame::MEMBER_AT;
+use frame::OBJECT_SIZE;
+use frame::TYPE_AT;
 use parts::ListForm;
-
-// Opcode 2 bytes, group type 2, reserved 12, member 8, data; at most 4,096 bytes.
-const MEMBER_AT: usize = 16;
-
-const DATA_AT: usize = 24;
-
-const LONGEST: usize = 4096;
-
-// Where the last field stands in the data: after the object header, and after its flags.
-const TYPE_AT: usize = 8;
-
-const KIND_AT: usize = 16;
 
 // A command by its fields: a member, an object id, and a kind, type or mode byte, or a mask. The list that parts get and
 // parts set have stands beside it.
@@ -89,11 +84,11 @@ fn sent_of(command: Command) -> Sent
         Command::ListUse(mask) => fields(0x01, 0, 0, 0, mask),
         Command::Create(m, id, kind) => fields(0x0a, m, id, KIND_AT, kind as u64),
         Command::Modify(m, id, kind) => fields(0x0b, m, id, KIND_AT, kind as u64),
-        Command::Query(m, id) => fields(0x0c, m, id, TYPE_AT, 0),
-        Command::Destroy(m, id) => fields(0x0d, m, id, TYPE_AT, 0),
+        Command::Query(m, id) => fields(0x0c, m, id, FLAGS_AT, 0),
+        Command::Destroy(m, id) => fields(0x0d, m, id, OBJECT_SIZE, 0),
         Command::Metadata(m, id, what) => fields(0x0e, m, id, TYPE_AT, what as u64),
         Command::Get(m, id, which) => fields(0x0f, m, id, TYPE_AT, which as u64),
-        Command::Set(m, id) => fields(0x10, m, id, TYPE_AT, 0),
+        Command::Set(m, id) => fields(0x10, m, id, OBJECT_SIZE, 0),
         Command::SetMode(m, mode) => fields(0x11, m, 0, 0, mode as u64),
     }
 }
