@@ -16,7 +16,7 @@ use Rattle.wire.specs.Le.{le, number}
 use Rattle.protocol.specs.declared.Answer.the-variants.{BadField}
 use Rattle.protocol.specs.declared.ObjectKind.the-variants.{Set}
 use Rattle.protocol.specs.declared.Metadata.the-variants.{HeaderList}
-use Rattle.protocol.specs.Opcodes.{largest, opcodeRows, supported, supportedOnly, fixedSize, namesMember}
+use Rattle.protocol.specs.Opcodes.{opcodeRows, supported, supportedOnly, fixedSize, namesMember}
 use Rattle.protocol.proofs.Rows.{supported-is, data-long}
 use Rattle.frame.specs.declared.Ask.{Ask}
 use Rattle.frame.specs.declared.Ask.the-variants.{Refused, UseList}
@@ -109,7 +109,3 @@ unfolding askOf
 framed-is members ids used g op m marked r x a b eg eo em h =
     let l : length (dataOf r) ≤ length r - dataAt = omega (arith, length-drop dataAt r) in
     pass _ _ _ x (inside dataAt longest (length r) a b) (h ∙ rw (eg, eo, em, take-all _ _ l))
-
--- the largest data of an opcode's row fills the longest request
-pub largest-fills : dataAt + largest ≡ longest
-largest-fills = refl

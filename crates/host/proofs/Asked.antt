@@ -14,9 +14,9 @@ use Rattle.protocol.specs.declared.ReadOp.the-variants.{QueryObject, GetMetadat
 use Rattle.protocol.specs.declared.ChangeOp.the-variants.{Create, Modify, Destroy, SetParts, SetMode}
 use Rattle.protocol.specs.declared.Answer.the-variants.{BadOpcode, BadField}
 use Rattle.protocol.specs.Answers.{modeOf}
-use Rattle.protocol.specs.Opcodes.{largest, opcodeRows, opcodeRow, supported, fixedSize, namesMember, bit, supportedOnly}
+use Rattle.protocol.specs.Opcodes.{opcodeRows, opcodeRow, supported, fixedSize, namesMember, bit, supportedOnly}
 use Rattle.frame.specs.declared.Ask.the-variants.{Refused, UseList, Read, Change}
-use Rattle.frame.specs.Frame.{dataAt, longest, targetOf, kindAt, typeAt, headersAt, askedList, givenList}
+use Rattle.frame.specs.Frame.{dataAt, longest, targetOf, kindAt, typeAt, headersAt, askedList, givenList, givenAt}
 use Rattle.frame.specs.Fields.{idOf, kindIn, metadataIs, objectValid, flagsValid, kindValid, createIn, modifyIn, queryIn, destroyIn, metadataIn, getIn, setIn, modeIn, useIn, fieldsOf}
 use Rattle.frame.specs.Ask.{usable, reaches, attended, framedOf, askOf}
 use Rattle.host.specs.declared.Command.{Command}
@@ -138,7 +138,7 @@ module _ (m id : ℕ) (list : List ℕ) where
   unfolding laid
   set-target = sent-target (host.Set m id) list
 
-  pub set-parts-asked : (members ids inUse : ℕ) → members ≤ 16 → within 1 members m ≡ true → id < 256 ^ 4 → 8 + length list ≤ largest
+  pub set-parts-asked : (members ids inUse : ℕ) → members ≤ 16 → within 1 members m ≡ true → id < 256 ^ 4 → givenAt + length list ≤ longest
       → askOf members ids inUse false (setParts m id list)
       ≡ (unless bit inUse 0x10 answer Refused BadOpcode then unless ltb id ids answer Refused BadField then Change m (SetParts id))
   unfolding framedOf usable supported reaches attended namesMember fieldsOf within _and_ _or_ unless_answer_then_ laid

@@ -52,10 +52,6 @@ fixedSize op = opcodeRow op .fixed
 abbrev pub longestFixed : ℕ
 longestFixed = 24
 
--- the largest data: a request of 4,096 bytes has 24 before them
-abbrev pub largest : ℕ
-largest = 4072
-
 -- the commands that name a member: 0x0a to 0x11
 unfoldable pub namesMember : ℕ → Bool
 namesMember op = within 0x0a 0x11 op

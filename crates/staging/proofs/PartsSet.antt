@@ -9,11 +9,12 @@ use lib.Dec.{ltb}
 use lib.ListN.{length}
 use Rattle.theory.specs.Logic.{if_then_else_, unless_answer_then_}
 use Rattle.theory.proofs.Tests.{by-cases}
+use Rattle.frame.specs.Frame.{longest, givenAt}
 use Rattle.protocol.specs.declared.Answer.{Answer}
 use Rattle.protocol.specs.declared.Answer.the-variants.{BadOpcode, BadField}
 use Rattle.protocol.specs.declared.ChangeOp.the-variants.{SetParts}
 use Rattle.protocol.specs.Answers.{isDone}
-use Rattle.protocol.specs.Opcodes.{largest, bit}
+use Rattle.protocol.specs.Opcodes.{bit}
 use Rattle.changes.specs.declared.Changed.{Changed}
 use Rattle.changes.specs.Changes.{changeOf}
 use Rattle.card.specs.Layout.{setupOf, inUseOf, isMember, memberIn, withMember, isMarked}
@@ -41,7 +42,7 @@ module _ (c : List ℕ) (m : ℕ) (e : isSound c ≡ true) (here : isMember c m 
   ends : (a : Answer) (next : List ℕ) → ended c room (effect a next []) ≡ (if isDone a then next else c, headOf a)
   ends a next = rw (final-empty a room h, reply-empty)
 
-  pub respond-parts-set : (id : ℕ) → id < 256 ^ 4 → (list : List ℕ) → 8 + length list ≤ largest
+  pub respond-parts-set : (id : ℕ) → id < 256 ^ 4 → (list : List ℕ) → givenAt + length list ≤ longest
       → respond c (setParts m id list) room ≡ (partsSetOf c m id list .1, headOf (partsSetOf c m id list .0))
   unfolding askIn perform partsSetOf if_then_else_ unless_answer_then_
   respond-parts-set id small list short =
