@@ -15,6 +15,7 @@ use Rattle.theory.specs.Bytes.{put}
 use Rattle.theory.proofs.Tests.{by-cases, inside, tests}
 use Rattle.theory.proofs.Bytes.{put-nil, length-bytesAt}
 use Rattle.theory.proofs.Lists.{getD-same}
+use Rattle.wire.proofs.Le.{le-alike, number-alike}
 use Rattle.wire.specs.Le.{le, number}
 use Rattle.protocol.specs.Opcodes.{opcodeRows, opcodeRow, supported, fixedSize, longestFixed}
 use Rattle.protocol.proofs.Rows.{fixed-is, fixed-longest, data-long}
@@ -22,7 +23,6 @@ use Rattle.frame.specs.declared.Ask.{Ask}
 use Rattle.frame.specs.Frame.{groupAt, memberAt, dataAt, longest, opcodeOf, groupOf, targetOf, dataOf, idAt, objectSize, flagsAt, kindAt, typeAt, headersAt}
 use Rattle.frame.specs.Fields.{idOf, objectValid, flagsValid, kindValid, createIn, modifyIn, queryIn, destroyIn, metadataIn, getIn, setIn, modeIn, useIn, fieldsOf}
 use Rattle.frame.specs.Ask.{usable, framedOf, askOf}
-use Rattle.frame.proofs.Numbers.{le-alike, number-alike}
 use Rattle.frame.proofs.Steps.{last-long}
 
 -- ---- data that reads alike in its first k bytes asks the same ----

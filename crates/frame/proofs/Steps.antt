@@ -7,11 +7,12 @@ use native.Mathlib.Nat.{le-antisymm}
 use native.Mathlib.Omega.{arith}
 use borrow.Author.Tests.{not-false, eq-eqb, ne-eqb}
 use lib.Dec.{ltb, eqb}
-use lib.ListN.{length, getD, take, drop, length-drop, drop-of-length-le}
-use lib.Seq.{take-all}
+use lib.ListN.{length, getD, take, drop, drop-of-length-le}
 use Rattle.theory.specs.Logic.{if_then_else_, unless_answer_then_}
 use Rattle.theory.proofs.Tests.{by-cases, both, either, inside, within-low, within-high, tests}
 use Rattle.theory.proofs.Ladder.{pass, stop, and-right, said-true, said-false}
+use Rattle.theory.proofs.Lent.{tail-is}
+use Rattle.wire.proofs.Le.{le-step, le-split}
 use Rattle.wire.specs.Le.{le, number}
 use Rattle.protocol.specs.declared.Answer.the-variants.{BadField}
 use Rattle.protocol.specs.declared.ObjectKind.the-variants.{Set}
@@ -23,7 +24,6 @@ use Rattle.frame.specs.declared.Ask.the-variants.{Refused, UseList}
 use Rattle.frame.specs.Frame.{dataAt, longest, opcodeOf, groupOf, targetOf, dataOf}
 use Rattle.frame.specs.Fields.{kindIn, metadataIs, modeIn, useIn, fieldsOf}
 use Rattle.frame.specs.Ask.{usable, framedOf, askOf}
-use Rattle.frame.proofs.Numbers.{le-step, le-split}
 
 -- a byte other than those before
 pub kind-set : (b : ℕ) → (b ≡ 0 → ⊥) → Set ≡ kindIn b
@@ -107,5 +107,4 @@ pub framed-is : (members ids used g op m : ℕ) (marked : Bool) (r : List ℕ) (
     → x ≡ framedOf members ids used marked g op m (take (length r - dataAt) (dataOf r)) → x ≡ askOf members ids used marked r
 unfolding askOf
 framed-is members ids used g op m marked r x a b eg eo em h =
-    let l : length (dataOf r) ≤ length r - dataAt = omega (arith, length-drop dataAt r) in
-    pass _ _ _ x (inside dataAt longest (length r) a b) (h ∙ rw (eg, eo, em, take-all _ _ l))
+    pass _ _ _ x (inside dataAt longest (length r) a b) (h ∙ rw (eg, eo, em, tail-is dataAt r))

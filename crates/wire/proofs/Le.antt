@@ -1,13 +1,13 @@
 -- The laws of `le`, `bytes` and `number`, each once, over the width. Assumes nothing.
-use mathlib.Core.Path.{_≡_, refl, ap, _∙_}
+use mathlib.Core.Path.{_≡_, refl, ap, sym, _∙_}
 use mathlib.Core.List.{List, [], _∷_, _++_}
 use Prim.Native.Nat.{ℕ, zero, suc, _+_, _*_, _/_, _%_, _^_, _≤_, _<_}
 use native.Mathlib.Nat.{zero-add, add-zero, suc-add, pow-succ'}
 use native.Mathlib.Numerals.{add-one}
 use native.Mathlib.Omega.{arith}
-use lib.ListN.{length, getD, take}
-use lib.Seq.{take-nil, drop-nil, drop-cons}
-use Rattle.theory.specs.Bytes.{bytesAt, put}
+use lib.ListN.{length, getD, take, drop}
+use lib.Seq.{take-nil, drop-nil}
+use Rattle.theory.specs.Bytes.{put}
 use Rattle.theory.proofs.Bytes.{bytesAt-before, bytesAt-put-as}
 use Rattle.wire.specs.Le.{le, bytes, number}
 
@@ -65,19 +65,39 @@ number-append at (suc n) m l =
     rw (suc-add, number-step at (n + m) l, number-append (at + 1) n m l, number-step at n l, pow-succ', e) (omega arith)
 
 -- of bytes, each below 256
-module _ (l : List ℕ) (small : (i : ℕ) → getD l i 0 < 256) where
-  pub number-below : (n at : ℕ) → number at n l < 256 ^ n
-  number-below zero at = rw number-none (omega arith)
-  number-below (suc n) at = rw (number-step, pow-succ') (omega (arith, small at, number-below n (at + 1)))
+pub number-below : (l : List ℕ) → ((i : ℕ) → getD l i 0 < 256) → (n at : ℕ) → number at n l < 256 ^ n
+number-below l small zero at = rw number-none (omega arith)
+number-below l small (suc n) at = rw (number-step, pow-succ') (omega (arith, small at, number-below l small n (at + 1)))
 
-  pub bytes-number : (n at : ℕ) → at + n ≤ length l → bytes n (number at n l) ≡ bytesAt at n l
-  unfolding bytes
-  bytes-number zero at h = refl
-  bytes-number (suc n) at h =
-      let k : at < length l = omega arith in
-      let low : (getD l at 0 + 256 * number (at + 1) n l) % 256 ≡ getD l at 0 = omega (arith, small at) in
-      let high : (getD l at 0 + 256 * number (at + 1) n l) / 256 ≡ number (at + 1) n l = omega (arith, small at) in
-      rw (number-step, low, high, drop-cons l at 0 k, bytes-number n (at + 1) (omega arith), add-one)
+-- bytes that read alike, of which the number takes only the first k
+module _ (k : ℕ) (a d : List ℕ) (f : (i : ℕ) → i < k → getD a i 0 ≡ getD d i 0) where
+  pub number-alike : (n at : ℕ) → at + n ≤ k → number at n a ≡ number at n d
+  number-alike zero at h = number-none at a ∙ sym (number-none at d)
+  number-alike (suc n) at h =
+      number-step at n a ∙ rw (f at (omega arith), number-alike n (at + 1) (omega arith)) (sym (number-step at n d))
+
+-- ---- all bytes as one number, where one past the end counts as 0 ----
+
+-- from a place on: the byte there, then those after it
+pub le-step : (l : List ℕ) (at : ℕ) → le (drop at l) ≡ getD l at 0 + 256 * le (drop (at + 1) l)
+unfolding le
+le-step [] at = rw (drop-nil at, drop-nil (at + 1))
+le-step (b ∷ l) zero = refl
+le-step (b ∷ l) (suc at) = le-step l at ∙ rw (add-one, add-one)
+
+-- the first n, then those after them
+pub le-split : (n : ℕ) (l : List ℕ) → le l ≡ number 0 n l + 256 ^ n * le (drop n l)
+unfolding le number
+le-split zero l = omega arith
+le-split (suc n) [] = omega arith
+le-split (suc n) (b ∷ l) = rw pow-succ' (omega (arith, le-split n l))
+
+pub le-alike : (a d : List ℕ) → ((i : ℕ) → getD a i 0 ≡ getD d i 0) → le a ≡ le d
+unfolding le
+le-alike [] [] f = refl
+le-alike [] (y ∷ d) f = rw (← f 0, ← le-alike [] d (λ i. f (suc i)))
+le-alike (x ∷ a) [] f = rw (f 0, le-alike a [] (λ i. f (suc i)))
+le-alike (x ∷ a) (y ∷ d) f = rw (f 0, le-alike a d (λ i. f (suc i)))
 
 -- ---- the number at a place where something was put ----
 
