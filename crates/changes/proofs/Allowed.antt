@@ -11,7 +11,7 @@ use Rattle.inventory.specs.Inventory.{valuesSize, placeOf}
 use Rattle.inventory.specs.Queue.{valueAllowed, queuesAllowed}
 use Rattle.parts.specs.List.{Part, PartList, end, cut, part}
 use Rattle.rules.specs.Rules.{known, sizeRight, every, causeIn, isAccepted}
-use Rattle.rules.proofs.Causes.{accepted-sizes}
+use Rattle.rules.proofs.Accepted.{accepts}
 use Rattle.values.specs.Apply.{stored, applied}
 use Rattle.values.proofs.Kept.{stored-length, stored-allowed}
 
@@ -32,4 +32,4 @@ sizes-allowed q (part p ps) v h n a =
 
 pub accepted-allowed : (q : ℕ) (features : List ℕ) (ps : PartList) (v : List ℕ) → isAccepted (causeIn q features ps) ≡ true
     → length v ≡ valuesSize → queuesAllowed q v ≡ true → queuesAllowed q (applied q ps v) ≡ true
-accepted-allowed q features ps v h = sizes-allowed q ps v (accepted-sizes q features ps h)
+accepted-allowed q features ps v h = sizes-allowed q ps v (accepts q features ps h .rings)

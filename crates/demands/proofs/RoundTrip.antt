@@ -91,7 +91,7 @@ module _ (c : List ℕ) (m i : ℕ) (d : List ℕ) (k j l : ℕ) (x : Restorable
   values-after : captureOf (memberIn after k .queues) (memberIn after k .values) ≡ list
   unfolding memberSet list
   values-after =
-      rw (member-after d k j taker list (ap isAccepted list-accepted)) (capture-restored q v few-queues long-source w long-target features-same)
+      rw (member-after d k j taker list (ap isAccepted list-accepted)) (capture-restored q v few-queues long-source allowed-source w long-target features-same)
 
   recaptured-is : (r : ℕ) → 8 + partsSize q ≤ r → capture after k l r ≡ headOf Done ++ list
   recaptured-is r h =

@@ -16,19 +16,19 @@ use Rattle.theory.proofs.Tests.{by-cases, false-or}
 use Rattle.theory.proofs.Items.{items-same}
 use Rattle.inventory.proofs.Values.{value-long}
 use Rattle.inventory.specs.Inventory.{rowAt, rowCount, featuresRow, featuresSize, present, valuesSize, partsSize, placeOf, onPlace, valueOf}
-use Rattle.inventory.specs.Queue.{valueAllowed}
+use Rattle.inventory.specs.Queue.{valueAllowed, queuesAllowed}
 use Rattle.inventory.proofs.Queue.{rows-allowed}
 use Rattle.inventory.proofs.Rules.{table, row-zero}
 use Rattle.inventory.proofs.Find.{own-place}
 use Rattle.parts.specs.declared.ListForm.the-variants.{Parts}
 use Rattle.parts.specs.List.{PartList, partsOf, among, valueOr}
 use Rattle.rules.specs.Rules.{known, lengthRight, sizeRight, causeOf, isAccepted}
-use Rattle.rules.proofs.Causes.{accepted-sizes}
+use Rattle.rules.proofs.Accepted.{Accepts, accepts}
 use Rattle.values.specs.Apply.{applied}
 use Rattle.values.proofs.Kept.{applied-length, applied-features}
 use Rattle.capture.specs.Capture.{All, partAt, asks, partItem, partsWritten, captureOf}
 use Rattle.capture.proofs.Sizes.{capture-length}
-use Rattle.restore.proofs.PartValues.{Accepts, accepts, value-none, value-there, value-obeys}
+use Rattle.restore.proofs.PartValues.{value-none, value-there, value-obeys}
 use Rattle.restore.proofs.Applied.{rowValue, features-found, applied-absent, applied-at}
 use Rattle.restore.proofs.RoundTrip.{accepted, capture-value, capture-set}
 use Rattle.difference.specs.Difference.{placeIn, valueAt, isFull, madePart, madeItem, made}
@@ -108,13 +108,6 @@ module _ (q : ℕ) (full later v : List ℕ) (long : length v ≡ valuesSize) (p
   unfolding made partsWritten
   made-is = items-same (madeItem q full later) (partItem All q [] u) rowCount rowCount 0 refl made-item
 
-  -- setting it leaves what setting both leaves
-  pub made-sets : applied q (partsOf Parts (made q full later)) v ≡ u
-  made-sets =
-      ap (λ l. applied q (partsOf Parts l) v) made-is
-      ∙ capture-set q u (pair .few) both-long v long both-features
-      (λ i h n. applied-absent q i h n ls once ∙ applied-absent q i h n fs v)
-
   -- request 5: each row has a value of one of the lists, so one that is allowed
   row-allowed : (i : ℕ) → i < rowCount → present q (rowAt i) ≡ true → valueAllowed (rowAt i .partType) (valueOf u i) ≡ true
   unfolding sizeRight
@@ -123,13 +116,23 @@ module _ (q : ℕ) (full later v : List ℕ) (long : length v ≡ valuesSize) (p
       let s = rowAt i .selector in
       let there = full-there q fs (pair .lacksNone) i h y in
       let e : valueOr t s ls (valueOr t s fs []) ≡ valueOf u i = sym (place-value full later t s) ∙ looked-up i h y in
-      let x = value-obeys (sizeRule q) t s ls (valueOr t s fs []) (accepted-sizes q _ ls (pair .laterAccepted))
-      (λ n. value-obeys (sizeRule q) t s fs [] (accepted-sizes q _ fs (pair .fullAccepted)) (λ n. let z : true ≡ false = sym there ∙ n in cc)) in
+      let x = value-obeys (sizeRule q) t s ls (valueOr t s fs []) (later-accepts .rings)
+      (λ n. value-obeys (sizeRule q) t s fs [] (full-accepts .rings) (λ n. let z : true ≡ false = sym there ∙ n in cc)) in
       sym (false-or _) ∙ rw (known-row i h y, e) at x
+
+  allowed : queuesAllowed q u ≡ true
+  allowed = rows-allowed q u both-long row-allowed
+
+  -- setting it leaves what setting both leaves
+  pub made-sets : applied q (partsOf Parts (made q full later)) v ≡ u
+  made-sets =
+      ap (λ l. applied q (partsOf Parts l) v) made-is
+      ∙ capture-set q u (pair .few) both-long allowed v long both-features
+      (λ i h n. applied-absent q i h n ls once ∙ applied-absent q i h n fs v)
 
   pub made-accepted : isAccepted (causeOf q (bytesAt 0 featuresSize v) (made q full later)) ≡ true
   made-accepted =
-      rw made-is (ap isAccepted (accepted q u (pair .few) both-long (rows-allowed q u both-long row-allowed) v both-features))
+      rw made-is (ap isAccepted (accepted q u (pair .few) both-long allowed v both-features))
 
   pub made-value : (i : ℕ) → i < rowCount → present q (rowAt i) ≡ true → (y : List ℕ)
       → rowValue i (partsOf Parts (made q full later)) y ≡ lookedUp full later i

@@ -17,9 +17,10 @@ use Rattle.inventory.proofs.Rules.{row-zero, offset-zero}
 use Rattle.inventory.proofs.Find.{Found, place-found, own-place}
 use Rattle.parts.specs.List.{Part, PartList, end, cut, part, among, valueOr}
 use Rattle.rules.specs.Rules.{known, lengthRight, featuresSame, every, repeated}
+use Rattle.rules.proofs.Accepted.{Accepts}
 use Rattle.values.specs.Apply.{stored, applied}
 use Rattle.values.proofs.Kept.{stored-cases, stored-at, stored-length, applied-features}
-use Rattle.restore.proofs.PartValues.{Accepts, value-here, value-on, value-none}
+use Rattle.restore.proofs.PartValues.{value-here, value-on, value-none}
 
 -- row i's value in a list, or y
 abbrev pub rowValue : ℕ → PartList → List ℕ → List ℕ

@@ -1,42 +1,14 @@
--- The value of a part in a list of parts, and the rules that step 10 says of a list that it accepts. Assumes nothing.
+-- The value of a part in a list of parts. Assumes nothing.
 use mathlib.Core.Path.{_≡_, refl, sym, _∙_}
-use mathlib.Core.Bool.{Bool, true, false, not}
+use mathlib.Core.Bool.{Bool, true, false}
 use mathlib.Core.List.{List}
 use Prim.Native.Nat.{ℕ}
 use lib.Dec.{eqb}
-use borrow.Author.Tests.{eqb-true, eq-eqb, not-true}
-use Rattle.theory.specs.Logic.{if_then_else_, unless_answer_then_, _and_}
+use borrow.Author.Tests.{eqb-true, eq-eqb}
+use Rattle.theory.specs.Logic.{if_then_else_, _and_}
 use Rattle.theory.proofs.Tests.{by-cases, both, and-i, true-or, false-or}
-use Rattle.parts.specs.List.{Part, PartList, end, cut, part, whole, among, valueOr}
-use Rattle.rules.specs.declared.Cause.{Cause}
-use Rattle.rules.specs.Rules.{knownOrSkipped, lengthRight, sizeRight, featuresSame, every, repeated, causeIn, isAccepted}
-
--- ---- a list that is accepted ----
-
-pub record Accepts (q : ℕ) (features : List ℕ) (ps : PartList) : Type 0 where
-  pub sized : every (lengthRight q) ps ≡ true
-  pub valued : every (featuresSame features) ps ≡ true
-  pub once : repeated q ps ≡ false
-
--- a step of the table of causes that was passed
-passed : (t : Bool) (c rest : Cause) → isAccepted c ≡ false → isAccepted (unless t answer c then rest) ≡ true
-    → (t ≡ true) × (isAccepted rest ≡ true)
-unfolding unless_answer_then_
-passed true c rest n e = (refl, e)
-passed false c rest n e = let z : false ≡ true = sym n ∙ e in (z, cc)
-
-pub accepts : (q : ℕ) (features : List ℕ) (ps : PartList) → isAccepted (causeIn q features ps) ≡ true → Accepts q features ps
-unfolding causeIn
-accepts q features ps e =
-    let a = passed (whole ps) _ _ refl e in
-    let b = passed (every (knownOrSkipped q) ps) _ _ refl (a .1) in
-    let c = passed (every (lengthRight q) ps) _ _ refl (b .1) in
-    let d = passed (every (sizeRight q) ps) _ _ refl (c .1) in
-    let f = passed (every (featuresSame features) ps) _ _ refl (d .1) in
-    let g = passed (not (repeated q ps)) _ _ refl (f .1) in
-    record { sized = c .0; valued = f .0; once = not-true (repeated q ps) (g .0) }
-
--- ---- the value of a part ----
+use Rattle.parts.specs.List.{Part, PartList, end, cut, part, among, valueOr}
+use Rattle.rules.specs.Rules.{every}
 
 -- of a list with a part in front
 module _ (t s : ℕ) (p : Part) (ps : PartList) (y : List ℕ) where

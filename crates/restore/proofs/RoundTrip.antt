@@ -22,12 +22,13 @@ use Rattle.inventory.specs.declared.Place.the-variants.{At}
 use Rattle.parts.specs.declared.ListForm.the-variants.{Parts}
 use Rattle.parts.specs.List.{Part, PartList, partsOf, whole, among}
 use Rattle.rules.specs.declared.Cause.the-variants.{Accepted}
-use Rattle.rules.specs.Rules.{known, knownOrSkipped, lengthRight, sizeRight, featuresSame, every, repeated, causeIn, causeOf}
+use Rattle.rules.specs.Rules.{known, knownOrSkipped, lengthRight, sizeRight, featuresSame, every, repeated, causeIn, causeOf, isAccepted}
+use Rattle.rules.proofs.Accepted.{accepts}
 use Rattle.values.specs.Apply.{applied}
 use Rattle.values.proofs.Kept.{applied-length}
 use Rattle.capture.specs.Capture.{All, partItem, partsWritten, captureOf}
 use Rattle.restore.proofs.Rows.{rowPart, rowParts, capture-parts, by-rows, item-same}
-use Rattle.restore.proofs.PartValues.{Accepts, value-here, value-on}
+use Rattle.restore.proofs.PartValues.{value-here, value-on}
 use Rattle.restore.proofs.Applied.{rowValue, applied-absent, applied-at}
 
 abbrev featuresOf : List ℕ → List ℕ
@@ -141,22 +142,13 @@ module _ (q : ℕ) (v : List ℕ) (few : q < 5) (long : length v ≡ valuesSize)
 
   -- ---- set in a member with the same device features ----
 
-  module _ (w : List ℕ) (e : length w ≡ valuesSize) (f : bytesAt 0 featuresSize v ≡ bytesAt 0 featuresSize w) where
+  module _ (a : queuesAllowed q v ≡ true) (w : List ℕ) (e : length w ≡ valuesSize) (f : bytesAt 0 featuresSize v ≡ bytesAt 0 featuresSize w) where
     abbrev after : List ℕ
     after = applied q (partsOf Parts (captureOf q v)) w
 
-    accepts : Accepts q (featuresOf w) (partsOf Parts (captureOf q v))
-    accepts =
-        rw (capture-parts q v long)
-        (record {
-          sized = every-rows (lengthRight q) row-long;
-          valued = every-rows (featuresSame (featuresOf w)) (λ i h y. row-features i h y (featuresOf w) f);
-          once = once-rows .once;
-        })
-
     value-set : (i : ℕ) → i < rowCount → present q (rowAt i) ≡ true → valueOf after i ≡ valueOf v i
     value-set i h p =
-        applied-at q i few h p _ w e accepts ∙ capture-value i h p (valueOf w i)
+        applied-at q i few h p _ w e (accepts q (featuresOf w) _ (ap isAccepted (accepted a w f))) ∙ capture-value i h p (valueOf w i)
 
     -- a capture of that member is the same
     pub captured : captureOf q after ≡ captureOf q v

@@ -1,5 +1,4 @@
--- The walk of check_list, in which the parts that are left decide the cause of the whole list; and what holds of a list that is
--- accepted. Assumes nothing.
+-- The walk of check_list, in which the parts that are left decide the cause of the whole list. Assumes nothing.
 use mathlib.Core.Path.{_≡_, sym, _∙_}
 use mathlib.Core.Bool.{Bool, true, false}
 use mathlib.Core.List.{List}
@@ -27,7 +26,7 @@ use Rattle.parts.proofs.Walk.{parts-end, parts-cut}
 use Rattle.parts.proofs.Turns.{opened}
 use Rattle.rules.specs.declared.Cause.{Cause}
 use Rattle.rules.specs.declared.Cause.the-variants.{Cut}
-use Rattle.rules.specs.Rules.{known, knownOrSkipped, lengthRight, sizeRight, featuresSame, every, repeated, causeIn, isAccepted}
+use Rattle.rules.specs.Rules.{known, knownOrSkipped, lengthRight, sizeRight, featuresSame, every, repeated, causeIn}
 use Rattle.rules.specs.Ranks.{rankOf, absentRank, rowRank, least, causeAt}
 use Rattle.rules.proofs.Seen.{none, place, isSeen, withSeen, seenAgain, repeated-is}
 use Rattle.rules.proofs.Ranks.{least-assoc, rank-both, cause-least, cause-of-rank}
@@ -85,11 +84,8 @@ other-type : (q t s n : ℕ) → s ≡ selectorOf t n → placeOf q t s ≡ Abse
 unfolding table
 other-type q t s n e h =
     by-cases (eqb t deviceFeatures)
-    (λ y. never (rw (e, eqb-true t deviceFeatures y) at h))
+    (λ y. let z : At 0 ≡ Absent = rw (e, eqb-true t deviceFeatures y) at h in cc)
     (λ y. y)
-  where
-    never : At 0 ≡ Absent → eqb t deviceFeatures ≡ false
-    never z = cc
 
 -- ---- the walk: `r` is what next_part answered at `at`, `x` the cause of the whole list ----
 
@@ -127,17 +123,3 @@ module _ (form : ListForm) (l : List ℕ) (at : ℕ) (r : Step) (here : r ≡ st
           let m : k ≡ rowRank (rowAt i .size) (getD seen i false) t (take len (drop start l)) features
           = h ∙ rw (size-at i, add-sub-cancel-left start len) in
           e ∙ rw (at-part, cause-part, row-rank-is q t s f _ features seen i p, p, ← m, ← lesser)
-
--- ---- an accepted list ----
-
--- an accepted list has no queue size that no ring has
-pub accepted-sizes : (q : ℕ) (features : List ℕ) (ps : PartList) → isAccepted (causeIn q features ps) ≡ true → every (sizeRight q) ps ≡ true
-unfolding causeIn
-accepted-sizes q features ps =
-    unless-cases Says _ _ _ (λ t e. cc) λ t.
-    unless-cases Says _ _ _ (λ t e. cc) λ t.
-    unless-cases Says _ _ _ (λ t e. cc) λ t.
-    unless-cases Says _ _ _ (λ t e. cc) (λ t e. t)
-  where
-    Says : Cause → Type 0
-    Says c = isAccepted c ≡ true → every (sizeRight q) ps ≡ true
