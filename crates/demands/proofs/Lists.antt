@@ -11,7 +11,7 @@ use Rattle.protocol.specs.declared.ObjectKind.the-variants.{Get}
 use Rattle.protocol.specs.Opcodes.{bit}
 use Rattle.inventory.specs.Inventory.{partsSize}
 use Rattle.parts.specs.declared.ListForm.the-variants.{Parts}
-use Rattle.parts.specs.List.{partsOf}
+use Rattle.parts.specs.List.{partsOf, longestList}
 use Rattle.rules.specs.Rules.{causeOf, isAccepted}
 use Rattle.values.proofs.Kept.{applied-features}
 use Rattle.capture.specs.Capture.{captureOf}
@@ -85,7 +85,7 @@ module _ (c : List ℕ) (m j : ℕ) (x : Settable c m j) (full later : List ℕ)
   merged-values =
       rw (member-after c m j x merged merged-right, made-sets q full later v long pair) (sym (made-is q full later v long pair))
 
-  module _ (r : ℕ) (room : 8 ≤ r) (shortFull : length full ≤ 4064) (shortLater : length later ≤ 4064) where
+  module _ (r : ℕ) (room : 8 ≤ r) (shortFull : length full ≤ longestList) (shortLater : length later ≤ longestList) where
     full-set : setList c m j full r ≡ (once, headOf Done)
     full-set = set-is c m j x full (pair .fullAccepted) r room shortFull
 

@@ -18,6 +18,7 @@ use Rattle.difference.specs.Difference.{spanFrom, placeIn, hasRow, hasRows, ver
 use Rattle.difference.specs.Under.{lookupUnder, mergeUnder}
 use Rattle.salvage.specs.Salvage.{Salvage, salvage, isTaken, salvaged, salvageOf, salvageUnder}
 use Rattle.protocol.specs.declared.Answer.the-variants.{Done}
+use Rattle.parts.specs.List.{longestList}
 use Rattle.reply.specs.Reply.{headOf}
 use Rattle.demands.specs.RoundTrip.{capture}
 use Rattle.demands.specs.Lists.{Settable, Alike, SetAlike, mergedList, afterBoth, valueUnder, setList, salvagedList}
@@ -57,7 +58,7 @@ full = captureOf 1 (replicate 205 0)
 abbrev later : List ℕ
 later = 3 ∷ 1 ∷ 0 ∷ 0 ∷ 0 ∷ 0 ∷ 0 ∷ 0 ∷ 0 ∷ 0 ∷ 0 ∷ 0 ∷ 1 ∷ 0 ∷ 0 ∷ 0 ∷ 15 ∷ []
 
-full-short : length full ≤ 4064
+full-short : length full ≤ longestList
 full-short = omega (arith, capture-length 1 (replicate 205 0) (omega arith) refl)
 
 says-merged : mergeUnder says full later (replicate 229 0) .0 ≡ 0

@@ -15,7 +15,7 @@ use Rattle.protocol.specs.declared.ObjectKind.the-variants.{Get, Set}
 use Rattle.protocol.specs.declared.ReadOp.the-variants.{GetAll}
 use Rattle.protocol.specs.Opcodes.{bit}
 use Rattle.parts.specs.declared.ListForm.the-variants.{Parts}
-use Rattle.parts.specs.List.{partsOf}
+use Rattle.parts.specs.List.{partsOf, longestList}
 use Rattle.rules.specs.Rules.{causeOf, isAccepted}
 use Rattle.values.specs.Apply.{applied}
 use Rattle.capture.specs.Capture.{captureOf}
@@ -146,7 +146,7 @@ module _ (c : List ℕ) (m j : ℕ) (x : Settable c m j) where
     unfolding cardSet memberSet partsSetOf setPartsOf if_then_else_ unless_answer_then_
     set-done = rw (x .setInUse, lt-ltb j _ (valid c m settable j Set (x .setObject)), x .setObject, x .stopped, a)
 
-    pub set-is : (r : ℕ) → 8 ≤ r → length list ≤ 4064 → setList c m j list r ≡ (cardSet, headOf Done)
+    pub set-is : (r : ℕ) → 8 ≤ r → length list ≤ longestList → setList c m j list r ≡ (cardSet, headOf Done)
     set-is r h short =
         let k = small c m settable j (valid c m settable j Set (x .setObject)) in
         rw (respond-parts-set c m (x .sound) (x .here) (unmarked c m settable j Set (x .setObject)) r h j k list (omega arith)) (rw set-done)

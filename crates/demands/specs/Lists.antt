@@ -10,6 +10,7 @@ use Rattle.protocol.specs.declared.Mode.the-variants.{Stopped}
 use Rattle.protocol.specs.declared.ObjectKind.the-variants.{Get, Set}
 use Rattle.protocol.specs.Opcodes.{bit}
 use Rattle.inventory.specs.Inventory.{partsSize}
+use Rattle.parts.specs.List.{longestList}
 use Rattle.objects.specs.declared.Found.the-variants.{Live}
 use Rattle.member.specs.Objects.{lookupOf}
 use Rattle.setups.specs.declared.MemberSetup.{MemberSetup}
@@ -21,7 +22,7 @@ use Rattle.admin.specs.Command.{respond}
 use Rattle.host.specs.Request.{setParts}
 use Rattle.difference.specs.Difference.{valueAt, lookupTold}
 use Rattle.difference.specs.Under.{lookupUnder, mergeUnder}
-use Rattle.salvage.specs.Salvage.{Salvage, longestList, salvageUnder}
+use Rattle.salvage.specs.Salvage.{Salvage, salvageUnder}
 use Rattle.demands.specs.RoundTrip.{capture}
 
 -- Member m of a sound card is stopped and has a live set object j, and parts set, 0x10, is in use.

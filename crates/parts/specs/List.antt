@@ -89,3 +89,7 @@ unfoldable pub valueOr : ℕ → ℕ → PartList → List ℕ → List ℕ
 valueOr t s end y = y
 valueOr t s cut y = y
 valueOr t s (part p ps) y = if eqb (p .partType) t and eqb (p .selector) s then p .value else valueOr t s ps y
+
+-- the longest list of parts that a request gives: 4,096 bytes, less its frame and the object header
+abbrev pub longestList : ℕ
+longestList = 4064

@@ -11,6 +11,9 @@ use inventory::HEADER_SIZE;
 use inventory::LENGTH_AT;
 use inventory::SELECTOR_AT;
 
+// The longest list of parts that a request gives: 4,096 bytes, less its frame and the object header.
+pub const LONGEST_LIST: usize = 4064;
+
 // What a list holds: whole parts, or headers alone.
 pub enum ListForm {
     Parts,

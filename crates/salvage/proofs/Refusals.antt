@@ -10,7 +10,8 @@ use lib.ListN.{length}
 use Rattle.theory.specs.Logic.{within}
 use Rattle.theory.proofs.Tests.{both, within-high, and-bits}
 use Rattle.inventory.specs.Inventory.{featuresSize, partCount, partsSize}
-use Rattle.salvage.specs.Salvage.{longestList, isTaken}
+use Rattle.parts.specs.List.{longestList}
+use Rattle.salvage.specs.Salvage.{isTaken}
 use Rattle.salvage.specs.Walk.{Fits}
 
 -- the code's tests, joined by `&`

@@ -11,7 +11,7 @@ use Rattle.inventory.specs.Inventory.{rowAt, offsetOf, placeOf}
 use Rattle.inventory.specs.declared.Place.{Place}
 use Rattle.inventory.specs.declared.Place.the-variants.{At}
 use Rattle.inventory.proofs.Places.{row-in, row-room}
-use Rattle.salvage.specs.Salvage.{longestList}
+use Rattle.parts.specs.List.{longestList}
 use Rattle.salvage.specs.Walk.{state, counted, Sized, Countable}
 
 module _ (v k d : List ℕ) (h : Sized longestList (state v k d)) where

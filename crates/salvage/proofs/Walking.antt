@@ -12,11 +12,11 @@ use Rattle.theory.proofs.Bytes.{length-bytesAt}
 use Rattle.parts.specs.declared.ListForm.the-variants.{Parts}
 use Rattle.parts.specs.declared.Step.{Step}
 use Rattle.parts.specs.declared.Step.the-variants as step
-use Rattle.parts.specs.List.{stepAt, partWith, partIn, partsFrom, partsOf}
+use Rattle.parts.specs.List.{stepAt, partWith, partIn, partsFrom, partsOf, longestList}
 use Rattle.parts.proofs.Walk.{Within, step-part}
 use Rattle.parts.proofs.Turns.{stopped, opened}
 use Rattle.rules.specs.Rules.{featuresSame}
-use Rattle.salvage.specs.Salvage.{valueRight, bytesRead, longestList}
+use Rattle.salvage.specs.Salvage.{valueRight, bytesRead}
 use Rattle.salvage.specs.Walk.{State, taken, walked, Sized, Walked, Begins}
 use Rattle.salvage.proofs.Fates.{sized-more, taken-sized}
 

@@ -11,7 +11,7 @@ use Rattle.inventory.specs.Inventory.{rowAt, rowCount, featuresSize, present, p
 use Rattle.inventory.specs.Queue.{valueAllowed}
 use Rattle.inventory.specs.Header.{headerSize, headerOf}
 use Rattle.parts.specs.declared.ListForm.the-variants.{Parts}
-use Rattle.parts.specs.List.{Part, PartList, end, cut, part, partsOf}
+use Rattle.parts.specs.List.{Part, PartList, end, cut, part, partsOf, longestList}
 use Rattle.rules.specs.Rules.{known, lengthRight, featuresSame}
 use Rattle.member.specs.Member.{freshOf}
 use Rattle.setups.specs.declared.MemberSetup.{MemberSetup}
@@ -145,10 +145,6 @@ pub record Salvage : Type 0 where
 abbrev pub salvage : ℕ → List ℕ → List ℕ → List ℕ → ℕ → Salvage
 salvage written list kept dropped left =
     record { written = written; list = list; kept = kept; dropped = dropped; left = left }
-
--- the longest list that a request of 4,096 bytes can set
-abbrev pub longestList : ℕ
-longestList = 4064
 
 -- what is not refused: a queue count and features of a setup, a list that is not too long, and buffers with room for what is
 -- written, each by its length

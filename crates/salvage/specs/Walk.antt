@@ -11,8 +11,8 @@ use Rattle.theory.specs.Bytes.{put}
 use Rattle.theory.specs.Items.{itemsFrom}
 use Rattle.inventory.specs.Inventory.{featuresSize, rowAt, rowCount, present, offsetOf, valuesSize, partCount, partsSize, placeOf, onPlace}
 use Rattle.parts.specs.declared.ListForm.the-variants.{Parts}
-use Rattle.parts.specs.List.{Part, PartList, end, cut, part, partsOf}
-use Rattle.salvage.specs.Salvage.{valueRight, unknown, copy, wrongSize, wrongValue, bytesRead, longestList}
+use Rattle.parts.specs.List.{Part, PartList, end, cut, part, partsOf, longestList}
+use Rattle.salvage.specs.Salvage.{valueRight, unknown, copy, wrongSize, wrongValue, bytesRead}
 
 -- the values of all rows, for each row 1 if it is kept, and the parts dropped for each cause
 pub record State : Type 0 where

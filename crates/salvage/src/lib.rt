@@ -3,9 +3,9 @@ ghost use mathlib.Core.Path.{_≡_};
 ghost use Prim.Native.Nat.{_≤_};
 ghost use lib.ListN.{length};
 ghost use Rattle.theory.specs.Bytes.{put};
-ghost use Rattle.parts.specs.List.{partWith};
+ghost use Rattle.parts.specs.List.{partWith, longestList};
 ghost use Rattle.setups.specs.Member.{memberSetup};
-ghost use Rattle.salvage.specs.Salvage.{valueRight, longestList, salvage, salvaged, isTaken, salvageOf, salvageUnder};
+ghost use Rattle.salvage.specs.Salvage.{valueRight, salvage, salvaged, isTaken, salvageOf, salvageUnder};
 ghost use Rattle.salvage.specs.Walk.{counted, state, taken, Sized, Countable, Walked, Begins, flagsOf, KeptFits, Fits};
 use inventory::DEVICE_FEATURES;
 use inventory::Place;
@@ -14,11 +14,9 @@ use inventory::SELECTORS;
 use inventory::TYPES;
 use member::FEATURES_SIZE;
 use member::VALUES_SIZE;
+use parts::LONGEST_LIST;
 use parts::ListForm;
 use parts::Step;
-
-// The longest list that a request of 4,096 bytes can set.
-const LONGEST_LIST: usize = 4064;
 
 // The causes for which parts are dropped, by their place in the report.
 const UNKNOWN: usize = 0;

@@ -6,7 +6,7 @@ use lib.ListN.{length}
 use Rattle.theory.specs.Logic.{if_then_else_, _and_, indicator}
 use Rattle.inventory.specs.Inventory.{deviceFeatures, driverFeatures, pciCommon, deviceStatus, queue, queueNotify}
 use Rattle.parts.specs.declared.ListForm.the-variants.{Parts}
-use Rattle.parts.specs.List.{PartList, end, cut, part, partsOf}
+use Rattle.parts.specs.List.{PartList, end, cut, part, partsOf, longestList}
 use Rattle.rules.specs.declared.Cause.{Cause}
 use Rattle.rules.specs.declared.Cause.the-variants.{Accepted, Cut, Unknown, Length, Size, Features, Twice}
 use Rattle.rules.specs.Rules.{known, causeOf}
@@ -21,12 +21,12 @@ causeLine Size = 5
 causeLine Features = 6
 causeLine Twice = 7
 
--- or, where it is over 4,064 bytes, in a line of its own
+-- or, where it is over 4,064 bytes, the longest list of a request, in a line of its own
 abbrev pub longLine : ℕ
 longLine = 8
 
 abbrev pub longest : ℕ
-longest = 4064
+longest = longestList
 
 -- parts of this type that a member with so many queues has; skipped parts are not among them
 unfoldable pub partsOfType : ℕ → ℕ → PartList → ℕ

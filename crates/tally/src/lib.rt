@@ -16,7 +16,7 @@ use rules::Cause;
 pub const LINES: usize = 16;
 
 // A capture over this many bytes is long.
-pub const LONGEST: usize = 4064;
+pub const LONGEST: usize = parts::LONGEST_LIST;
 
 pub const READ: usize = 0;
 
