@@ -38,9 +38,9 @@ pub record Claims : Type 0 where
   -- a refusal writes nothing
   pub unwritten : (buffer : List ℕ) (members : ℕ) (queues : List ℕ) (gets sets : ℕ) (features b : List ℕ)
       → _≡_ {A = ℕ × List ℕ} (0, b) (written buffer members queues gets sets features) → b ≡ buffer
-  -- what the reader of version 1 takes the new one takes alike
+  -- what the reader of version 1 takes the reader of both takes alike
   pub alike : (l : List ℕ) → readVersion1 l .answer ≡ Done → readSetup l ≡ readVersion1 l
-  -- the new reader never refuses version 2 by name
+  -- the reader of both never refuses version 2 by name
   pub neverNamed : (l : List ℕ) → readSetup l .answer ≡ Version2 → ⊥
   pub inRange : (l : List ℕ) → readSetup l .answer ≡ Done → InRange (readSetup l .setup)
   pub memberInRange : (l : List ℕ) (m : ℕ) → memberSetup l m .known ≡ true → MemberInRange (memberSetup l m)

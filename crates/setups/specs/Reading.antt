@@ -97,10 +97,10 @@ takeVersion1 l = unless isVersion1 l answer refusedAs Refused then readAs (setup
 unfoldable pub takeVersion2 : List ℕ → ReadOutcome
 takeVersion2 l = unless isVersion2 (membersIn l) l answer refusedAs Refused then readAs (setupAt l 24 2)
 
--- the reader of version 1 refuses version 2 by name, before all else; no bytes have no version
+-- the reader of version 1, which refuses version 2 by name, before all else; no bytes have no version
 unfoldable pub readVersion1 : List ℕ → ReadOutcome
 readVersion1 l = if eqb (versionIn l) 2 then refusedAs Version2 else takeVersion1 l
 
--- the new reader reads both
+-- the reader of both versions
 unfoldable pub readSetup : List ℕ → ReadOutcome
 readSetup l = if eqb (versionIn l) 2 then takeVersion2 l else takeVersion1 l
