@@ -1,22 +1,20 @@
 -- What is read is a setup in range, or refused. Assumes nothing.
 use mathlib.Core.Path.{_≡_, refl, ap}
-use mathlib.Core.Bool.{Bool, true, false}
+use mathlib.Core.Bool.{true}
 use mathlib.Core.List.{List}
 use Prim.Native.Nat.{ℕ, zero, suc, _+_, _≤_}
 use native.Mathlib.Omega.{arith}
 use borrow.Author.Tests.{eq-eqb}
-use lib.Dec.{eqb}
 use lib.ListN.{length, replicate, take, length-drop}
 use lib.Seq.{take-at}
-use Rattle.theory.specs.Logic.{if_then_else_, unless_answer_then_}
-use Rattle.theory.proofs.Tests.{by-cases, both, and-i, inside}
+use Rattle.theory.proofs.Tests.{both, and-i, inside, if-cases, unless-cases}
 use Rattle.theory.proofs.Bytes.{put-front}
 use Rattle.setups.specs.declared.Setup.{Setup}
 use Rattle.setups.specs.declared.ReadOutcome.{ReadOutcome}
 use Rattle.setups.specs.declared.ReadAnswer.the-variants.{Refused}
 use Rattle.setups.specs.Bits.{bitsAt}
 use Rattle.setups.specs.Setup.{mostMembers, featuresSize, inRanges, all, isCount, inNumbers, noCounts, sixteen}
-use Rattle.setups.specs.Reading.{versionIn, membersIn, countsFrom, setupAt, headRight, isVersion1, isVersion2, readAs, refusedAs, takeVersion1, takeVersion2, readSetup}
+use Rattle.setups.specs.Reading.{membersIn, countsFrom, setupAt, headRight, isVersion1, isVersion2, readAs, refusedAs, takeVersion1, takeVersion2, readSetup}
 use Rattle.setups.specs.Claims.{InRange}
 use Rattle.setups.proofs.Fields.{bits-below}
 use Rattle.setups.proofs.Reading.{version-1-long, version-2-long}
@@ -59,14 +57,9 @@ version-2-in-range : (l : List ℕ) → isVersion2 (membersIn l) l ≡ true → 
 unfolding isVersion2
 version-2-in-range l t = setup-in-range l 24 2 (both _ _ (both _ _ (both _ _ t .0) .0) .1) (version-2-long l t)
 
-chosen : (P : ReadOutcome → Type 0) (t : Bool) (s : Setup) → P (refusedAs Refused) → (t ≡ true → P (readAs s))
-    → P (unless t answer refusedAs Refused then readAs s)
-unfolding unless_answer_then_
-chosen P true s x f = f refl
-chosen P false s x f = x
-
 pub read-cases : (P : ReadOutcome → Type 0) (l : List ℕ) → P (refusedAs Refused) → ((s : Setup) → InRange s → P (readAs s)) → P (readSetup l)
-unfolding readSetup takeVersion1 takeVersion2 if_then_else_
+unfolding readSetup takeVersion1 takeVersion2
 read-cases P l x f =
-    by-cases (eqb (versionIn l) 2) (λ e. rw e (chosen P _ _ x (λ t. f _ (version-2-in-range l t))))
-    (λ e. rw e (chosen P _ _ x (λ t. f _ (version-1-in-range l t))))
+    if-cases P _ _ _
+    (λ e. unless-cases P _ _ _ (λ t. x) (λ t. f _ (version-2-in-range l t)))
+    (λ e. unless-cases P _ _ _ (λ t. x) (λ t. f _ (version-1-in-range l t)))
