@@ -1,5 +1,6 @@
--- What a request asks: steps 2 to 7 of SPEC 6.1. Step 6 is gone, SPEC 13.2: no length of the data is refused. It depends on the
--- setup, the list in use and whether the member named is marked, and on nothing else of a member's record. Assumes nothing.
+-- What a request asks: steps 2 to 7 of SPEC 6.1, of which there is no step 6, since no length of the data is refused: SPEC 13.2.
+-- It depends on the setup, the list in use and whether the member named is marked, and on nothing else of a member's record.
+-- Assumes nothing.
 use mathlib.Core.Bool.{Bool, not}
 use mathlib.Core.List.{List}
 use Prim.Native.Nat.{ℕ}
