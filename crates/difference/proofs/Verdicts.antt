@@ -9,6 +9,7 @@ use lib.Dec.{leb}
 use lib.ListN.{length}
 use Rattle.theory.specs.Logic.{unless_answer_then_}
 use Rattle.theory.specs.Bytes.{bytesAt, put}
+use Rattle.theory.proofs.Tests.{unless-passed}
 use Rattle.inventory.specs.Inventory.{partsSize, selectorOf}
 use Rattle.parts.specs.declared.ListForm.the-variants.{Parts}
 use Rattle.parts.specs.List.{partsOf, among}
@@ -27,10 +28,8 @@ use Rattle.difference.proofs.Made.{pair-long}
 
 -- ---- nothing is refused ----
 
-step-passed : (t : Bool) (v rest : Verdict) → (codeOf v ≡ 0 → ⊥) → codeOf (unless t answer v then rest) ≡ 0 → (t ≡ true) × (codeOf rest ≡ 0)
-unfolding unless_answer_then_
-step-passed true v rest n e = (refl, e)
-step-passed false v rest n e = absurd (n e)
+abbrev NoRefusal : Verdict → Type 0
+NoRefusal v = codeOf v ≡ 0
 
 pub record Passes (q : ℕ) (features full later : List ℕ) (asked room : Bool) : Type 0 where
   pub pair : Pair q features full later
@@ -41,11 +40,11 @@ pub passes : (q : ℕ) (features full later : List ℕ) (asked room : Bool) → 
     → Passes q features full later asked room
 unfolding verdictOf
 passes q features full later asked room few e =
-    let a = step-passed (isAccepted (causeOf q features full)) _ _ (λ z. omega arith) e in
-    let b = step-passed (isAccepted (causeOf q features later)) _ _ (λ z. omega arith) (a .1) in
-    let c = step-passed (isFull q full) _ _ (λ z. omega arith) (b .1) in
-    let d = step-passed asked _ _ (λ z. omega arith) (c .1) in
-    let f = step-passed room _ _ (λ z. omega arith) (d .1) in
+    let a = unless-passed NoRefusal (isAccepted (causeOf q features full)) _ _ (λ z. omega arith) e in
+    let b = unless-passed NoRefusal (isAccepted (causeOf q features later)) _ _ (λ z. omega arith) (a .1) in
+    let c = unless-passed NoRefusal (isFull q full) _ _ (λ z. omega arith) (b .1) in
+    let d = unless-passed NoRefusal asked _ _ (λ z. omega arith) (c .1) in
+    let f = unless-passed NoRefusal room _ _ (λ z. omega arith) (d .1) in
     record { pair = record { few = few; fullAccepted = a .0; laterAccepted = b .0; lacksNone = c .0 }; inside = d .0; fits = f .0 }
 
 -- ---- a lookup in such a pair ----

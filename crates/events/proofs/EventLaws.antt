@@ -12,7 +12,7 @@ use lib.Dec.{eqb}
 use lib.ListN.{length, take, drop, replicate}
 use Rattle.theory.specs.Logic.{if_then_else_, unless_answer_then_, _and_}
 use Rattle.theory.specs.Bytes.{put}
-use Rattle.theory.proofs.Tests.{both, never}
+use Rattle.theory.proofs.Tests.{both, never, unless-passed}
 use Rattle.theory.proofs.Bytes.{put-all}
 use Rattle.theory.proofs.Ladder.{stop, pass}
 use Rattle.protocol.specs.declared.EventAnswer.{EventAnswer}
@@ -40,10 +40,9 @@ use Rattle.card.proofs.SoundLaws.{sound-of, sound-long, sound-has}
 
 -- two tests, of which the first that fails gives the answer
 both-passed : (s m : Bool) → isEventDone (unless s answer NotSound then unless m answer NoMember then Done) ≡ true → (s ≡ true) × (m ≡ true)
-unfolding unless_answer_then_
-both-passed true true e = (refl, refl)
-both-passed true false e = (refl, e)
-both-passed false m e = never e
+both-passed s m e =
+    let a = unless-passed (λ x. isEventDone x ≡ true) s _ _ never e in
+    (a .0, unless-passed (λ x. isEventDone x ≡ true) m _ _ never (a .1) .0)
 
 -- ---- what a test that held says ----
 

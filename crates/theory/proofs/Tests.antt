@@ -37,6 +37,13 @@ unfolding unless_answer_then_
 unless-cases P true a rest f g = g refl
 unless-cases P false a rest f g = f refl
 
+-- P holds of what a ladder gave, and not of a step's answer: that step was passed
+pub unless-passed {ℓ κ} : {A : Type κ} (P : A → Type ℓ) (v : Bool) (a rest : A)
+    → (P a → ⊥) → P (unless v answer a then rest) → (v ≡ true) × P rest
+unfolding unless_answer_then_
+unless-passed P true a rest n p = (refl, p)
+unless-passed P false a rest n p = absurd (n p)
+
 -- two choices that are the same
 pub if-same {ℓ} : {A : Type ℓ} (v : Bool) (x : A) → (if v then x else x) ≡ x
 unfolding if_then_else_
