@@ -4,13 +4,11 @@ use mathlib.Core.Bool.{Bool, true, false, not}
 use mathlib.Core.List.{List}
 use Prim.Native.Nat.{ℕ, _+_, _≤_}
 use native.Mathlib.Omega.{arith}
-use borrow.Author.Tests.{eqb-true, eqb-false, ltb-true, ltb-false}
-use lib.Dec.{eqb, ltb}
-use lib.ListN.{length, getD, set, length-set}
-use lib.Seq.{set-out, getD-set-same, getD-set-other}
+use lib.Dec.{eqb}
+use lib.ListN.{length, getD, length-set}
 use Rattle.theory.specs.Logic.{unless_answer_then_}
-use Rattle.theory.proofs.Tests.{by-cases}
 use Rattle.theory.proofs.Bytes.{length-put}
+use Rattle.theory.proofs.Lists.{set-cases}
 use Rattle.inventory.specs.Inventory.{rowAt, offsetOf, placeOf, onPlace}
 use Rattle.inventory.specs.declared.Place.{Place}
 use Rattle.inventory.specs.declared.Place.the-variants.{At, Absent}
@@ -56,17 +54,6 @@ module _ (q : ℕ) (p : Part) (s : State) where
 
 -- ---- how long what is lent stays ----
 
--- what is read where x was stored
-stored-cases : (P : ℕ → Type 0) (l : List ℕ) (i x j : ℕ) → P (getD l j 0) → (j ≡ i → P x) → P (getD (set l i x) j 0)
-stored-cases P l i x j h f =
-    by-cases (eqb j i)
-    (λ e.
-    let same : j ≡ i = eqb-true j i e in
-    by-cases (ltb i (length l))
-    (λ b. rw (same, getD-set-same l i x 0 (ltb-true i (length l) b)) (f same))
-    (λ b. rw (set-out l i x (ltb-false i (length l) b)) h))
-    (λ e. rw (getD-set-other l i j x 0 (eqb-false j i e)) h)
-
 pub sized-more : (n m : ℕ) (s : State) → Sized n s → n ≤ m → Sized m s
 sized-more n m s h l =
     record { values = h .values; kept = h .kept; dropped = h .dropped; flags = h .flags; counts = λ j. omega (arith, h .counts j) }
@@ -80,7 +67,7 @@ taken-sized q n features p s h = rw (taken-fate q p s features) (cases (fateOf q
           values = length-put (offsetOf i) (p .value) (s .values) ∙ h .values;
           kept = length-set (s .kept) i 1 ∙ h .kept;
           dropped = h .dropped;
-          flags = λ j. stored-cases (λ x. x ≤ 1) (s .kept) i 1 j (h .flags j) (λ e. omega arith);
+          flags = λ j. set-cases (λ x. x ≤ 1) (s .kept) i 1 j (h .flags j) (λ e. omega arith);
           counts = λ j. omega (arith, h .counts j);
         }
     keeps Absent = sized-more n (n + 1) s h (omega arith)
@@ -94,5 +81,5 @@ taken-sized q n features p s h = rw (taken-fate q p s features) (cases (fateOf q
           flags = h .flags;
           dropped = length-set (s .dropped) cause (getD (s .dropped) cause 0 + 1) ∙ h .dropped;
           counts = λ j.
-              stored-cases (λ x. x ≤ n + 1) (s .dropped) cause _ j (omega (arith, h .counts j)) (λ e. omega (arith, h .counts cause));
+              set-cases (λ x. x ≤ n + 1) (s .dropped) cause _ j (omega (arith, h .counts j)) (λ e. omega (arith, h .counts cause));
         }

@@ -3,7 +3,11 @@ use mathlib.Core.Path.{_≡_, refl}
 use mathlib.Core.List.{List, [], _∷_}
 use Prim.Native.Nat.{ℕ, zero, suc}
 use native.Mathlib.Omega.{arith}
-use lib.ListN.{length, getD, replicate}
+use borrow.Author.Tests.{eqb-true, eqb-false, ltb-true, ltb-false}
+use lib.Dec.{eqb, ltb}
+use lib.ListN.{length, getD, set, replicate}
+use lib.Seq.{set-out, getD-set-same, getD-set-other}
+use Rattle.theory.proofs.Tests.{by-cases}
 
 module _ {A : Type 0} where
   -- a list of no elements
@@ -16,3 +20,14 @@ module _ {A : Type 0} where
   getD-same zero i a = refl
   getD-same (suc n) zero a = refl
   getD-same (suc n) (suc i) a = getD-same n i a
+
+-- what is read at j, after x is stored at i
+pub set-cases : (P : ℕ → Type 0) (l : List ℕ) (i x j : ℕ) → P (getD l j 0) → (j ≡ i → P x) → P (getD (set l i x) j 0)
+set-cases P l i x j h f =
+    by-cases (eqb j i)
+    (λ e.
+    let same : j ≡ i = eqb-true j i e in
+    by-cases (ltb i (length l))
+    (λ b. rw (same, getD-set-same l i x 0 (ltb-true i (length l) b)) (f same))
+    (λ b. rw (set-out l i x (ltb-false i (length l) b)) h))
+    (λ e. rw (getD-set-other l i j x 0 (eqb-false j i e)) h)
