@@ -5,7 +5,7 @@ use mathlib.Core.List.{List}
 use Prim.Native.Nat.{ℕ, _-_}
 use native.Mathlib.Omega.{arith}
 use lib.ListN.{getD}
-use Rattle.theory.proofs.Tests.{unless-cases, within-low, within-high}
+use Rattle.theory.proofs.Tests.{unless-cases, within-low, within-high, never}
 use Rattle.protocol.specs.declared.EventAnswer.{EventAnswer}
 use Rattle.protocol.specs.declared.EventAnswer.the-variants as event
 use Rattle.protocol.specs.Answers.{eventNumber, isEventDone}
@@ -23,7 +23,6 @@ use Rattle.events.specs.Events.{handBack as handBackOf, wipe as wipeOf, resetCa
 use Rattle.events.proofs.Cases.{on-member-cases}
 use Rattle.demands.specs.Calls.{answered, refused, step}
 use Rattle.demands.specs.Holding.{HoldingEnded}
-use Rattle.demands.proofs.Named.{never}
 use Rattle.demands.proofs.Between.{back-member}
 
 -- what an event that is not refused leaves of member m

@@ -7,7 +7,7 @@ use Prim.Native.Nat.{ℕ, _≤_}
 use native.Mathlib.Omega.{arith}
 use borrow.Author.Tests.{eq-eqb}
 use Rattle.theory.specs.Logic.{if_then_else_, unless_answer_then_, _and_, _or_, within}
-use Rattle.theory.proofs.Tests.{both, unless-cases, or-true}
+use Rattle.theory.proofs.Tests.{both, unless-cases, or-true, never}
 use Rattle.wire.specs.Le.{le, bytes, number}
 use Rattle.protocol.specs.declared.Answer.the-variants.{Done, BadLength, BadGroup, BadOpcode}
 use Rattle.protocol.specs.Opcodes.{opcodeRows, opcodeRow, supported, bit, namesMember, supportedOnly}
@@ -31,7 +31,6 @@ use Rattle.host.proofs.Request.{length-request, opcode-request, group-request, 
 use Rattle.message.proofs.Cases.{card-cases}
 use Rattle.demands.specs.Calls.{Call, command, handBack, wipe, cardReset, cardStore, restoreBegin, restoreFeed, restoreFinish, restoreDrop, message, written, refused, step, names}
 use Rattle.demands.specs.Lengths.{NothingInUse}
-use Rattle.demands.proofs.Named.{never}
 use Rattle.demands.proofs.Refusals.{respond-keeps}
 use Rattle.demands.proofs.Integrity.{integrity}
 

@@ -1,29 +1,24 @@
 -- Step 7 of the status table: at each opcode the tests of the fields, one by one, are the decoder's test of all. Assumes
 -- nothing.
-use mathlib.Core.Path.{_≡_, refl}
-use mathlib.Core.Bool.{Bool, true, false, not}
+use mathlib.Core.Path.{_≡_}
+use mathlib.Core.Bool.{true, false, not}
 use mathlib.Core.List.{List}
 use Prim.Native.Nat.{ℕ}
 use lib.Dec.{leb}
 use lib.ListN.{length, getD}
 use Rattle.theory.specs.Logic.{_and_, _or_, within}
-use Rattle.theory.proofs.Tests.{true-and, and-true, false-and, and-false, true-or, false-or, or-false}
+use Rattle.theory.proofs.Tests.{true-and, and-true, false-and, and-false, true-or, false-or, or-false, not-and}
 use Rattle.wire.specs.Le.{le}
 use Rattle.protocol.specs.Opcodes.{supportedOnly}
 use Rattle.frame.specs.Fields.{objectValid, flagsValid, kindValid}
 use Rattle.demands.specs.Statuses.{namesObject, hasFlags, hasKind, typeByte, badField}
-
-nor-is : (a b : Bool) → not a or not b ≡ not (a and b)
-unfolding _and_ _or_
-nor-is true b = refl
-nor-is false b = refl
 
 -- at an opcode that is a numeral the tests of other commands go
 unfoldable fields : Unit {0}
 unfolding badField namesObject hasFlags hasKind within kindValid objectValid flagsValid
 fields = tt
 
-ruleset tested = (nor-is, true-and, and-true, false-and, and-false, true-or, false-or, or-false)
+ruleset tested = (not-and, true-and, and-true, false-and, and-false, true-or, false-or, or-false)
 
 module _ (ids : ℕ) (d : List ℕ) where
   pub bad-use : badField ids 0x01 d ≡ not (supportedOnly (le d))

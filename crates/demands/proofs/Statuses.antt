@@ -6,7 +6,7 @@ use Prim.Native.Nat.{ℕ, _+_}
 use lib.Dec.{eqb}
 use lib.ListN.{length, take, replicate, length-append}
 use Rattle.theory.specs.Logic.{if_then_else_, unless_answer_then_, _and_, _or_, within}
-use Rattle.theory.proofs.Tests.{by-cases, both}
+use Rattle.theory.proofs.Tests.{by-cases, both, or-comm, not-and}
 use Rattle.wire.specs.Le.{bytes}
 use Rattle.protocol.specs.declared.Answer.{Answer}
 use Rattle.protocol.specs.Opcodes.{supported, bit, namesMember}
@@ -32,11 +32,7 @@ reaches-is false w = refl
 
 -- and the mark
 attended-is : (n w : Bool) → not w or not n ≡ not (n and w)
-unfolding _and_ _or_
-attended-is true true = refl
-attended-is true false = refl
-attended-is false true = refl
-attended-is false false = refl
+attended-is n w = or-comm (not w) (not n) ∙ not-and n w
 
 agree : (c r : List ℕ) (room : ℕ) → Sound c → ends room (perform c r (askIn c r)) ≡ says (rows c r room) (resultSize c r (opcodeOf r))
 unfolding askIn askOf framedOf usable reaches attended perform finalOf firstOf rowsAt if_then_else_ unless_answer_then_

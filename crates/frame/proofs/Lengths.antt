@@ -14,7 +14,7 @@ use Rattle.theory.specs.Logic.{if_then_else_, unless_answer_then_, _and_}
 use Rattle.theory.specs.Bytes.{put}
 use Rattle.theory.proofs.Tests.{by-cases, inside, tests}
 use Rattle.theory.proofs.Bytes.{put-nil, length-bytesAt}
-use Rattle.theory.proofs.Lists.{getD-same}
+use Rattle.theory.proofs.Lists.{getD-same, take-replicate}
 use Rattle.wire.proofs.Le.{le-alike, number-alike}
 use Rattle.wire.specs.Le.{le, number}
 use Rattle.protocol.specs.Opcodes.{opcodeRows, opcodeRow, supported, fixedSize, longestFixed}
@@ -163,14 +163,9 @@ module _ (r x : List ℕ) (long : dataAt ≤ length r) where
 -- ---- what the code reads ----
 
 -- short data over zeros, cut to n bytes
-zeros-cut : (n k : ℕ) → n ≤ k → take {A = ℕ} n (replicate k 0) ≡ replicate n 0
-zeros-cut zero k h = refl
-zeros-cut (suc n) zero h = absurd (omega arith)
-zeros-cut (suc n) (suc k) h = ap (0 ∷_) (zeros-cut n k (omega arith))
-
 padded-cut : (d : List ℕ) (n k : ℕ) → length d ≤ n → n ≤ k → take n (put 0 d (replicate k 0)) ≡ d ++ replicate (n - length d) 0
 unfolding put
-padded-cut [] n k h l = rw (put-nil, sub-zero) (zeros-cut n k l)
+padded-cut [] n k h l = rw (put-nil, sub-zero) (take-replicate n k 0 l)
 padded-cut (b ∷ d) zero k h l = absurd (omega arith)
 padded-cut (b ∷ d) (suc n) zero h l = absurd (omega arith)
 padded-cut (b ∷ d) (suc n) (suc k) h l =

@@ -1,19 +1,19 @@
 -- Counting the bytes of a list, and whether each is at most a number: one byte changed, and what a loop has counted
 -- so far. Assumes nothing.
 use mathlib.Core.Path.{_≡_, refl, ap, sym, _∙_}
-use mathlib.Core.Bool.{Bool, true, false}
+use mathlib.Core.Bool.{Bool, true}
 use mathlib.Core.List.{List, [], _∷_, _++_, map}
 use Prim.Native.Nat.{ℕ, zero, suc, _+_, _-_, _/_, _%_, _≤_, _<_}
 use native.Mathlib.Omega.{arith}
 use lib.Dec.{leb, ltb, eqb}
 use native.Mathlib.Numerals.{add-one}
-use native.Mathlib.Nat.{zero-add, suc-add}
 use lib.ListN.{length, getD, take, drop-of-length-le, drop, set, replicate, length-append, length-replicate}
 use lib.Seq.{drop-cons, drop-set-lt, drop-set-add, drop-append-le, take-append-add}
 use borrow.Author.Tests.{leb-true, le-leb, ne-eqb}
 use Rattle.theory.specs.Logic.{_and_, indicator}
 use Rattle.theory.specs.Bytes.{bytesAt}
 use Rattle.theory.proofs.Tests.{by-cases, both, and-i, and-true, true-and, and-false, false-and, and-assoc, indicator-false, indicator-le, tests}
+use Rattle.theory.proofs.Lists.{take-replicate, drop-replicate}
 use Rattle.objects.specs.Objects.{objectsSize, count, allUpTo, allWithin, mostOf, withinLimits}
 
 pub map-set : {A B : Type 0} (f : A → B) (l : List A) (i : ℕ) (x : A) → map f (set l i x) ≡ set (map f l) i (f x)
@@ -158,19 +158,11 @@ module _ (ids : ℕ) (most : List ℕ) (h : ids ≤ objectsSize) (e : most ≡ m
   both-tests bs n = rw e (within-most ids (objectsSize - ids) bs (omega arith))
 
 -- a window of the table is that for so many ids
-drop-replicate : (k n x : ℕ) → drop k (replicate (k + n) x) ≡ replicate n x
-drop-replicate zero n x = rw zero-add
-drop-replicate (suc k) n x = rw suc-add (drop-replicate k n x)
-
-take-replicate : (k n x : ℕ) → take k (replicate (k + n) x) ≡ replicate k x
-take-replicate zero n x = refl
-take-replicate (suc k) n x = rw suc-add (ap (x ∷_) (take-replicate k n x))
-
 window : (k ids x y : ℕ) → take (ids + k) (drop k (replicate (k + ids) x ++ replicate (k + ids) y)) ≡ replicate ids x ++ replicate k y
 window k ids x y =
     let l : k ≤ length (replicate (k + ids) x) = rw length-replicate (omega arith) in
     let t = take-append-add (replicate ids x) (replicate (k + ids) y) k in
-    rw (drop-append-le k (replicate (k + ids) x) (replicate (k + ids) y) l, drop-replicate) (rw (length-replicate, take-replicate) at t)
+    rw (drop-append-le k (replicate (k + ids) x) (replicate (k + ids) y) l, drop-replicate) (rw (length-replicate, take-replicate k (k + ids) y (omega arith)) at t)
 
 pub most-window : (ids at : ℕ) → ids ≤ objectsSize → at ≡ objectsSize - ids
     → bytesAt at objectsSize (replicate objectsSize 2 ++ replicate objectsSize 0) ≡ mostOf ids
