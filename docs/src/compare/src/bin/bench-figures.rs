@@ -18,8 +18,9 @@ bench-figures PROGRAM PLAIN
 
 /// A stream has at least so many bytes.
 const BYTES: u64 = 1_000_000_000;
-/// Equal seeds make equal streams; this one has four queues.
+/// Equal seeds make equal streams.
 const SEED: u64 = 13;
+const QUEUES: u8 = 4;
 const TURNS: usize = 7;
 /// How much is read at once where nothing is counted.
 const CHUNK: usize = 65_536;
@@ -47,7 +48,7 @@ fn run(programs: [&Path; 2]) -> io::Result<()> {
         ("of every kind", Stream::next_capture),
     ] {
         let (bytes, captures) = make(&file.0, next)?;
-        println!("{captures} captures {name}, four queues, {} MB", bytes / 1_000_000);
+        println!("{captures} captures {name}, {QUEUES} queues, {} MB", bytes / 1_000_000);
         print_times(bytes, &times(programs, &file.0)?);
     }
     Ok(())
@@ -55,7 +56,7 @@ fn run(programs: [&Path; 2]) -> io::Result<()> {
 
 /// Makes a stream. Tells its bytes and captures.
 fn make(path: &Path, next: fn(&mut Stream) -> Vec<u8>) -> io::Result<(u64, u64)> {
-    let (mut stream, setup) = Stream::new(SEED);
+    let (mut stream, setup) = Stream::with_queues(SEED, QUEUES);
     let mut out = BufWriter::with_capacity(1 << 20, File::create(path)?);
     out.write_all(&setup)?;
     let (mut bytes, mut captures) = (setup.len() as u64, 0);

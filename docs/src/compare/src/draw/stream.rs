@@ -33,8 +33,17 @@ impl Stream {
     /// A stream under a seed, and the bytes of its setup.
     pub fn new(seed: u64) -> (Stream, Vec<u8>) {
         let mut random = Random::new(seed, 0);
-        let [members, gets, sets] = setup_numbers(&mut random);
         let queues = 1 + random.below(4) as u8;
+        Stream::draw(random, queues)
+    }
+
+    /// The same with this queue count.
+    pub fn with_queues(seed: u64, queues: u8) -> (Stream, Vec<u8>) {
+        Stream::draw(Random::new(seed, 0), queues)
+    }
+
+    fn draw(mut random: Random, queues: u8) -> (Stream, Vec<u8>) {
+        let [members, gets, sets] = setup_numbers(&mut random);
         let features = std::array::from_fn(|_| random.byte());
         let setup = Setup::alike(members, queues, gets, sets, features).expect("it is in range");
         let card = card(&mut random, &setup);
