@@ -1,5 +1,5 @@
 -- The place of a part, of the member's own inventory: specs/Places.antt. What is said of all rows or all parts is one test
--- that antt computes for each number of queues. Assumes nothing.
+-- that antt computes for each queue count. Assumes nothing.
 use mathlib.Core.Path.{_≡_, refl, ap, sym, _∙_}
 use mathlib.Core.Bool.{Bool, true, not}
 use Prim.Native.Nat.{ℕ, _*_, _≤_, _<_}

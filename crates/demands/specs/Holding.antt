@@ -11,7 +11,7 @@ pub record SameHolding (c d : List ℕ) (m : ℕ) : Type 0 where
   pub held : memberIn d m .held ≡ memberIn c m .held
   pub bytes : holdingIn d m ≡ holdingIn c m
 
--- No command and no card store touches a holding place, whomever it is for: the four calls and both resets alone do.
+-- No command and no card store touches a holding place, whomever it is for: the four calls, hand back and the resets alone do.
 -- Example: member-begun in ../proofs/RestoreExample.antt
 pub record HoldingKept : Type 0 where
   pub commands : (c : List ℕ) (m : ℕ) → isMember c m ≡ true → (r : List ℕ) (room : ℕ) → SameHolding c (step c (command r room) .0) m

@@ -41,6 +41,6 @@ pub record PlaceFound (queues : ℕ) : Type 0 where
   pub absent : (t s p : ℕ) → p < partCount queues → placeOf queues t s ≡ Absent → Has queues t s p → ⊥
   pub lacking : (t s : ℕ) → ((p : ℕ) → p < partCount queues → Has queues t s p → ⊥) → placeOf queues t s ≡ Absent
 
--- whatever the number of queues
+-- whatever the queue count
 abbrev pub PlacesFound : Type 0
 PlacesFound = (queues : ℕ) → 1 ≤ queues → queues ≤ 4 → PlaceFound queues

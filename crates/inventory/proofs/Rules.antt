@@ -28,7 +28,7 @@ pub every-row : (f : ℕ → Row → Bool) → every f 0 rows ≡ true → (i : 
 unfolding rowAt
 every-row f t i h = at f (row 0 0 0) rows t i (rw row-count h)
 
--- and of each number of queues
+-- and of each queue count
 abbrev counts : List ℕ
 counts = 0 ∷ 1 ∷ 2 ∷ 3 ∷ 4 ∷ []
 

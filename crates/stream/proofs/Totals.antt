@@ -32,7 +32,7 @@ module _ (q : ℕ) (features : List ℕ) where
   unfolding totals total addsIn
   totals-capture c cs = rows-sum _ _ rows
 
-  -- no number of queues matters to a long one
+  -- no queue count matters to a long one
   long-adds : addsIn q longLine [] ≡ addsLong
   unfolding addsIn rows if_then_else_
   long-adds = refl

@@ -35,7 +35,7 @@ partsOfType queues t cut = 0
 partsOfType queues t (part p ps) =
     indicator (eqb (p .partType) t and known queues (p .partType) (p .selector)) + partsOfType queues t ps
 
--- a line: its name, and what a capture that is counted in the line k adds to its number, by the number of queues
+-- a line: its name, and what a capture that is counted in the line k adds to its number, by the queue count
 pub record Row : Type 0 where
   pub name : List ℕ
   pub adds : ℕ → ℕ → List ℕ → ℕ
@@ -88,6 +88,6 @@ addsIn queues k c = map (λ (r : Row). r .adds queues k c) rows
 abbrev pub addsOf : ℕ → List ℕ → List ℕ → List ℕ
 addsOf queues features c = addsIn queues (causeLine (causeOf queues features c)) c
 
--- a long one is not looked into, so the number of queues does not matter
+-- a long one is not looked into, so the queue count does not matter
 abbrev pub addsLong : List ℕ
 addsLong = addsIn 0 longLine []
