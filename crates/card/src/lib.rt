@@ -1,19 +1,17 @@
 // The card as lent bytes: its layout, SPEC 2.7, and soundness, SPEC 2.4.
+mod sound;
+
 ghost use mathlib.Core.Path.{_≡_};
-ghost use mathlib.Core.Bool.{true};
 ghost use Prim.Native.Nat.{_+_, _^_, _≤_, _<_};
-ghost use lib.Dec.{eqb};
 ghost use lib.ListN.{length};
-ghost use Rattle.theory.specs.Bytes.{bytesAt, put};
-ghost use Rattle.protocol.specs.Opcodes.{supportedOnly};
-ghost use Rattle.member.specs.Record.{memberSize, holdingSize};
+ghost use Rattle.theory.specs.Bytes.{put};
+ghost use Rattle.member.specs.Record.{holdingSize};
 ghost use Rattle.card.specs.Layout.{cardHeaderSize, cardSize, cardBytes, setupOf, inUseOf, withInUse, isMember, recordAt, HasRecord, memberBytesIn, memberIn, withMember, isMarked, configurationSize, configurationIn, generationIn, withConfiguration, noConfiguration, holdingIn, withHolding, noBytes, withRecord, withFresh};
-ghost use Rattle.card.specs.Sound.{soundSetup, IsMost, soundFor, soundUpTo, isSound};
+ghost use Rattle.card.specs.Sound.{isSound};
 use member::FEATURES_SIZE;
 use member::HOLDING_SIZE;
 use member::MEMBER_SIZE;
 use member::Member;
-use objects::IDS;
 
 // A card's setup, from its header; the queue counts stand in the members' records.
 pub struct Setup {
@@ -249,88 +247,18 @@ pub fn zero_holding(card: &mut [u8], m: u64)
 
 // ---- soundness ----
 
-fn is_setup_sound(card: &[u8]) -> bool
-    requires { ⌜ cardHeaderSize ≤ length (now card) ⌝ }
-    ensures { λ r. ⌜ r ≡ soundSetup (setupOf (now (card .entry))) ⌝ }
-{
-    setups::in_ranges(
-        wide(card[MEMBERS_AT]),
-        wide(card[GETS_AT]),
-        wide(card[SETS_AT]),
-    )
-}
-
-// Whether the member whose bytes stand at a place is sound. Most holds what each object byte may be at most.
-fn is_sound_at(card: &[u8], at: usize, most: &[u8]) -> bool
-    requires { ⌜ (cardHeaderSize ≤ length (now card)) × (at + memberSize ≤ length (now card)) × IsMost (setupOf (now card)) (now most) ⌝ }
-    ensures { λ r. ⌜ r ≡ soundFor (setupOf (now (card .entry))) (bytesAt at memberSize (now (card .entry))) ⌝ }
-{
-    member::is_sound_record(
-        &card[at..at + MEMBER_SIZE],
-        card[GETS_AT],
-        card[SETS_AT],
-        most,
-        &card[FEATURES_AT..IN_USE_AT],
-    )
-}
-
-// One pass over the members, the last one first: it steps from record to record, which is cheaper than to work out the
-// place of each.
-fn is_each_sound(card: &[u8], most: &[u8]) -> bool
-    requires { ⌜ (length (now card) ≡ cardSize (setupOf (now card) .members)) × IsMost (setupOf (now card)) (now most) ⌝ }
-    ensures { λ r. ⌜ r ≡ soundUpTo (setupOf (now (card .entry))) (now (card .entry)) (setupOf (now (card .entry)) .members) ⌝ }
-{
-    let mut m = wide(card[MEMBERS_AT]);
-    let mut at = card.len();
-    while 0 < m {
-        at -= RECORD_SIZE;
-        if !is_sound_at(card, at, most) {
-            return false;
-        }
-        m -= 1;
-    }
-    true
-}
-
-// What each object byte may be at most is the same for all members.
-fn are_members_sound(card: &[u8]) -> bool
-    requires { ⌜ (length (now card) ≡ cardSize (setupOf (now card) .members)) × (soundSetup (setupOf (now card)) ≡ true) ⌝ }
-    ensures { λ r. ⌜ r ≡ soundUpTo (setupOf (now (card .entry))) (now (card .entry)) (setupOf (now (card .entry)) .members) ⌝ }
-{
-    let table = objects::MOST;
-    let ids = wide(card[GETS_AT]) + wide(card[SETS_AT]);
-    let other = IDS - ids as usize;
-    is_each_sound(card, &table[other..other + IDS])
-}
-
-fn is_length_right(card: &[u8]) -> bool
-    ensures { λ r. ⌜ r ≡ eqb (length (now (card .entry))) (cardSize (setupOf (now (card .entry)) .members)) ⌝ }
-{
-    if card.len() < CARD_HEADER_SIZE {
-        return false;
-    }
-    card.len() == CARD_HEADER_SIZE + RECORD_SIZE * (wide(card[MEMBERS_AT]) as usize)
-}
-
-fn is_use_supported(card: &[u8]) -> bool
-    requires { ⌜ cardHeaderSize ≤ length (now card) ⌝ }
-    ensures { λ r. ⌜ r ≡ supportedOnly (inUseOf (now (card .entry))) ⌝ }
-{
-    protocol::supported_only(in_use(card))
-}
-
 // Whether the card is sound: tried at each command, the cheap tests first.
 pub fn is_sound(card: &[u8]) -> bool
     ensures { λ r. ⌜ r ≡ isSound (now (card .entry)) ⌝ }
 {
-    if !is_length_right(card) {
+    if !sound::is_length_right(card) {
         return false;
     }
-    if !is_setup_sound(card) {
+    if !sound::is_setup_sound(card) {
         return false;
     }
-    if !is_use_supported(card) {
+    if !sound::is_use_supported(card) {
         return false;
     }
-    are_members_sound(card)
+    sound::are_members_sound(card)
 }

@@ -1,8 +1,8 @@
--- `card::is_each_sound` meets its contract. The invariant: what is left of the members decides. Assumes nothing.
+-- `card::sound::is_each_sound` meets its contract. The invariant: what is left of the members decides. Assumes nothing.
 use borrow.Author.Needs.{needs}
 use Rattle.card.proofs.ReadLaws.{Checked, checked-start, step-back, step-head, step-fits, checked-stop, checked-on, checked-end}
-use Rattle.card.proofs.is_each_sound.Statement.{statement}
-use Rattle.card.proofs.is_each_sound.Tie as tie
+use Rattle.card.proofs.sound.is_each_sound.Statement.{statement}
+use Rattle.card.proofs.sound.is_each_sound.Tie as tie
 
 abbrev Inv-loop : tie.InvT-loop
 Inv-loop card most m₀ at₀ m at = Checked card m at

@@ -1,9 +1,9 @@
--- `card::are_members_sound` meets its contract. Assumes nothing.
+-- `card::sound::are_members_sound` meets its contract. Assumes nothing.
 use mathlib.Core.Path.{refl}
 use borrow.Author.Needs.{needs}
 use Rattle.card.proofs.ReadLaws.{few-ids, window-most}
-use Rattle.card.proofs.are_members_sound.Statement.{statement}
-use Rattle.card.proofs.are_members_sound.Tie as tie
+use Rattle.card.proofs.sound.are_members_sound.Statement.{statement}
+use Rattle.card.proofs.sound.are_members_sound.Tie as tie
 
 is-each-sound-requires : tie.Need-is-each-sound-requires
 is-each-sound-requires c κs =

@@ -1,8 +1,8 @@
--- `card::is_setup_sound` meets its contract: the three numbers are the first three bytes. Assumes nothing.
+-- `card::sound::is_setup_sound` meets its contract: the three numbers are the first three bytes. Assumes nothing.
 use borrow.Author.Needs.{needs}
 use Rattle.card.proofs.ReadLaws.{numbers-tested}
-use Rattle.card.proofs.is_setup_sound.Statement.{statement}
-use Rattle.card.proofs.is_setup_sound.Tie as tie
+use Rattle.card.proofs.sound.is_setup_sound.Statement.{statement}
+use Rattle.card.proofs.sound.is_setup_sound.Tie as tie
 
 pub is-setup-sound-spec : {M : Type 1} → statement M
 is-setup-sound-spec =

@@ -1,8 +1,8 @@
--- `card::is_sound_at` meets its contract: what is lent is the record and the features. Assumes nothing.
+-- `card::sound::is_sound_at` meets its contract: what is lent is the record and the features. Assumes nothing.
 use borrow.Author.Needs.{needs}
 use Rattle.card.proofs.ReadLaws.{place-long, place-ids, place-most, place-tested}
-use Rattle.card.proofs.is_sound_at.Statement.{statement}
-use Rattle.card.proofs.is_sound_at.Tie as tie
+use Rattle.card.proofs.sound.is_sound_at.Statement.{statement}
+use Rattle.card.proofs.sound.is_sound_at.Tie as tie
 
 pub is-sound-at-spec : {M : Type 1} → statement M
 is-sound-at-spec =
