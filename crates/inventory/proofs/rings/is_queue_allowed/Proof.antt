@@ -1,8 +1,8 @@
--- `inventory::is_queue_allowed` meets its contract. Assumes nothing.
+-- `inventory::rings::is_queue_allowed` meets its contract. Assumes nothing.
 use borrow.Author.Needs.{needs}
 use Rattle.inventory.proofs.Queue.{queue-read}
-use Rattle.inventory.proofs.is_queue_allowed.Statement.{statement}
-use Rattle.inventory.proofs.is_queue_allowed.Tie as tie
+use Rattle.inventory.proofs.rings.is_queue_allowed.Statement.{statement}
+use Rattle.inventory.proofs.rings.is_queue_allowed.Tie as tie
 
 pub is-queue-allowed-spec : {M : Type 1} → statement M
 is-queue-allowed-spec =

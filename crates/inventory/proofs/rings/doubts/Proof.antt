@@ -1,8 +1,8 @@
--- `inventory::doubts` meets its contract. Assumes nothing.
+-- `inventory::rings::doubts` meets its contract. Assumes nothing.
 use borrow.Author.Needs.{needs}
 use Rattle.inventory.proofs.Plain.{plain-read}
-use Rattle.inventory.proofs.doubts.Statement.{statement}
-use Rattle.inventory.proofs.doubts.Tie as tie
+use Rattle.inventory.proofs.rings.doubts.Statement.{statement}
+use Rattle.inventory.proofs.rings.doubts.Tie as tie
 
 pub doubts-spec : {M : Type 1} → statement M
 doubts-spec =

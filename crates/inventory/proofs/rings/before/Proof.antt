@@ -1,9 +1,9 @@
--- `inventory::before` meets its contract. Assumes nothing.
+-- `inventory::rings::before` meets its contract. Assumes nothing.
 use borrow.Author.Needs.{needs}
 use Rattle.theory.proofs.Ladder.{ladder}
 use Rattle.inventory.specs.Worked.{numberBefore}
-use Rattle.inventory.proofs.before.Statement.{statement}
-use Rattle.inventory.proofs.before.Tie as tie
+use Rattle.inventory.proofs.rings.before.Statement.{statement}
+use Rattle.inventory.proofs.rings.before.Tie as tie
 
 pub before-spec : {M : Type 1} → statement M
 unfolding numberBefore
