@@ -1,19 +1,17 @@
 // A member of the card: a struct by value, its bytes at the front of its record, SPEC 2.7, and its resource objects.
+mod fields;
+
 ghost use mathlib.Core.Path.{_≡_};
 ghost use Prim.Native.Nat.{_+_, _≤_};
-ghost use mathlib.Core.List.{[], _∷_, map};
 ghost use lib.ListN.{length};
-ghost use Rattle.theory.specs.Logic.{indicator};
-ghost use Rattle.theory.specs.Bytes.{bytesAt, put};
-ghost use Rattle.inventory.specs.Inventory.{valuesSize};
 ghost use Rattle.parts.specs.declared.ListForm.the-variants.{Parts};
 ghost use Rattle.parts.specs.List.{partsOf};
 ghost use Rattle.values.specs.Apply.{applied};
-ghost use Rattle.objects.specs.Objects.{objectByte, objectsSize, mostOf};
-ghost use Rattle.member.specs.Record.{modeAt, queuesAt, objectsAt, valuesAt, memberSize, modeByte, objectBytes, memberOf, memberBytes};
+ghost use Rattle.objects.specs.Objects.{objectsSize, mostOf};
+ghost use Rattle.member.specs.Record.{memberSize, memberOf, memberBytes};
 ghost use Rattle.member.specs.Objects.{lookupOf, withObject, roomIn};
 ghost use Rattle.member.specs.Member.{freshOf, withMode, withValues, withHeld, handedBack, withPart};
-ghost use Rattle.member.specs.Sound.{soundEnd, soundFront, soundRecord};
+ghost use Rattle.member.specs.Sound.{soundRecord};
 use objects::Found;
 use objects::IDS;
 use objects::ObjectRecord;
@@ -239,42 +237,8 @@ pub fn queues_of(bytes: &[u8]) -> u8
     bytes[QUEUES_AT]
 }
 
-// The mark of a member that is stopped with no holding place and no live object.
-fn is_end_sound(bytes: &[u8]) -> bool
-    requires { ⌜ length (now bytes) ≡ memberSize ⌝ }
-    ensures { λ r. ⌜ r ≡ soundEnd (now (bytes .entry)) ⌝ }
-{
-    if bytes[MARK_AT] != 1 {
-        return false;
-    }
-    if bytes[MODE_AT] != 1 {
-        return false;
-    }
-    if wire::read_u16(bytes, HELD_AT) != 0 {
-        return false;
-    }
-    objects::are_up_to(0, &bytes[OBJECTS_AT..HELD_AT])
-}
-
-// The mode, the queue count and the mark. Mode and mark are one number, at most 1 if there is no mark.
-fn is_front_sound(bytes: &[u8]) -> bool
-    requires { ⌜ length (now bytes) ≡ memberSize ⌝ }
-    ensures { λ r. ⌜ r ≡ soundFront (now (bytes .entry)) ⌝ }
-{
-    if bytes[QUEUES_AT] < 1 {
-        return false;
-    }
-    if 4 < bytes[QUEUES_AT] {
-        return false;
-    }
-    if wire::read_u16(bytes, MODE_AT) <= 1 {
-        return true;
-    }
-    is_end_sound(bytes)
-}
-
-// Most holds what each object byte may be at most: see objects. Features and objects are two vectors with one test. The order
-// of the tests decides which of them the compiler makes vector instructions.
+// Most holds what each object byte may be at most: see objects. Features and objects are two vectors with one test, and
+// the tests stand in the order that takes the least time.
 pub fn is_sound_record(bytes: &[u8], gets: u8, sets: u8, most: &[u8], features: &[u8]) -> bool
     requires { ⌜ (length (now bytes) ≡ memberSize) × (gets + sets ≤ objectsSize) × (now most ≡ mostOf (gets + sets)) ⌝ }
     ensures { λ r. ⌜ r ≡ soundRecord gets sets (now (features .entry)) (now (bytes .entry)) ⌝ }
@@ -290,31 +254,13 @@ pub fn is_sound_record(bytes: &[u8], gets: u8, sets: u8, most: &[u8], features: 
     if !inventory::are_queues_allowed(bytes[QUEUES_AT], &bytes[VALUES_AT..MEMBER_SIZE]) {
         return false;
     }
-    if !is_front_sound(bytes) {
+    if !fields::is_front_sound(bytes) {
         return false;
     }
     objects::is_within_limits(&bytes[OBJECTS_AT..HELD_AT], gets, sets)
 }
 
-// ---- from a member's bytes to the member ----
-
-fn object_bytes_in(bytes: &[u8]) -> [u8; IDS]
-    requires { ⌜ length (now bytes) ≡ memberSize ⌝ }
-    ensures { λ r. ⌜ r ≡ objectBytes (now (bytes .entry)) ⌝ }
-{
-    let mut own = [0u8; IDS];
-    wire::copy(&mut own, 0, &bytes[OBJECTS_AT..HELD_AT]);
-    own
-}
-
-fn values_in(bytes: &[u8]) -> [u8; VALUES_SIZE]
-    requires { ⌜ length (now bytes) ≡ memberSize ⌝ }
-    ensures { λ r. ⌜ r ≡ bytesAt valuesAt valuesSize (now (bytes .entry)) ⌝ }
-{
-    let mut own = [0u8; VALUES_SIZE];
-    wire::copy(&mut own, 0, &bytes[VALUES_AT..MEMBER_SIZE]);
-    own
-}
+// ---- from a member's bytes to the member, and back ----
 
 pub fn load(bytes: &[u8]) -> Member
     requires { ⌜ length (now bytes) ≡ memberSize ⌝ }
@@ -323,9 +269,9 @@ pub fn load(bytes: &[u8]) -> Member
     let mode = protocol::mode_of(bytes[MODE_AT]);
     let marked = is_marked(bytes);
     let queues = queues_of(bytes);
-    let objects = objects::objects_in(object_bytes_in(bytes));
+    let objects = objects::objects_in(fields::object_bytes_in(bytes));
     let held = wire::read_u16(bytes, HELD_AT);
-    let values = values_in(bytes);
+    let values = fields::values_in(bytes);
     Member {
         mode,
         marked,
@@ -336,41 +282,14 @@ pub fn load(bytes: &[u8]) -> Member
     }
 }
 
-// ---- from a member to its bytes, field by field ----
-
-fn mode_byte(mode: Mode) -> u8
-    ensures { λ r. ⌜ r ≡ modeByte mode ⌝ }
-{
-    match mode {
-        Mode::Running => 0,
-        Mode::Stopped => 1,
-    }
-}
-
-fn save_front(mode: Mode, marked: bool, queues: u8, bytes: &mut [u8])
-    requires { ⌜ queuesAt + 1 ≤ length (now bytes) ⌝ }
-    ensures { λ _. ⌜ now (bytes .exit) ≡ put modeAt (modeByte mode ∷ indicator marked ∷ queues ∷ []) (now (bytes .entry)) ⌝ }
-{
-    let front = [mode_byte(mode), marked as u8, queues];
-    wire::copy(bytes, MODE_AT, &front);
-}
-
-fn save_objects(objects: [ObjectRecord; IDS], bytes: &mut [u8])
-    requires { ⌜ objectsAt + objectsSize ≤ length (now bytes) ⌝ }
-    ensures { λ _. ⌜ now (bytes .exit) ≡ put objectsAt (map objectByte objects) (now (bytes .entry)) ⌝ }
-{
-    let own = objects::object_bytes(objects);
-    wire::copy(bytes, OBJECTS_AT, &own);
-}
-
 pub fn save(m: Member, bytes: &mut [u8])
     requires { ⌜ length (now bytes) ≡ memberSize ⌝ }
     ensures { λ _. ⌜ now (bytes .exit) ≡ memberBytes m ⌝ }
 {
     let mode = m.mode;
-    save_front(mode, m.marked, m.queues, bytes);
+    fields::save_front(mode, m.marked, m.queues, bytes);
     let objects = m.objects;
-    save_objects(objects, bytes);
+    fields::save_objects(objects, bytes);
     wire::write(bytes, HELD_AT, 2, m.held as u64);
     let values = m.values;
     wire::copy(bytes, VALUES_AT, &values);

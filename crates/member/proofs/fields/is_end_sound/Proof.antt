@@ -1,9 +1,9 @@
--- `member::is_end_sound` meets its contract: each return is a step of the test. Assumes nothing.
+-- `member::fields::is_end_sound` meets its contract: each return is a step of the test. Assumes nothing.
 use borrow.Author.Needs.{needs}
 use Rattle.theory.proofs.Ladder.{ladder}
 use Rattle.member.specs.Sound.{soundEnd}
-use Rattle.member.proofs.is_end_sound.Statement.{statement}
-use Rattle.member.proofs.is_end_sound.Tie as tie
+use Rattle.member.proofs.fields.is_end_sound.Statement.{statement}
+use Rattle.member.proofs.fields.is_end_sound.Tie as tie
 
 pub is-end-sound-spec : {M : Type 1} → statement M
 unfolding soundEnd

@@ -1,8 +1,8 @@
--- `member::save_front` meets its contract. Assumes nothing.
+-- `member::fields::save_front` meets its contract. Assumes nothing.
 use borrow.Author.Needs.{needs}
 use Rattle.member.proofs.Record.{front-saved}
-use Rattle.member.proofs.save_front.Statement.{statement}
-use Rattle.member.proofs.save_front.Tie as tie
+use Rattle.member.proofs.fields.save_front.Statement.{statement}
+use Rattle.member.proofs.fields.save_front.Tie as tie
 
 pub save-front-spec : {M : Type 1} → statement M
 save-front-spec =

@@ -1,10 +1,10 @@
--- `member::is_front_sound` meets its contract. Assumes nothing.
+-- `member::fields::is_front_sound` meets its contract. Assumes nothing.
 use borrow.Author.Needs.{needs}
 use Rattle.theory.proofs.Ladder.{ladder}
 use Rattle.member.specs.Sound.{soundFront}
 use Rattle.member.proofs.Sound.{front-unmarked, front-marked}
-use Rattle.member.proofs.is_front_sound.Statement.{statement}
-use Rattle.member.proofs.is_front_sound.Tie as tie
+use Rattle.member.proofs.fields.is_front_sound.Statement.{statement}
+use Rattle.member.proofs.fields.is_front_sound.Tie as tie
 
 returns : tie.Need-returns
 unfolding soundFront
