@@ -1,35 +1,35 @@
 -- What is asked of a card, and the list of a request. Assumes nothing.
-use mathlib.Core.Path.{_≡_, _∙_}
+use mathlib.Core.Path.{◌≡◌, ◌∙◌}
 use mathlib.Core.Bool.{Bool}
 use mathlib.Core.List.{List}
-use Prim.Native.Nat.{ℕ, _+_, _-_, _≤_, _<_}
+use Prim.Native.Nat.{ℕ, ◌+◌, ◌-◌, ◌≤◌, ◌<◌}
 use native.Mathlib.Omega.{arith}
 use lib.Dec.{leb}
-use lib.ListN.{length, take, drop, drop-of-length-le}
-use Rattle·theory.specs.Logic.{if_then_else_, unless_answer_then_, _and_, within}
-use Rattle·theory.proofs.Tests.{by-cases}
-use Rattle·card.specs.declared.Setup.{Setup}
-use Rattle·card.specs.Layout.{setupOf, inUseOf, isMarked}
-use Rattle·frame.specs.declared.Ask.{Ask}
-use Rattle·frame.specs.Frame.{dataAt, targetOf}
-use Rattle·frame.specs.Ask.{askOf}
-use Rattle·admin·specs.specs.Command.{askIn}
+use lib.ListN.{length, take, drop, drop_of_length-le}
+use Rattle.theory.specs.Logic.{if◌then◌else◌, unless◌answer◌then◌, ◌and◌, within}
+use Rattle.theory.proofs.Tests.{by_cases}
+use Rattle.card.specs.declared.Setup.{Setup}
+use Rattle.card.specs.Layout.{setupOf, inUseOf, isMarked}
+use Rattle.frame.specs.declared.Ask.{Ask}
+use Rattle.frame.specs.Frame.{dataAt, target_of}
+use Rattle.frame.specs.Ask.{askOf}
+use Rattle.admin.specs.Command.{askIn}
 
 -- a request that is too short asks nothing, whatever is marked
-target-asked : (members ids inUse m : ℕ) (c r : List ℕ) → m ≡ (if leb dataAt (length r) then targetOf r else 0)
-    → askOf members ids inUse (isMarked c m) r ≡ askOf members ids inUse (isMarked c (targetOf r)) r
-unfolding askOf within _and_ if_then_else_ unless_answer_then_
-target-asked members ids inUse m c r e = rw e (by-cases (leb dataAt (length r)) (λ t. rw t) (λ t. rw t))
+target-asked : (members ids inUse m : ℕ) (c r : List ℕ) → m ≡ (if leb dataAt (length r) then target_of r else 0)
+    → askOf members ids inUse (isMarked c m) r ≡ askOf members ids inUse (isMarked c (target_of r)) r
+unfolding askOf within ◌and◌ if◌then◌else◌ unless◌answer◌then◌
+target-asked members ids inUse m c r e = rw e (by_cases (leb dataAt (length r)) (λ t. rw t) (λ t. rw t))
 
 pub is-asked : (c r : List ℕ) (s : Setup) (u m : ℕ) (t : Bool) (a : Ask) → s ≡ setupOf c → u ≡ inUseOf c
-    → m ≡ (if leb dataAt (length r) then targetOf r else 0) → t ≡ isMarked c m
-    → a ≡ askOf (s .members) (s .gets + s .sets) u t r → a ≡ askIn c r
+    → m ≡ (if leb dataAt (length r) then target_of r else 0) → t ≡ isMarked c m
+    → a ≡ askOf s.members (s.gets + s.sets) u t r → a ≡ askIn c r
 unfolding askIn
 is-asked c r s u m t a e f g k h = h ∙ rw (e, f, k) (target-asked _ _ _ m c r g)
 
 -- the part of a slice from a place past its end
-pub past-the-end : (l : List ℕ) (at : ℕ) → length l < at → take (length l - length l) (drop (length l) l) ≡ drop at l
-past-the-end l at h =
+pub past_the_end : (l : List ℕ) (at : ℕ) → length l < at → take (length l - length l) (drop (length l) l) ≡ drop at l
+past_the_end l at h =
     let k : length l - length l ≡ 0 = omega arith in
     let j : length l ≤ at = omega arith in
-    rw (k, drop-of-length-le l j)
+    rw (k, drop_of_length-le l j)

@@ -1,21 +1,17 @@
 // A command, whole: SPEC 6.1.
-ghost use mathlib.Core.Path.{_≡_};
-ghost use mathlib.Core.Bool.{true};
-ghost use Prim.Native.Nat.{_≤_};
-ghost use lib.ListN.{length, drop};
-ghost use Rattle·card.specs.Layout.{isMember};
-ghost use Rattle·card.specs.Sound.{isSound};
-ghost use Rattle·reply.specs.Reply.{headSize};
-ghost use Rattle·admin·specs.specs.Command.{askIn, perform, conclude, delivered, commandOf};
+ghost use Rattle.std.specs.Prelude.{◌≡◌, true, ◌≤◌, length, drop};
+ghost use Rattle.card.specs.Layout.{isMember};
+ghost use Rattle.card.specs.Sound.{isSound};
+ghost use Rattle.reply.specs.Reply.{headSize};
+ghost use Rattle.admin.specs.Command.{askIn, perform, conclude, delivered, commandOf};
+
 use frame::Ask;
-use protocol::Answer;
-use protocol::ChangeOp;
-use protocol::ReadOp;
+use protocol::{Answer, ChangeOp, ReadOp};
 
 // Steps 2 to 7: what a request asks of this card.
 fn asked(card: &[u8], request: &[u8]) -> Ask
-    requires { ⌜ isSound (now card) ≡ true ⌝ }
-    ensures { λ r. ⌜ r ≡ askIn (now (card .entry)) (now (request .entry)) ⌝ }
+    requires { isSound card.now ≡ true }
+    ensures { result ≡ askIn card.now request.now }
 {
     let s = card::setup_of(card);
     let ids = s.gets + s.sets;
@@ -25,7 +21,7 @@ fn asked(card: &[u8], request: &[u8]) -> Ask
 
 // A request from a place on; nothing where it is shorter.
 fn from(request: &[u8], at: usize) -> &[u8]
-    ensures { λ r. ⌜ now r ≡ drop at (now (request .entry)) ⌝ }
+    ensures { result.now ≡ drop at request.now }
 {
     if request.len() < at {
         let end = request.len();
@@ -36,8 +32,8 @@ fn from(request: &[u8], at: usize) -> &[u8]
 
 // Steps 8 to 12 of a command that reads a member.
 fn read_member(card: &[u8], m: u64, op: ReadOp, request: &[u8], reply: &mut [u8]) -> usize
-    requires { ⌜ (isSound (now card) ≡ true) × (isMember (now card) m ≡ true) × (headSize ≤ length (now reply)) ⌝ }
-    ensures { λ r. ⌜ (r, (now (card .entry), now (reply .exit))) ≡ delivered (conclude (now (card .entry)) (length (now (reply .entry))) (perform (now (card .entry)) (now (request .entry)) (Ask.Read m op))) (now (reply .entry)) ⌝ }
+    requires { (isSound card.now ≡ true) × (isMember card.now m ≡ true) × (headSize ≤ length reply.old) }
+    ensures { (result, (card.now, reply.new)) ≡ delivered (conclude card.now (length reply.old) (perform card.now request.now (Ask.Read m op))) reply.old }
 {
     let bytes = card::member_bytes(card, m);
     let list = from(request, frame::ASKED_AT);
@@ -51,8 +47,8 @@ fn read_member(card: &[u8], m: u64, op: ReadOp, request: &[u8], reply: &mut [u8]
 
 // Steps 8 to 12 of a command that changes a member.
 fn change_member(card: &mut [u8], m: u64, op: ChangeOp, request: &[u8], reply: &mut [u8]) -> usize
-    requires { ⌜ (isSound (now card) ≡ true) × (isMember (now card) m ≡ true) × (headSize ≤ length (now reply)) ⌝ }
-    ensures { λ r. ⌜ (r, (now (card .exit), now (reply .exit))) ≡ delivered (conclude (now (card .entry)) (length (now (reply .entry))) (perform (now (card .entry)) (now (request .entry)) (Ask.Change m op))) (now (reply .entry)) ⌝ }
+    requires { (isSound card.old ≡ true) × (isMember card.old m ≡ true) × (headSize ≤ length reply.old) }
+    ensures { (result, (card.new, reply.new)) ≡ delivered (conclude card.old (length reply.old) (perform card.old request.now (Ask.Change m op))) reply.old }
 {
     let s = card::setup_of(card);
     let before = card::load_member(card, m);
@@ -69,8 +65,8 @@ fn change_member(card: &mut [u8], m: u64, op: ChangeOp, request: &[u8], reply: &
 
 // List use: always a success, since its reply is 8 bytes.
 fn use_list(card: &mut [u8], mask: u64, request: &[u8], reply: &mut [u8]) -> usize
-    requires { ⌜ (isSound (now card) ≡ true) × (headSize ≤ length (now reply)) ⌝ }
-    ensures { λ r. ⌜ (r, (now (card .exit), now (reply .exit))) ≡ delivered (conclude (now (card .entry)) (length (now (reply .entry))) (perform (now (card .entry)) (now (request .entry)) (Ask.UseList mask))) (now (reply .entry)) ⌝ }
+    requires { (isSound card.old ≡ true) × (headSize ≤ length reply.old) }
+    ensures { (result, (card.new, reply.new)) ≡ delivered (conclude card.old (length reply.old) (perform card.old request.now (Ask.UseList mask))) reply.old }
 {
     card::set_in_use(card, mask);
     reply::write_answer(Answer::Done, reply)
@@ -78,7 +74,7 @@ fn use_list(card: &mut [u8], mask: u64, request: &[u8], reply: &mut [u8]) -> usi
 
 // One command, whole.
 pub fn command(card: &mut [u8], request: &[u8], reply: &mut [u8]) -> usize
-    ensures { λ r. ⌜ (r, (now (card .exit), now (reply .exit))) ≡ commandOf (now (card .entry)) (now (request .entry)) (now (reply .entry)) ⌝ }
+    ensures { (result, (card.new, reply.new)) ≡ commandOf card.old request.now reply.old }
 {
     if reply.len() < reply::HEAD_SIZE {
         return 0;

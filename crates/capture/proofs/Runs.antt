@@ -1,122 +1,122 @@
 -- Runs of rows of one type and size, and all parts of a member as such runs. Assumes nothing.
-use mathlib.Core.Path.{_≡_, refl, sym, _∙_}
+use mathlib.Core.Path.{◌≡◌, refl, sym, ◌∙◌}
 use mathlib.Core.Bool.{Bool, true, false}
-use mathlib.Core.List.{List, [], _∷_, _++_, append-assoc}
-use Prim.Native.Nat.{ℕ, zero, suc, _+_, _-_, _*_, _≤_, _<_}
-use native.Mathlib.Nat.{add-zero, add-assoc, mul-one, mul-add, mul-le-mul}
+use mathlib.Core.List.{List, [], ◌∷◌, ◌++◌, append_assoc}
+use Prim.Native.Nat.{ℕ, zero, suc, ◌+◌, ◌-◌, ◌*◌, ◌≤◌, ◌<◌}
+use native.Mathlib.Nat.{add-zero, add_assoc, mul-one, mul-add, mul-le-mul}
 use native.Mathlib.Omega.{arith}
 use borrow.Author.Tests.{eqb-true, ltb-true, leb-true, le-ltb, lt-leb}
 use mir.Syntax.{w32}
 use mir.Val.{Fits}
 use lib.Dec.{T, leb, ltb, eqb, ltb→lt}
-use lib.ListN.{length, getD}
-use Rattle·theory.specs.Logic.{_and_, _or_}
-use Rattle·theory.specs.Bytes.{bytesAt, put}
-use Rattle·theory.specs.Items.{itemsFrom}
-use Rattle·theory.proofs.Tests.{false-or, both}
-use Rattle·theory.proofs.Table.{every, at}
-use Rattle·theory.proofs.Sums.{length-items, sum-same}
-use Rattle·theory.proofs.Items.{Written, written-start, written-room, written-end, written-at}
-use Rattle·inventory.specs.Inventory.{Row, row, rows, rowAt, rowCount, offsetOf, valuesSize}
-use Rattle·inventory.specs.Header.{headerOf, headerSize}
-use Rattle·inventory.proofs.Columns.{types, selectors, sizes, offsets, type-at, selector-at, size-at, offset-at}
-use Rattle·inventory.proofs.Rules.{table, every-row, every-count, row-within, offset-next}
-use Rattle·capture·specs.specs.Capture.{partAt, asks, partItem, partsWritten, captureOf, CaptureFits}
-use Rattle·capture·specs.specs.declared.Run.{Run}
-use Rattle·capture·specs.specs.Runs.{largestValue, RunStarts, runAt, RowsAlike, RunFits, runOf, Wrote}
-use Rattle·capture·proofs.proofs.Sizes.{part-length, capture-length}
-use Rattle·capture·proofs.proofs.Writes.{row-small, wrote-next}
+use lib.ListN.{length, get_or}
+use Rattle.theory.specs.Logic.{◌and◌, ◌or◌}
+use Rattle.theory.specs.Bytes.{bytes_at, put}
+use Rattle.theory.specs.Items.{itemsFrom}
+use Rattle.theory.proofs.Tests.{false-or, both}
+use Rattle.theory.proofs.Table.{every, at}
+use Rattle.theory.proofs.Sums.{length-items, sum_same}
+use Rattle.theory.proofs.Items.{Written, written_start, written-room, written-end, written_at}
+use Rattle.inventory.specs.Inventory.{Row, row, rows, row_at, rowCount, offset_of, valuesSize}
+use Rattle.inventory.specs.Header.{headerOf, headerSize}
+use Rattle.inventory.proofs.Columns.{types, selectors, sizes, offsets, type_at, selector-at, size-at, offset_at}
+use Rattle.inventory.proofs.Rules.{table, every-row, every-count, row_within, offset-next}
+use Rattle.capture.specs.Capture.{part_at, asks, partItem, partsWritten, captureOf, CaptureFits}
+use Rattle.capture.specs.declared.Run.{Run}
+use Rattle.capture.specs.Runs.{largestValue, RunStarts, run_at, RowsAlike, RunFits, run_of, Wrote}
+use Rattle.capture.proofs.Sizes.{part_length, capture-length}
+use Rattle.capture.proofs.Writes.{row_small, wrote-next}
 
 -- ---- a run by the columns of the table ----
 
 module _ (first : ℕ) (p : RunStarts first) where
-  pub selectors-rise : getD selectors first 0 ≤ getD selectors (first + 1) 0
-  selectors-rise = rw (selector-at first, selector-at (first + 1)) (p .upward)
+  pub selectors-rise : get_or selectors first 0 ≤ get_or selectors (first + 1) 0
+  selectors-rise = rw (selector-at first, selector-at (first + 1)) p.upward
 
   pub run-read : record {
-    «part_type» = getD types first 0;
-    selector = getD selectors first 0;
-    step = getD selectors (first + 1) 0 - getD selectors first 0;
-    size = getD sizes first 0;
-    offset = getD offsets first 0;
-  } ≡ runAt first
-  unfolding runAt
+    part_type = get_or types first 0;
+    selector = get_or selectors first 0;
+    step = get_or selectors (first + 1) 0 - get_or selectors first 0;
+    size = get_or sizes first 0;
+    offset = get_or offsets first 0;
+  } ≡ run_at first
+  unfolding run_at
   run-read =
-      let l = p .inside in
-      rw (type-at first, selector-at first, selector-at (first + 1), size-at first, offset-at first (omega arith))
+      let l = p.inside in
+      rw (type_at first, selector-at first, selector-at (first + 1), size-at first, offset_at first (omega arith))
 
 -- ---- one run ----
 
 -- i parts are written; the next goes to `at`, its value starts at `from`, and its selector is s
 pub record Running (v : List ℕ) (first count : ℕ) (r : Run) (b : ℕ) (out₀ out : List ℕ) (at from s i : ℕ) : Type 0 where
-  pub written : Written (λ j. partAt v (first + j)) count b out₀ out at i
-  pub starts : from ≡ offsetOf (first + i)
-  pub chosen : s ≡ r .selector + r .step * i
+  pub written : Written (λ j. part_at v (first + j)) count b out₀ out at i
+  pub starts : from ≡ offset_of (first + i)
+  pub chosen : s ≡ r.selector + r.step * i
 
-pub run-end : (v : List ℕ) (first count : ℕ) (r : Run) (b : ℕ) (out₀ out : List ℕ) (at from s i : ℕ)
-    → Running v first count r b out₀ out at from s i → count ≤ i → Wrote (runOf v first count) b out₀ out at
-run-end v first count r b out₀ out at from s i w h =
-    record { buffer = written-end _ _ _ _ _ _ _ (w .written) h; place = written-at _ _ _ _ _ _ _ (w .written) h }
+pub run_end : (v : List ℕ) (first count : ℕ) (r : Run) (b : ℕ) (out₀ out : List ℕ) (at from s i : ℕ)
+    → Running v first count r b out₀ out at from s i → count ≤ i → Wrote (run_of v first count) b out₀ out at
+run_end v first count r b out₀ out at from s i w h =
+    record { buffer = written-end _ _ _ _ _ _ _ w.written h; place = written_at _ _ _ _ _ _ _ w.written h }
 
 module _ (v : List ℕ) (first count : ℕ) (r : Run) (a : RowsAlike first count r) (e : length v ≡ valuesSize) where
   abbrev item : ℕ → List ℕ
-  item j = partAt v (first + j)
+  item j = part_at v (first + j)
 
   inside : (j : ℕ) → j < count → first + j < rowCount
-  inside j h = let l = a .there in omega arith
+  inside j h = let l = a.there in omega arith
 
-  run-item : (j : ℕ) → j < count → length (item j) ≡ headerSize + r .size
-  run-item j h = part-length v (first + j) (inside j h) e ∙ rw (a .sized j h)
+  run-item : (j : ℕ) → j < count → length (item j) ≡ headerSize + r.size
+  run-item j h = part_length v (first + j) (inside j h) e ∙ rw (a.sized j h)
 
-  pub run-length : length (runOf v first count) ≡ count * (headerSize + r .size)
-  run-length = length-items item (λ j. headerSize + r .size) count count 0 (omega arith) run-item ∙ sum-same (headerSize + r .size) count 0
+  pub run_length : length (run_of v first count) ≡ count * (headerSize + r.size)
+  run_length = length-items item (λ j. headerSize + r.size) count count 0 (omega arith) run-item ∙ sum_same (headerSize + r.size) count 0
 
-  pub run-start : (b : ℕ) (out : List ℕ) → b + count * (headerSize + r .size) ≤ length out
-      → Running v first count r b out out b (r .offset) (r .selector) 0
+  pub run-start : (b : ℕ) (out : List ℕ) → b + count * (headerSize + r.size) ≤ length out
+      → Running v first count r b out out b r.offset r.selector 0
   run-start b out h =
-      record { written = written-start item count b out (omega (arith, run-length)); starts = a .starts ∙ rw add-zero; chosen = omega arith }
+      record { written = written_start item count b out (omega (arith, run_length)); starts = a.starts ∙ rw add-zero; chosen = omega arith }
 
   -- a turn: row first + i is the next
   module _ (b : ℕ) (out₀ out : List ℕ) (at from s i : ℕ) (w : Running v first count r b out₀ out at from s i) (h : i < count) where
     row-there : first + i < rowCount
     row-there = inside i h
 
-    pub run-small : r .size ≤ largestValue
-    run-small = rw (size-at (first + i), a .sized i h) at (row-small (first + i) row-there)
+    pub run_small : r.size ≤ largestValue
+    run_small = rw (size-at (first + i), a.sized i h) at (row_small (first + i) row-there)
 
-    pub run-inside : from + r .size ≤ valuesSize
-    run-inside = rw (w .starts, ← a .sized i h) (row-within (first + i) row-there)
+    pub run_inside : from + r.size ≤ valuesSize
+    run_inside = rw (w.starts, ← a.sized i h) (row_within (first + i) row-there)
 
-    pub run-room : at + (headerSize + r .size) ≤ length out
-    run-room = written-room item count b out₀ out at i (w .written) (headerSize + r .size) h (run-item i h)
+    pub run_room : at + (headerSize + r.size) ≤ length out
+    run_room = written-room item count b out₀ out at i w.written (headerSize + r.size) h (run-item i h)
 
-    next-item : item i ≡ headerOf (row (r .«part_type») s (r .size)) ++ bytesAt from (r .size) v
-    unfolding partAt
-    next-item = rw (w .starts, w .chosen, ← a .typed i h, ← a .selected i h, ← a .sized i h)
+    next-item : item i ≡ headerOf (row r.part_type s r.size) ++ bytes_at from r.size v
+    unfolding part_at
+    next-item = rw (w.starts, w.chosen, ← a.typed i h, ← a.selected i h, ← a.sized i h)
 
-    next-starts : from + r .size ≡ offsetOf (first + (i + 1))
-    next-starts = rw (w .starts, ← a .sized i h, ← add-assoc) (sym (offset-next (first + i) row-there))
+    next-starts : from + r.size ≡ offset_of (first + (i + 1))
+    next-starts = rw (w.starts, ← a.sized i h, ← add_assoc) (sym (offset-next (first + i) row-there))
 
-    next-chosen : s + r .step ≡ r .selector + r .step * (i + 1)
+    next-chosen : s + r.step ≡ r.selector + r.step * (i + 1)
     next-chosen =
-        let d : r .step * (i + 1) ≡ r .step * i + r .step = mul-add (r .step) i 1 ∙ rw mul-one in
-        let c = w .chosen in
+        let d : r.step * (i + 1) ≡ r.step * i + r.step = mul-add r.step i 1 ∙ rw mul-one in
+        let c = w.chosen in
         omega arith
 
     -- and no sum is too large
-    pub run-low : Fits w32 (s + r .step)
+    pub run-low : Fits w32 (s + r.step)
     run-low =
         let n : i + 1 ≤ rowCount = (let t = row-there in omega arith) in
-        let m : r .step * (i + 1) ≤ 256 * rowCount = mul-le-mul (a .low .1) n in
-        let l = a .low .0 in
+        let m : r.step * (i + 1) ≤ 256 * rowCount = mul-le-mul a.low.1 n in
+        let l = a.low.0 in
         let c = next-chosen in
         omega arith
 
-    pub run-on : (out′ : List ℕ) (next : ℕ)
-        → Wrote (headerOf (row (r .«part_type») s (r .size)) ++ bytesAt from (r .size) v) at out out′ next
-        → Running v first count r b out₀ out′ next (from + r .size) (s + r .step) (i + 1)
-    run-on out′ next d = record {
-      written = wrote-next item count b out₀ out out′ _ at next i (w .written) h next-item d;
+    pub run_on : (out' : List ℕ) (next : ℕ)
+        → Wrote (headerOf (row r.part_type s r.size) ++ bytes_at from r.size v) at out out' next
+        → Running v first count r b out₀ out' next (from + r.size) (s + r.step) (i + 1)
+    run_on out' next d = record {
+      written = wrote-next item count b out₀ out out' _ at next i w.written h next-item d;
       starts = next-starts;
       chosen = next-chosen;
     }
@@ -133,16 +133,16 @@ firsts = 0 ∷ 1 ∷ 2 ∷ 4 ∷ 6 ∷ 7 ∷ 11 ∷ []
 abbrev counts : ℕ → List ℕ
 counts q = 1 ∷ 1 ∷ 2 ∷ 2 ∷ 1 ∷ q ∷ q ∷ []
 
-abbrev pub firstOf : ℕ → ℕ
-firstOf k = getD firsts k 0
+abbrev pub first_of : ℕ → ℕ
+first_of k = get_or firsts k 0
 
-abbrev pub countOf : ℕ → ℕ → ℕ
-countOf q k = getD (counts q) k 0
+abbrev pub count_of : ℕ → ℕ → ℕ
+count_of q k = get_or (counts q) k 0
 
 -- a row is like the first of its run, and its selector the j-th
 abbrev isNext : ℕ → ℕ → Row → Bool
 isNext first j r =
-    eqb (r .partType) (rowAt first .partType) and eqb (r .selector) (rowAt first .selector + runAt first .step * j) and eqb (r .size) (rowAt first .size)
+    eqb r.partType (row_at first).partType and eqb r.selector ((row_at first).selector + (run_at first).step * j) and eqb r.size (row_at first).size
 
 -- row i is so, or not in the run
 abbrev alikeAt : ℕ → ℕ → ℕ → Row → Bool
@@ -150,60 +150,60 @@ alikeAt first count i r = (ltb i first or leb (first + count) i) or isNext first
 
 abbrev alikeRun : ℕ → ℕ → Bool
 alikeRun first count =
-    ltb (first + 1) rowCount and leb (rowAt first .selector) (rowAt (first + 1) .selector) and leb (first + count) rowCount
-    and leb (rowAt first .selector) 256 and leb (runAt first .step) 256 and every (alikeAt first count) 0 rows
+    ltb (first + 1) rowCount and leb (row_at first).selector (row_at (first + 1)).selector and leb (first + count) rowCount
+    and leb (row_at first).selector 256 and leb (run_at first).step 256 and every (alikeAt first count) 0 rows
 
 -- a run starts at its first row, and its rows are alike by what the table has there
 record Alike (first count : ℕ) : Type 0 where
   pub starts : RunStarts first
-  pub alike : RowsAlike first count (runAt first)
+  pub alike : RowsAlike first count (run_at first)
 
 alike : (first count : ℕ) → alikeRun first count ≡ true → Alike first count
-unfolding runAt
+unfolding run_at
 alike first count t =
     let b = both _ _ t in
-    let d = both _ _ (b .0) in
-    let l = both _ _ (d .0) in
-    let c = both _ _ (l .0) in
-    let u = both _ _ (c .0) in
-    let n : first + count ≤ rowCount = leb-true _ _ (c .1) in
-    let next-alike : (j : ℕ) → j < count → isNext first j (rowAt (first + j)) ≡ true =
+    let d = both _ _ b.0 in
+    let l = both _ _ d.0 in
+    let c = both _ _ l.0 in
+    let u = both _ _ c.0 in
+    let n : first + count ≤ rowCount = leb-true _ _ c.1 in
+    let next-alike : (j : ℕ) → j < count → isNext first j (row_at (first + j)) ≡ true =
     λ j h.
     let y : ltb (first + j) first ≡ false = le-ltb (first + j) first (omega arith) in
     let z : leb (first + count) (first + j) ≡ false = lt-leb (first + count) (first + j) (omega arith) in
     let x : first + j - first ≡ j = omega arith in
-    simp (y, z, false-or, x) at (every-row (alikeAt first count) (b .1) (first + j) (omega arith)) in
+    simp (y, z, false-or, x) at (every-row (alikeAt first count) b.1 (first + j) (omega arith)) in
     record {
-      starts = record { inside = ltb-true _ _ (u .0); upward = leb-true _ _ (u .1) };
+      starts = record { inside = ltb-true _ _ u.0; upward = leb-true _ _ u.1 };
       alike = record {
         there = n;
-        typed = λ j h. eqb-true _ _ (both _ _ (both _ _ (next-alike j h) .0) .0);
-        selected = λ j h. eqb-true _ _ (both _ _ (both _ _ (next-alike j h) .0) .1);
-        low = (leb-true _ _ (l .1), leb-true _ _ (d .1));
-        sized = λ j h. eqb-true _ _ (both _ _ (next-alike j h) .1);
+        typed = λ j h. eqb-true _ _ (both _ _ (both _ _ (next-alike j h)).0).0;
+        selected = λ j h. eqb-true _ _ (both _ _ (both _ _ (next-alike j h)).0).1;
+        low = (leb-true _ _ l.1, leb-true _ _ d.1);
+        sized = λ j h. eqb-true _ _ (both _ _ (next-alike j h)).1;
         starts = refl;
       };
     }
 
 -- one test over the table: each run is of rows alike, whatever the queues
-run-alike : (q k : ℕ) → q < 5 → k < runCount → Alike (firstOf k) (countOf q k)
-unfolding table runAt
+run-alike : (q k : ℕ) → q < 5 → k < runCount → Alike (first_of k) (count_of q k)
+unfolding table run_at
 run-alike q k f h =
-    let t = every-count (λ q. every (λ j n. alikeRun (firstOf j) n) 0 (counts q)) refl q f in
-    alike _ _ (at (λ j n. alikeRun (firstOf j) n) 0 (counts q) t k h)
+    let t = every-count (λ q. every (λ j n. alikeRun (first_of j) n) 0 (counts q)) refl q f in
+    alike _ _ (at (λ j n. alikeRun (first_of j) n) 0 (counts q) t k h)
 
 -- ---- all parts, as runs ----
 
 abbrev pub run : ℕ → List ℕ → ℕ → List ℕ
-run q v k = runOf v (firstOf k) (countOf q k)
+run q v k = run_of v (first_of k) (count_of q k)
 
 runs-are : (q : ℕ) (v : List ℕ) → q < 5 → itemsFrom (run q v) runCount 0 ≡ captureOf q v
 unfolding table itemsFrom partsWritten partItem asks
-runs-are zero v h = simp append-assoc
-runs-are (suc zero) v h = simp append-assoc
-runs-are (suc (suc zero)) v h = simp append-assoc
-runs-are (suc (suc (suc zero))) v h = simp append-assoc
-runs-are (suc (suc (suc (suc zero)))) v h = simp append-assoc
+runs-are zero v h = simp append_assoc
+runs-are (suc zero) v h = simp append_assoc
+runs-are (suc (suc zero)) v h = simp append_assoc
+runs-are (suc (suc (suc zero))) v h = simp append_assoc
+runs-are (suc (suc (suc (suc zero)))) v h = simp append_assoc
 runs-are (suc (suc (suc (suc (suc q))))) v h = absurd (omega arith)
 
 -- the runs one after the other: out₀ is the buffer before them, k runs are written, and the next goes to `at`
@@ -214,10 +214,10 @@ pub record Upto (q : ℕ) (v out₀ : List ℕ) (k : ℕ) (out : List ℕ) (at :
 module _ {q : ℕ} {v out₀ : List ℕ} where
   pub upto-none : CaptureFits q v out₀ → Upto q v out₀ 0 out₀ 0
   upto-none p =
-      let l = p .room in
+      let l = p.room in
       record {
         fits = p;
-        written = written-start (run q v) runCount 0 out₀ (rw (runs-are q v (p .few), capture-length q v (p .few) (p .long)) (omega arith));
+        written = written_start (run q v) runCount 0 out₀ (rw (runs-are q v p.few, capture-length q v p.few p.long) (omega arith));
       }
 
   module _ {k : ℕ} {out : List ℕ} {at : ℕ} (w : Upto q v out₀ k out at) where
@@ -226,20 +226,20 @@ module _ {q : ℕ} {v out₀ : List ℕ} where
       abbrev few : k < runCount
       few = ltb→lt k runCount h
 
-      run-rows : Alike (firstOf k) (countOf q k)
-      run-rows = run-alike q k (w .fits .few) few
+      run-rows : Alike (first_of k) (count_of q k)
+      run-rows = run-alike q k w.fits.few few
 
-      pub run-starts : RunStarts (firstOf k)
-      run-starts = run-rows .starts
+      pub run-starts : RunStarts (first_of k)
+      run-starts = run-rows.starts
 
-      pub run-asks : (r : Run) → r ≡ runAt (firstOf k) → RunFits v (firstOf k) (countOf q k) r at out
+      pub run-asks : (r : Run) → r ≡ run_at (first_of k) → RunFits v (first_of k) (count_of q k) r at out
       run-asks r e =
-          let l = w .fits .long in
-          let a = run-rows .alike in
-          rw e (record { alike = a; long = l; room = written-room _ _ _ _ _ _ _ (w .written) _ few (run-length v _ _ _ a l) })
+          let l = w.fits.long in
+          let a = run-rows.alike in
+          rw e (record { alike = a; long = l; room = written-room _ _ _ _ _ _ _ w.written _ few (run_length v _ _ _ a l) })
 
-      pub upto-next : {out′ : List ℕ} {next : ℕ} → Wrote (run q v k) at out out′ next → Upto q v out₀ (k + 1) out′ next
-      upto-next d = record { fits = w .fits; written = wrote-next _ _ _ _ _ _ _ _ _ _ (w .written) few refl d }
+      pub upto_next : {out' : List ℕ} {next : ℕ} → Wrote (run q v k) at out out' next → Upto q v out₀ (k + 1) out' next
+      upto_next d = record { fits = w.fits; written = wrote-next _ _ _ _ _ _ _ _ _ _ w.written few refl d }
 
-  pub upto-all : {out : List ℕ} {at : ℕ} → Upto q v out₀ runCount out at → out ≡ put 0 (captureOf q v) out₀
-  upto-all w = rw (← runs-are q v (w .fits .few)) (written-end _ _ _ _ _ _ _ (w .written) (omega arith))
+  pub upto_all : {out : List ℕ} {at : ℕ} → Upto q v out₀ runCount out at → out ≡ put 0 (captureOf q v) out₀
+  upto_all w = rw (← runs-are q v w.fits.few) (written-end _ _ _ _ _ _ _ w.written (omega arith))

@@ -1,26 +1,22 @@
 -- The headers and the parts of a member as bytes: SPEC 4.8 and 4.9. Assumes nothing.
-use mathlib.Core.Bool.{Bool}
-use mathlib.Core.List.{List, [], _++_}
-use mathlib.Core.Path.{_≡_}
-use Prim.Native.Nat.{ℕ, _≤_, _<_}
-use lib.ListN.{length}
-use Rattle·theory.specs.Logic.{if_then_else_, _and_}
-use Rattle·theory.specs.Items.{itemsFrom}
-use Rattle·inventory.specs.Inventory.{Row, rowAt, rowCount, present, valuesSize, partsSize, valueOf}
-use Rattle·inventory.specs.Header.{headerOf}
-use Rattle·parts.specs.declared.ListForm.the-variants.{Headers}
-use Rattle·parts.specs.List.{partsOf, among}
+use Rattle.std.specs.Prelude.{Bool, List, [], ◌++◌, ◌≡◌, ℕ, ◌≤◌, ◌<◌, length}
+use Rattle.theory.specs.Logic.{if◌then◌else◌, ◌and◌}
+use Rattle.theory.specs.Items.{itemsFrom}
+use Rattle.inventory.specs.Inventory.{Row, row_at, rowCount, present, valuesSize, partsSize, value_of}
+use Rattle.inventory.specs.Header.{headerOf}
+use Rattle.parts.specs.declared.ListForm.TheVariants.{Headers}
+use Rattle.parts.specs.List.{parts_of, among}
 
 -- the headers of the parts that a member has, in the order of the table
 unfoldable pub headerItem : ℕ → ℕ → List ℕ
-headerItem queues i = if present queues (rowAt i) then headerOf (rowAt i) else []
+headerItem queues i = if present queues (row_at i) then headerOf (row_at i) else []
 
 unfoldable pub headersOf : ℕ → List ℕ
 headersOf queues = itemsFrom (headerItem queues) rowCount 0
 
 -- a part: the header and the value
-unfoldable pub partAt : List ℕ → ℕ → List ℕ
-partAt values i = headerOf (rowAt i) ++ valueOf values i
+unfoldable pub part_at : List ℕ → ℕ → List ℕ
+part_at values i = headerOf (row_at i) ++ value_of values i
 
 -- all parts that the member has, or those of them that the asked list names
 pub data Selection : Type 0 where
@@ -29,10 +25,10 @@ pub data Selection : Type 0 where
 
 unfoldable pub asks : Selection → ℕ → List ℕ → Row → Bool
 asks All queues list r = present queues r
-asks Asked queues list r = present queues r and among (r .partType) (r .selector) (partsOf Headers list)
+asks Asked queues list r = present queues r and among r.partType r.selector (parts_of Headers list)
 
 unfoldable pub partItem : Selection → ℕ → List ℕ → List ℕ → ℕ → List ℕ
-partItem selection queues list values i = if asks selection queues list (rowAt i) then partAt values i else []
+partItem selection queues list values i = if asks selection queues list (row_at i) then part_at values i else []
 
 -- in the order of the table, whatever the order of the list
 unfoldable pub partsWritten : Selection → ℕ → List ℕ → List ℕ → List ℕ

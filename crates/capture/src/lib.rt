@@ -1,20 +1,13 @@
 // Writers of headers and parts into a lent tail, SPEC 4.8 and 4.9, with the bytes that they need.
-ghost use mathlib.Core.Path.{_≡_};
-ghost use mathlib.Core.List.{List, _++_};
-ghost use Prim.Native.Nat.{ℕ, _+_, _*_, _≤_, _<_};
-ghost use lib.ListN.{length};
-ghost use Rattle·theory.specs.Logic.{if_then_else_};
-ghost use Rattle·theory.specs.Bytes.{bytesAt, put};
-ghost use Rattle·inventory.specs.Inventory.{row, valuesSize};
-ghost use Rattle·inventory.specs.Header.{headerSize, headerOf};
-ghost use Rattle·capture·specs.specs.Capture.{Asked, headersOf, asks, partsWritten, captureOf, CaptureFits};
-ghost use Rattle·capture·specs.specs.Runs.{largestValue, RunStarts, runAt, RunFits, runOf, Wrote};
-use inventory::HEADER_SIZE;
-use inventory::OFFSETS;
-use inventory::ROWS;
-use inventory::SELECTORS;
-use inventory::SIZES;
-use inventory::TYPES;
+ghost use Rattle.std.specs.Prelude.{◌≡◌, List, ◌++◌, ℕ, ◌+◌, ◌*◌, ◌≤◌, ◌<◌, length};
+ghost use Rattle.theory.specs.Logic.{if◌then◌else◌};
+ghost use Rattle.theory.specs.Bytes.{bytes_at, put};
+ghost use Rattle.inventory.specs.Inventory.{row, valuesSize};
+ghost use Rattle.inventory.specs.Header.{headerSize, headerOf};
+ghost use Rattle.capture.specs.Capture.{Asked, headersOf, asks, partsWritten, captureOf, CaptureFits};
+ghost use Rattle.capture.specs.Runs.{largestValue, RunStarts, run_at, RunFits, run_of, Wrote};
+
+use inventory::{HEADER_SIZE, OFFSETS, ROWS, SELECTORS, SIZES, TYPES};
 use parts::ListForm;
 
 // The bytes of the largest value.
@@ -24,8 +17,8 @@ const LARGEST_VALUE: usize = 32;
 
 // The headers of a member's parts, at the front of what is lent.
 pub fn write_headers(out: &mut [u8], queues: u8)
-    requires { ⌜ length (headersOf queues) ≤ length (now out) ⌝ }
-    ensures { λ _. ⌜ now (out .exit) ≡ put 0 (headersOf queues) (now (out .entry)) ⌝ }
+    requires { length (headersOf queues) ≤ length out.old }
+    ensures { out.new ≡ put 0 (headersOf queues) out.old }
 {
     let types = TYPES;
     let selectors = SELECTORS;
@@ -44,8 +37,8 @@ pub fn write_headers(out: &mut [u8], queues: u8)
 }
 
 pub fn headers_bytes(queues: u8) -> usize
-    requires { ⌜ queues < 5 ⌝ }
-    ensures { λ r. ⌜ r ≡ length (headersOf queues) ⌝ }
+    requires { queues < 5 }
+    ensures { result ≡ length (headersOf queues) }
 {
     HEADER_SIZE * (inventory::part_count(queues) as usize)
 }
@@ -63,8 +56,8 @@ fn write_part(
     size: u8,
     offset: u8,
 ) -> usize
-    requires { ⌜ (size ≤ largestValue) × (offset + size ≤ length (now values)) × (at + (headerSize + size) ≤ length (now out)) ⌝ }
-    ensures { λ r. ⌜ Wrote (headerOf (row «row_type» «row_selector» size) ++ bytesAt offset size (now (values .entry))) at (now (out .entry)) (now (out .exit)) r ⌝ }
+    requires { (size ≤ largestValue) × (offset + size ≤ length values.now) × (at + (headerSize + size) ≤ length out.old) }
+    ensures { Wrote (headerOf (row row_type row_selector size) ++ bytes_at offset size values.now) at out.old out.new result }
 {
     let from = offset as usize;
     let len = size as usize;
@@ -79,6 +72,7 @@ fn write_part(
 
 // What the rows of a run have in common, rows of one type and size with selectors that are a step apart, and where their values
 // start.
+#[derive(Drop)]
 struct Run {
     part_type: u16,
     selector: u8,
@@ -89,8 +83,8 @@ struct Run {
 
 // By the tables, at the run's first row and the one after it; a run of one row goes no step. At a constant the compiler folds it.
 fn run_at(first: usize) -> Run
-    requires { ⌜ RunStarts first ⌝ }
-    ensures { λ r. ⌜ r ≡ runAt first ⌝ }
+    requires { RunStarts first }
+    ensures { result ≡ run_at first }
 {
     let selectors = SELECTORS;
     Run {
@@ -112,8 +106,8 @@ fn write_run(
     count: usize,
     run: Run,
 ) -> usize
-    requires { ⌜ RunFits (now values) first count run at (now out) ⌝ }
-    ensures { λ r. ⌜ Wrote (runOf (now (values .entry)) first count) at (now (out .entry)) (now (out .exit)) r ⌝ }
+    requires { RunFits values.now first count run at out.old }
+    ensures { Wrote (run_of values.now first count) at out.old out.new result }
 {
     let mut end = at;
     let mut from = run.offset;
@@ -131,8 +125,8 @@ fn write_run(
 // All parts of a member, at the front of what is lent, run by run: the first row of a run and how many rows it has stand here,
 // and the tables say the rest.
 pub fn write_all(out: &mut [u8], values: &[u8], queues: u8)
-    requires { ⌜ CaptureFits queues (now values) (now out) ⌝ }
-    ensures { λ _. ⌜ now (out .exit) ≡ put 0 (captureOf queues (now (values .entry))) (now (out .entry)) ⌝ }
+    requires { CaptureFits queues values.now out.old }
+    ensures { out.new ≡ put 0 (captureOf queues values.now) out.old }
 {
     let n = queues as usize;
     let mut at = write_run(out, 0, values, 0, 1, run_at(0));
@@ -148,7 +142,7 @@ pub fn write_all(out: &mut [u8], values: &[u8], queues: u8)
 
 // Whether the member has the part of this row, and the list asks for it.
 fn is_asked(queues: u8, asked: &[u8], row_type: u16, row_selector: u8) -> bool
-    ensures { λ r. ⌜ r ≡ asks Asked queues (now (asked .entry)) (row «row_type» «row_selector» 0) ⌝ }
+    ensures { result ≡ asks Asked queues asked.now (row row_type row_selector 0) }
 {
     if !inventory::is_present(queues, row_type, row_selector) {
         return false;
@@ -158,8 +152,8 @@ fn is_asked(queues: u8, asked: &[u8], row_type: u16, row_selector: u8) -> bool
 
 // Those parts in the order of the table, at the front of what is lent.
 pub fn write_asked(out: &mut [u8], values: &[u8], queues: u8, asked: &[u8])
-    requires { ⌜ (length (now values) ≡ valuesSize) × (length (partsWritten Asked queues (now asked) (now values)) ≤ length (now out)) ⌝ }
-    ensures { λ _. ⌜ now (out .exit) ≡ put 0 (partsWritten Asked queues (now (asked .entry)) (now (values .entry))) (now (out .entry)) ⌝ }
+    requires { (length values.now ≡ valuesSize) × (length (partsWritten Asked queues asked.now values.now) ≤ length out.old) }
+    ensures { out.new ≡ put 0 (partsWritten Asked queues asked.now values.now) out.old }
 {
     let types = TYPES;
     let selectors = SELECTORS;
@@ -187,7 +181,7 @@ pub fn write_asked(out: &mut [u8], values: &[u8], queues: u8, asked: &[u8])
 
 // The bytes of this row's part, if it is asked for.
 fn asked_size(queues: u8, asked: &[u8], row_type: u16, row_selector: u8, size: u8) -> usize
-    ensures { λ r. ⌜ r ≡ (if asks Asked queues (now (asked .entry)) (row «row_type» «row_selector» 0) then headerSize + size else 0) ⌝ }
+    ensures { result ≡ (if asks Asked queues asked.now (row row_type row_selector 0) then headerSize + size else 0) }
 {
     if !is_asked(queues, asked, row_type, row_selector) {
         return 0;
@@ -197,7 +191,7 @@ fn asked_size(queues: u8, asked: &[u8], row_type: u16, row_selector: u8, size: u
 
 // The bytes of the parts that a list asks for, whatever the values are.
 pub fn asked_bytes(queues: u8, asked: &[u8]) -> usize
-    ensures { λ r. ⌜ ((values : List ℕ) → length values ≡ valuesSize → r ≡ length (partsWritten Asked queues (now (asked .entry)) values)) ⌝ }
+    ensures { (values : List ℕ) → length values ≡ valuesSize → result ≡ length (partsWritten Asked queues asked.now values) }
 {
     let types = TYPES;
     let selectors = SELECTORS;

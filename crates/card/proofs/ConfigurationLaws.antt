@@ -1,26 +1,26 @@
 -- The laws of a member's configuration and generation: what is read after something was written. Assumes nothing.
-use mathlib.Core.Path.{_≡_, ap, sym, _∙_}
-use mathlib.Core.Logic.{_≢_}
-use mathlib.Core.List.{List, _++_}
-use Prim.Native.Nat.{ℕ, _+_, _-_, _^_, _≤_, _<_}
-use native.Mathlib.Nat.{add-sub-cancel-left}
+use mathlib.Core.Path.{◌≡◌, ap, sym, ◌∙◌}
+use mathlib.Core.Logic.{◌≢◌}
+use mathlib.Core.List.{List, ◌++◌}
+use Prim.Native.Nat.{ℕ, ◌+◌, ◌-◌, ◌^◌, ◌≤◌, ◌<◌}
+use native.Mathlib.Nat.{add-sub_cancel_left}
 use native.Mathlib.Omega.{arith}
 use lib.ListN.{length, take, drop, replicate, length-append, length-replicate}
-use lib.Seq.{take-all, take-take, take-at, drop-at}
-use Rattle·theory.specs.Bytes.{bytesAt, put}
-use Rattle·theory.proofs.Bytes.{length-put, put-all, put-append, put-within, length-bytesAt, bytesAt-bytesAt}
-use Rattle·wire.specs.Le.{le, bytes, number}
-use Rattle·wire.proofs.Le.{length-bytes, le-bytes}
-use Rattle·member.specs.Record.{holdingSize, memberOf}
-use Rattle·card·specs.specs.Layout.{configurationAt, configurationSize, generationAt, generationSize, holdingAt, recordSize, setupOf, inUseOf, recordAt, HasRecord, recordBytes, withRecordBytes, memberBytesIn, memberIn, configurationIn, generationIn, withConfiguration, noConfiguration, holdingIn}
-use Rattle·card·proofs.proofs.RecordBytesLaws.{length-with-bytes, setup-with-bytes, use-with-bytes, bytes-same, bytes-after, bytes-behind, bytes-other, bytes-long}
+use lib.Seq.{take_all, take-take, take_at, drop_at}
+use Rattle.theory.specs.Bytes.{bytes_at, put}
+use Rattle.theory.proofs.Bytes.{length-put, put_all, put-append, put-within, length-bytesAt, bytesAt-bytesAt}
+use Rattle.wire.specs.Le.{le, bytes, number}
+use Rattle.wire.proofs.Le.{length-bytes, le_bytes}
+use Rattle.member.specs.Record.{holdingSize, memberOf}
+use Rattle.card.specs.Layout.{configurationAt, configurationSize, generationAt, generationSize, holdingAt, recordSize, setupOf, inUseOf, recordAt, HasRecord, recordBytes, withRecordBytes, memberBytesIn, memberIn, configurationIn, generationIn, withConfiguration, noConfiguration, holdingIn}
+use Rattle.card.proofs.RecordBytesLaws.{length-with-bytes, setup-with-bytes, use-with-bytes, bytes_same, bytes_after, bytes-behind, bytes-other, bytes-long}
 
 -- the two together
 abbrev bothSize : ℕ
 bothSize = configurationSize + generationSize
 
-both-long : (x : List ℕ) (g : ℕ) → length x ≡ configurationSize → length (x ++ bytes generationSize g) ≡ bothSize
-both-long x g e = rw (length-append, e, length-bytes generationSize g)
+both_long : (x : List ℕ) (g : ℕ) → length x ≡ configurationSize → length (x ++ bytes generationSize g) ≡ bothSize
+both_long x g e = rw (length-append, e, length-bytes generationSize g)
 
 module _ (c : List ℕ) (m : ℕ) (x : List ℕ) (g : ℕ) where
   pub length-with-configuration : length (withConfiguration c m x g) ≡ length c
@@ -46,28 +46,28 @@ module _ (c : List ℕ) (m : ℕ) (x : List ℕ) (g : ℕ) where
 
   pub holding-with-configuration : holdingIn (withConfiguration c m x g) m ≡ holdingIn c m
   unfolding withConfiguration holdingIn
-  holding-with-configuration = bytes-after c m configurationAt bothSize _ holdingAt holdingSize (omega arith)
+  holding-with-configuration = bytes_after c m configurationAt bothSize _ holdingAt holdingSize (omega arith)
 
   -- both are there
   module _ (h : HasRecord c m) (e : length x ≡ configurationSize) where
     both-there : recordBytes (withConfiguration c m x g) m configurationAt bothSize ≡ x ++ bytes generationSize g
     unfolding withConfiguration
-    both-there = bytes-same c m configurationAt bothSize _ h (omega arith) (both-long x g e)
+    both-there = bytes_same c m configurationAt bothSize _ h (omega arith) (both_long x g e)
 
     pub configuration-same : configurationIn (withConfiguration c m x g) m ≡ x
     unfolding configurationIn recordBytes
     configuration-same =
         sym (take-take configurationSize bothSize (drop (recordAt m + configurationAt) (withConfiguration c m x g)) (omega arith))
-        ∙ ap (take configurationSize) both-there ∙ take-at x (bytes generationSize g) configurationSize e
+        ∙ ap (take configurationSize) both-there ∙ take_at x (bytes generationSize g) configurationSize e
 
     pub generation-same : g < 256 ^ 4 → generationIn (withConfiguration c m x g) m ≡ g
     unfolding generationIn recordBytes
     generation-same l =
         let k : recordAt m + configurationAt + configurationSize ≡ recordAt m + generationAt = omega arith in
         let w = bytesAt-bytesAt configurationSize generationSize (recordAt m + configurationAt) bothSize (withConfiguration c m x g) (omega arith) in
-        ap le (sym (rw k at w) ∙ ap (bytesAt configurationSize generationSize) both-there
-        ∙ rw (drop-at x (bytes generationSize g) configurationSize e) (take-all generationSize (bytes generationSize g) (omega (arith, length-bytes generationSize g))))
-        ∙ le-bytes generationSize g l
+        ap le (sym (rw k at w) ∙ ap (bytes_at configurationSize generationSize) both-there
+        ∙ rw (drop_at x (bytes generationSize g) configurationSize e) (take_all generationSize (bytes generationSize g) (omega (arith, length-bytes generationSize g))))
+        ∙ le_bytes generationSize g l
 
   -- any bytes of another record
   pub configuration-apart : (k at n : ℕ) → at + n ≤ recordSize → 1 ≤ m → 1 ≤ k → k ≢ m → recordBytes (withConfiguration c m x g) k at n ≡ recordBytes c k at n
@@ -90,9 +90,9 @@ module _ (c : List ℕ) (m : ℕ) where
       place : at ≡ recordAt m + configurationAt
       place = rw (e, d)
 
-      pub configuration-lent : bytesAt at (at + configurationSize - at) c ≡ configurationIn c m
+      pub configuration-lent : bytes_at at (at + configurationSize - at) c ≡ configurationIn c m
       unfolding configurationIn recordBytes
-      configuration-lent = rw (add-sub-cancel-left at configurationSize, place)
+      configuration-lent = rw (add-sub_cancel_left at configurationSize, place)
 
       -- bytes were written from a place in it on, and then the generation
       pub configuration-written : (from : ℕ) (x q r : List ℕ) (g : ℕ) → from + length x ≤ configurationSize → HasRecord c m → q ≡ put (at + from) x c
@@ -100,16 +100,16 @@ module _ (c : List ℕ) (m : ℕ) where
       unfolding withConfiguration configurationIn withRecordBytes recordBytes
       configuration-written from x q r g i h a b =
           let l = recordAt m + configurationAt in
-          let y = put from x (bytesAt l configurationSize c) in
-          let n : length y ≡ configurationSize = rw length-put (length-bytesAt l configurationSize c (omega (arith, h .high))) in
-          let k : l + length y ≡ l + configurationSize = ap (l +_) n in
+          let y = put from x (bytes_at l configurationSize c) in
+          let n : length y ≡ configurationSize = rw length-put (length-bytesAt l configurationSize c (omega (arith, h.high))) in
+          let k : l + length y ≡ l + configurationSize = ap (l +◌) n in
           b ∙ rw (
             a,
             place,
-            take-all bothSize (y ++ bytes generationSize g) (omega (arith, both-long y g n)),
+            take_all bothSize (y ++ bytes generationSize g) (omega (arith, both_long y g n)),
             put-append l y (bytes generationSize g) c,
             k,
-            put-within l configurationSize from x c i (omega (arith, h .high)),
+            put-within l configurationSize from x c i (omega (arith, h.high)),
           )
 
 -- zeros were written over all of it
@@ -117,4 +117,4 @@ pub configuration-zeroed : (c d : List ℕ) (m g : ℕ) → HasRecord c m
     → d ≡ withConfiguration c m (put 0 (replicate configurationSize 0) (configurationIn c m)) g → d ≡ withConfiguration c m noConfiguration g
 unfolding noConfiguration
 configuration-zeroed c d m g h q =
-    q ∙ rw (put-all (replicate configurationSize 0) (configurationIn c m) (length-replicate {A = ℕ} configurationSize 0 ∙ sym (configuration-long c m h)))
+    q ∙ rw (put_all (replicate configurationSize 0) (configurationIn c m) (length-replicate {A = ℕ} configurationSize 0 ∙ sym (configuration-long c m h)))

@@ -1,18 +1,18 @@
 -- The laws of a member's bytes and of its holding place: what is read after something was written. Assumes nothing.
-use mathlib.Core.Path.{_≡_, ap, _∙_, sym}
-use mathlib.Core.Logic.{_≢_}
+use mathlib.Core.Path.{◌≡◌, ap, ◌∙◌, sym}
+use mathlib.Core.Logic.{◌≢◌}
 use mathlib.Core.List.{List}
-use Prim.Native.Nat.{ℕ, _≤_, _+_, _<_}
+use Prim.Native.Nat.{ℕ, ◌≤◌, ◌+◌, ◌<◌}
 use native.Mathlib.Omega.{arith}
-use lib.ListN.{length, getD, take, length-take}
-use lib.Seq.{getD-take}
-use Rattle·theory.specs.Bytes.{put}
-use Rattle·theory.proofs.Bytes.{bytesAt-put, getD-bytesAt}
-use Rattle·member.specs.declared.Member.{Member}
-use Rattle·member.specs.Record.{memberSize, holdingSize, memberOf, memberBytes}
-use Rattle·member.proofs.Record.{Shaped, length-member, member-back}
-use Rattle·card·specs.specs.Layout.{memberBytesAt, holdingAt, setupOf, inUseOf, HasRecord, memberBytesIn, memberIn, withMember, holdingIn, withHolding, recordAt, recordBytes, withRecordBytes}
-use Rattle·card·proofs.proofs.RecordBytesLaws.{length-with-bytes, setup-with-bytes, use-with-bytes, bytes-same, bytes-over, bytes-after, bytes-apart, bytes-other, bytes-behind}
+use lib.ListN.{length, get_or, take, length-take}
+use lib.Seq.{get_or-take}
+use Rattle.theory.specs.Bytes.{put}
+use Rattle.theory.proofs.Bytes.{bytesAt-put, getD-bytesAt}
+use Rattle.member.specs.declared.Member.{Member}
+use Rattle.member.specs.Record.{memberSize, holdingSize, memberOf, memberBytes}
+use Rattle.member.proofs.Record.{Shaped, length-member, member_back}
+use Rattle.card.specs.Layout.{memberBytesAt, holdingAt, setupOf, inUseOf, HasRecord, memberBytesIn, memberIn, withMember, holdingIn, withHolding, recordAt, recordBytes, withRecordBytes}
+use Rattle.card.proofs.RecordBytesLaws.{length-with-bytes, setup-with-bytes, use-with-bytes, bytes_same, bytes-over, bytes_after, bytes_apart, bytes-other, bytes-behind}
 
 -- ---- a member ----
 
@@ -31,7 +31,7 @@ module _ (c : List ℕ) (m : ℕ) (x : Member) where
 
   pub member-same : HasRecord c m → Shaped x → memberIn (withMember c m x) m ≡ x
   unfolding withMember memberIn
-  member-same h s = ap memberOf (bytes-same c m memberBytesAt memberSize (memberBytes x) h (omega arith) (length-member x s)) ∙ member-back x s
+  member-same h s = ap memberOf (bytes_same c m memberBytesAt memberSize (memberBytes x) h (omega arith) (length-member x s)) ∙ member_back x s
 
   pub member-other : (k : ℕ) → 1 ≤ m → 1 ≤ k → k ≢ m → memberIn (withMember c m x) k ≡ memberIn c k
   unfolding withMember memberIn
@@ -39,15 +39,15 @@ module _ (c : List ℕ) (m : ℕ) (x : Member) where
 
   -- a byte of it, of any member
   pub member-byte : (i : ℕ) → HasRecord c m → i < memberSize → i < length (memberBytes x)
-      → getD (memberBytesIn (withMember c m x) m) i 0 ≡ getD (memberBytes x) i 0
+      → get_or (memberBytesIn (withMember c m x) m) i 0 ≡ get_or (memberBytes x) i 0
   unfolding withMember recordBytes withRecordBytes
   member-byte i h j l =
       let a = recordAt m + memberBytesAt in
       let y = take memberSize (memberBytes x) in
       let n = length-take memberSize (memberBytes x) in
       getD-bytesAt a memberSize i (put a y c) j ∙ sym (getD-bytesAt a (length y) i (put a y c) (omega arith))
-      ∙ ap (λ z. getD z i 0) (bytesAt-put a y c (omega (arith, h .high)))
-      ∙ getD-take memberSize (memberBytes x) i 0 j
+      ∙ ap (λ z. get_or z i 0) (bytesAt-put a y c (omega (arith, h.high)))
+      ∙ get_or-take memberSize (memberBytes x) i 0 j
 
   -- the member that is put last stands
   pub member-over : (y : Member) → Shaped y → withMember (withMember c m x) m y ≡ withMember c m y
@@ -58,7 +58,7 @@ module _ (c : List ℕ) (m : ℕ) (x : Member) where
 
 pub holding-with-member : (c : List ℕ) (m : ℕ) (x : Member) → holdingIn (withMember c m x) m ≡ holdingIn c m
 unfolding withMember holdingIn
-holding-with-member c m x = bytes-after c m memberBytesAt memberSize (memberBytes x) holdingAt holdingSize (omega arith)
+holding-with-member c m x = bytes_after c m memberBytesAt memberSize (memberBytes x) holdingAt holdingSize (omega arith)
 
 module _ (c : List ℕ) (m : ℕ) (x : List ℕ) where
   pub length-with-holding : length (withHolding c m x) ≡ length c
@@ -84,7 +84,7 @@ module _ (c : List ℕ) (m : ℕ) (x : List ℕ) where
 
   pub holding-same : HasRecord c m → length x ≡ holdingSize → holdingIn (withHolding c m x) m ≡ x
   unfolding withHolding holdingIn
-  holding-same h e = bytes-same c m holdingAt holdingSize x h (omega arith) e
+  holding-same h e = bytes_same c m holdingAt holdingSize x h (omega arith) e
 
   pub holding-over : (y : List ℕ) → length y ≡ holdingSize → withHolding (withHolding c m x) m y ≡ withHolding c m y
   unfolding withHolding
@@ -93,4 +93,4 @@ module _ (c : List ℕ) (m : ℕ) (x : List ℕ) where
   -- a member is put before or after
   pub holding-swap : (y : Member) → withMember (withHolding c m x) m y ≡ withHolding (withMember c m y) m x
   unfolding withHolding withMember
-  holding-swap y = bytes-apart c m memberBytesAt memberSize (memberBytes y) holdingAt holdingSize x (omega arith)
+  holding-swap y = bytes_apart c m memberBytesAt memberSize (memberBytes y) holdingAt holdingSize x (omega arith)

@@ -1,46 +1,46 @@
 -- Any bytes of a member's record, read after something was written. The laws of what stands in a record are uses of these
 -- at its place. Assumes nothing.
-use mathlib.Core.Path.{_≡_, ap, sym}
-use mathlib.Core.Logic.{_≢_}
-use mathlib.Core.List.{List, _++_}
-use Prim.Native.Nat.{ℕ, _+_, _≤_, _<_}
+use mathlib.Core.Path.{◌≡◌, ap, sym}
+use mathlib.Core.Logic.{◌≢◌}
+use mathlib.Core.List.{List, ◌++◌}
+use Prim.Native.Nat.{ℕ, ◌+◌, ◌≤◌, ◌<◌}
 use native.Mathlib.Omega.{arith}
 use lib.Dec.{leb, eqb}
 use borrow.Author.Tests.{eqb-true, eqb-false}
 use lib.ListN.{length, take, drop}
-use lib.Seq.{take-take, take-all, drop-drop}
-use borrow.Rule.Slice.PartMut.{putMid}
-use Rattle·theory.proofs.Tests.{by-cases, tests}
-use Rattle·theory.proofs.Bytes.{length-put, put-bytesAt, put-over, put-comm, put-out, put-eq, bytesAt-before, bytesAt-after, bytesAt-put-as, length-bytesAt, length-bytesAt-le}
-use Rattle·wire.proofs.Le.{number-before}
-use Rattle·member.specs.Record.{memberSize}
-use Rattle·card·specs.specs.Layout.{inUseAt, cardHeaderSize, memberBytesAt, configurationAt, recordSize, cardSize, setupIn, setupOf, inUseOf, recordAt, HasRecord, recordBytes, withRecordBytes, memberBytesIn}
+use lib.Seq.{take-take, take_all, drop-drop}
+use borrow.Rule.Slice.PartMut.{put_mid}
+use Rattle.theory.proofs.Tests.{by_cases, tests}
+use Rattle.theory.proofs.Bytes.{length-put, put-bytesAt, put-over, put-comm, put-out, put-eq, bytesAt-before, bytesAt-after, bytesAt-put-as, length-bytesAt, length-bytesAt-le}
+use Rattle.wire.proofs.Le.{number-before}
+use Rattle.member.specs.Record.{memberSize}
+use Rattle.card.specs.Layout.{inUseAt, cardHeaderSize, memberBytesAt, configurationAt, recordSize, cardSize, setupIn, setupOf, inUseOf, recordAt, HasRecord, recordBytes, withRecordBytes, memberBytesIn}
 
 -- bytes that are as many as their place has are not cut
 pub uncut : (n : ℕ) (x : List ℕ) → length x ≡ n → take n x ≡ x
-uncut n x e = take-all n x (omega arith)
+uncut n x e = take_all n x (omega arith)
 
 cut : (n : ℕ) (x : List ℕ) → length (take n x) ≤ n
 cut n x = length-bytesAt-le 0 n x
 
 -- members 1 to N of a card of the right length
-pub has-record : (c : List ℕ) (m : ℕ) → length c ≡ cardSize (setupOf c .members) → 1 ≤ m → m ≤ setupOf c .members → HasRecord c m
+pub has-record : (c : List ℕ) (m : ℕ) → length c ≡ cardSize (setupOf c).members → 1 ≤ m → m ≤ (setupOf c).members → HasRecord c m
 has-record c m e l h = record { low = l; high = omega arith }
 
-pub head-there : (c : List ℕ) → length c ≡ cardSize (setupOf c .members) → cardHeaderSize ≤ length c
+pub head-there : (c : List ℕ) → length c ≡ cardSize (setupOf c).members → cardHeaderSize ≤ length c
 head-there c e = omega arith
 
 pub has-header : (c : List ℕ) (m : ℕ) → HasRecord c m → cardHeaderSize ≤ length c
-has-header c m h = omega (arith, h .high)
+has-header c m h = omega (arith, h.high)
 
 pub bytes-long : (c : List ℕ) (m at n : ℕ) → HasRecord c m → at + n ≤ recordSize → length (recordBytes c m at n) ≡ n
 unfolding recordBytes
-bytes-long c m at n h i = length-bytesAt (recordAt m + at) n c (omega (arith, h .high))
+bytes-long c m at n h i = length-bytesAt (recordAt m + at) n c (omega (arith, h.high))
 
 -- to put what is there changes nothing
-pub bytes-back : (c : List ℕ) (m at n : ℕ) → withRecordBytes c m at n (recordBytes c m at n) ≡ c
+pub bytes_back : (c : List ℕ) (m at n : ℕ) → withRecordBytes c m at n (recordBytes c m at n) ≡ c
 unfolding withRecordBytes recordBytes
-bytes-back c m at n = rw (take-take n n (drop (recordAt m + at) c) (omega arith)) (put-bytesAt (recordAt m + at) n c)
+bytes_back c m at n = rw (take-take n n (drop (recordAt m + at) c) (omega arith)) (put-bytesAt (recordAt m + at) n c)
 
 module _ (c : List ℕ) (m at n : ℕ) (x : List ℕ) where
   pub length-with-bytes : length (withRecordBytes c m at n x) ≡ length c
@@ -56,9 +56,9 @@ module _ (c : List ℕ) (m at n : ℕ) (x : List ℕ) where
   use-with-bytes = number-before inUseAt 8 (recordAt m + at) (take n x) c (omega arith)
 
   -- what is put there is there
-  pub bytes-same : HasRecord c m → at + n ≤ recordSize → length x ≡ n → recordBytes (withRecordBytes c m at n x) m at n ≡ x
+  pub bytes_same : HasRecord c m → at + n ≤ recordSize → length x ≡ n → recordBytes (withRecordBytes c m at n x) m at n ≡ x
   unfolding withRecordBytes recordBytes
-  bytes-same h i e = rw (uncut n x e) (bytesAt-put-as (recordAt m + at) n x c e (omega (arith, h .high)))
+  bytes_same h i e = rw (uncut n x e) (bytesAt-put-as (recordAt m + at) n x c e (omega (arith, h.high)))
 
   -- and is covered by what is put over it
   pub bytes-over : (p k : ℕ) (y : List ℕ) → p ≤ at → at + n ≤ p + k → length y ≡ k
@@ -71,18 +71,18 @@ module _ (c : List ℕ) (m at n : ℕ) (x : List ℕ) where
   unfolding withRecordBytes recordBytes
   bytes-before p k h = bytesAt-before (recordAt m + p) k (recordAt m + at) (take n x) c (omega arith)
 
-  pub bytes-after : (p k : ℕ) → at + n ≤ p → recordBytes (withRecordBytes c m at n x) m p k ≡ recordBytes c m p k
+  pub bytes_after : (p k : ℕ) → at + n ≤ p → recordBytes (withRecordBytes c m at n x) m p k ≡ recordBytes c m p k
   unfolding withRecordBytes recordBytes
-  bytes-after p k h = let w = cut n x in bytesAt-after (recordAt m + p) k (recordAt m + at) (take n x) c (omega arith)
+  bytes_after p k h = let w = cut n x in bytesAt-after (recordAt m + p) k (recordAt m + at) (take n x) c (omega arith)
 
   -- bytes of the same record, one after the other, are put in either order
-  pub bytes-apart : (p k : ℕ) (y : List ℕ) → at + n ≤ p
+  pub bytes_apart : (p k : ℕ) (y : List ℕ) → at + n ≤ p
       → withRecordBytes (withRecordBytes c m p k y) m at n x ≡ withRecordBytes (withRecordBytes c m at n x) m p k y
   unfolding withRecordBytes
-  bytes-apart p k y h = let w = cut n x in put-comm (recordAt m + at) (take n x) (recordAt m + p) (take k y) c (omega arith)
+  bytes_apart p k y h = let w = cut n x in put-comm (recordAt m + at) (take n x) (recordAt m + p) (take k y) c (omega arith)
 
   -- there is no member m
-  pub bytes-none : length c ≡ cardSize (setupOf c .members) → setupOf c .members < m → withRecordBytes c m at n x ≡ c
+  pub bytes-none : length c ≡ cardSize (setupOf c).members → (setupOf c).members < m → withRecordBytes c m at n x ≡ c
   unfolding withRecordBytes
   bytes-none e h = put-out (recordAt m + at) (take n x) c (omega arith)
 
@@ -92,7 +92,7 @@ module _ (c : List ℕ) (m at n : ℕ) (x : List ℕ) where
     unfolding withRecordBytes recordBytes
     bytes-other k p j i h e =
         let w = cut n x in
-        by-cases (leb k m)
+        by_cases (leb k m)
         (λ t. bytesAt-before (recordAt k + p) j (recordAt m + at) (take n x) c (omega tests))
         (λ t. bytesAt-after (recordAt k + p) j (recordAt m + at) (take n x) c (omega tests))
 
@@ -103,23 +103,23 @@ module _ (c : List ℕ) (m at n : ℕ) (x : List ℕ) where
     bytes-swap k p j y i h e =
         let w = cut n x in
         let v = cut j y in
-        by-cases (leb k m)
+        by_cases (leb k m)
         (λ t. put-comm (recordAt k + p) (take j y) (recordAt m + at) (take n x) c (omega tests))
         (λ t. sym (put-comm (recordAt m + at) (take n x) (recordAt k + p) (take j y) c (omega tests)))
 
     -- bytes behind a member's touch no member
     pub bytes-behind : configurationAt ≤ at → (k : ℕ) → 1 ≤ k → memberBytesIn (withRecordBytes c m at n x) k ≡ memberBytesIn c k
-    bytes-behind b k h = by-cases (eqb k m)
+    bytes-behind b k h = by_cases (eqb k m)
         (λ t. rw (eqb-true k m t) (bytes-before memberBytesAt memberSize (omega arith)))
         (λ t. bytes-other k memberBytesAt memberSize (omega arith) h (eqb-false k m t))
 
   -- byte by byte
-  pub bytes-eq : HasRecord c m → at + n ≤ recordSize → length x ≡ n
+  pub bytes_eq : HasRecord c m → at + n ≤ recordSize → length x ≡ n
       → withRecordBytes c m at n x ≡ take (recordAt m + at) c ++ (x ++ drop (recordAt m + at + n) c)
   unfolding withRecordBytes
-  bytes-eq h i e = rw (uncut n x e) (rw e at (put-eq (recordAt m + at) x c (omega (arith, h .high))))
+  bytes_eq h i e = rw (uncut n x e) (rw e at (put-eq (recordAt m + at) x c (omega (arith, h.high))))
 
   -- as code leaves it that lends k bytes there and gets x back
   pub bytes-lent : (p k : ℕ) (last : List ℕ) → p ≡ recordAt m + at → k ≡ n → last ≡ x → length x ≡ n → at + n ≤ recordSize → HasRecord c m
-      → putMid p k c last ≡ withRecordBytes c m at n x
-  bytes-lent p k last d j q e i h = rw (d, j, q, drop-drop n (recordAt m + at) c) (sym (bytes-eq h i e))
+      → put_mid p k c last ≡ withRecordBytes c m at n x
+  bytes-lent p k last d j q e i h = rw (d, j, q, drop-drop n (recordAt m + at) c) (sym (bytes_eq h i e))

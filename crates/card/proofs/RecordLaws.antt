@@ -1,22 +1,22 @@
 -- The laws of a whole record: its length, and what is read after one was written. Assumes nothing.
-use mathlib.Core.Path.{_≡_, refl, ap, _∙_}
-use mathlib.Core.Logic.{_≢_}
-use mathlib.Core.List.{List, _++_, append-assoc}
-use Prim.Native.Nat.{ℕ, _+_, _≤_, _<_}
+use mathlib.Core.Path.{◌≡◌, refl, ap, ◌∙◌}
+use mathlib.Core.Logic.{◌≢◌}
+use mathlib.Core.List.{List, ◌++◌, append_assoc}
+use Prim.Native.Nat.{ℕ, ◌+◌, ◌≤◌, ◌<◌}
 use native.Mathlib.Nat.{add-zero}
 use native.Mathlib.Omega.{arith}
 use lib.ListN.{length, take, drop, length-append, length-replicate}
-use lib.Seq.{take-at}
-use Rattle·theory.specs.Bytes.{bytesAt, put}
-use Rattle·theory.proofs.Bytes.{put-append, bytesAt-bytesAt}
-use Rattle·wire.specs.Le.{bytes}
-use Rattle·wire.proofs.Le.{length-bytes}
-use Rattle·member.specs.declared.Member.{Member}
-use Rattle·member.specs.Record.{memberSize, holdingSize, memberOf, memberBytes}
-use Rattle·member.proofs.Record.{Shaped, length-member, member-back}
-use Rattle·card·specs.specs.Layout.{memberBytesAt, configurationAt, configurationSize, generationSize, holdingAt, recordSize, cardSize, setupOf, inUseOf, withInUse, recordAt, HasRecord, recordBytes, withRecordBytes, memberBytesIn, memberIn, withMember, withConfiguration, noConfiguration, withHolding, noBytes, recordOf, withRecord}
-use Rattle·card·proofs.proofs.RecordBytesLaws.{uncut, length-with-bytes, setup-with-bytes, use-with-bytes, bytes-same, bytes-over, bytes-none, bytes-other, bytes-swap, bytes-eq}
-use Rattle·card·proofs.proofs.HeaderLaws.{use-swap}
+use lib.Seq.{take_at}
+use Rattle.theory.specs.Bytes.{bytes_at, put}
+use Rattle.theory.proofs.Bytes.{put-append, bytesAt-bytesAt}
+use Rattle.wire.specs.Le.{bytes}
+use Rattle.wire.proofs.Le.{length-bytes}
+use Rattle.member.specs.declared.Member.{Member}
+use Rattle.member.specs.Record.{memberSize, holdingSize, memberOf, memberBytes}
+use Rattle.member.proofs.Record.{Shaped, length-member, member_back}
+use Rattle.card.specs.Layout.{memberBytesAt, configurationAt, configurationSize, generationSize, holdingAt, recordSize, cardSize, setupOf, inUseOf, withInUse, recordAt, HasRecord, recordBytes, withRecordBytes, memberBytesIn, memberIn, withMember, withConfiguration, noConfiguration, withHolding, noBytes, recordOf, withRecord}
+use Rattle.card.proofs.RecordBytesLaws.{uncut, length-with-bytes, setup-with-bytes, use-with-bytes, bytes_same, bytes-over, bytes-none, bytes-other, bytes-swap, bytes_eq}
+use Rattle.card.proofs.HeaderLaws.{use-swap}
 
 pub no-bytes-long : length noBytes ≡ holdingSize
 unfolding noBytes
@@ -35,12 +35,12 @@ module _ (x : Member) (g : ℕ) (s : Shaped x) where
       rw (length-append, length-append, length-append) (omega (arith, no-configuration-long, no-bytes-long))
 
   -- its front is the member's
-  pub record-front : bytesAt memberBytesAt memberSize (recordOf x g) ≡ memberBytes x
+  pub record-front : bytes_at memberBytesAt memberSize (recordOf x g) ≡ memberBytes x
   unfolding recordOf
-  record-front = take-at (memberBytes x) _ memberSize (length-member x s)
+  record-front = take_at (memberBytes x) _ memberSize (length-member x s)
 
 -- the member's bytes are the front of its record
-pub member-front : (c : List ℕ) (m : ℕ) (r : List ℕ) → recordBytes c m 0 recordSize ≡ r → memberBytesIn c m ≡ bytesAt memberBytesAt memberSize r
+pub member-front : (c : List ℕ) (m : ℕ) (r : List ℕ) → recordBytes c m 0 recordSize ≡ r → memberBytesIn c m ≡ bytes_at memberBytesAt memberSize r
 unfolding recordBytes
 member-front c m r e =
     let k : recordAt m + 0 + memberBytesAt ≡ recordAt m + memberBytesAt = omega arith in
@@ -64,13 +64,13 @@ module _ (c : List ℕ) (m : ℕ) (y : Member) (g : ℕ) where
   use-with-record = use-with-bytes c m 0 recordSize (recordOf y g)
 
   -- another record is as it was, and so is another member
-  pub record-apart : (k at n : ℕ) → at + n ≤ recordSize → 1 ≤ m → 1 ≤ k → k ≢ m → recordBytes (withRecord c m y g) k at n ≡ recordBytes c k at n
+  pub record_apart : (k at n : ℕ) → at + n ≤ recordSize → 1 ≤ m → 1 ≤ k → k ≢ m → recordBytes (withRecord c m y g) k at n ≡ recordBytes c k at n
   unfolding withRecord
-  record-apart k at n i l h e = bytes-other c m 0 recordSize (recordOf y g) (omega arith) l k at n i h e
+  record_apart k at n i l h e = bytes-other c m 0 recordSize (recordOf y g) (omega arith) l k at n i h e
 
   pub record-other : (k : ℕ) → 1 ≤ m → 1 ≤ k → k ≢ m → memberIn (withRecord c m y g) k ≡ memberIn c k
   unfolding memberIn
-  record-other k l h n = ap memberOf (record-apart k memberBytesAt memberSize (omega arith) l h n)
+  record-other k l h n = ap memberOf (record_apart k memberBytesAt memberSize (omega arith) l h n)
 
   -- bytes of another record, and the list in use, are put in either order
   pub record-swap : (k at n : ℕ) (x : List ℕ) → 1 ≤ m → at + n ≤ recordSize → 1 ≤ k → k ≢ m
@@ -82,7 +82,7 @@ module _ (c : List ℕ) (m : ℕ) (y : Member) (g : ℕ) where
   unfolding withRecord
   record-use mask = use-swap c mask m 0 recordSize (recordOf y g)
 
-  pub record-none : length c ≡ cardSize (setupOf c .members) → setupOf c .members < m → withRecord c m y g ≡ c
+  pub record-none : length c ≡ cardSize (setupOf c).members → (setupOf c).members < m → withRecord c m y g ≡ c
   unfolding withRecord
   record-none e h = bytes-none c m 0 recordSize (recordOf y g) e h
 
@@ -99,7 +99,7 @@ module _ (c : List ℕ) (m : ℕ) (y : Member) (g : ℕ) where
     -- byte by byte
     pub record-eq : HasRecord c m → withRecord c m y g ≡ take (recordAt m) c ++ (recordOf y g ++ drop (recordAt m + recordSize) c)
     unfolding withRecord
-    record-eq h = rw add-zero at (bytes-eq c m 0 recordSize (recordOf y g) h (omega arith) (record-long y g s))
+    record-eq h = rw add-zero at (bytes_eq c m 0 recordSize (recordOf y g) h (omega arith) (record-long y g s))
 
     -- as code leaves it that stores the record from its place on
     pub record-put : put (recordAt m) (recordOf y g) c ≡ withRecord c m y g
@@ -110,11 +110,11 @@ module _ (c : List ℕ) (m : ℕ) (y : Member) (g : ℕ) where
     pub member-bytes-with-record : HasRecord c m → memberBytesIn (withRecord c m y g) m ≡ memberBytes y
     unfolding withRecord
     member-bytes-with-record h =
-        member-front _ m _ (bytes-same c m 0 recordSize (recordOf y g) h (omega arith) (record-long y g s)) ∙ record-front y g s
+        member-front _ m _ (bytes_same c m 0 recordSize (recordOf y g) h (omega arith) (record-long y g s)) ∙ record-front y g s
 
     pub member-with-record : HasRecord c m → memberIn (withRecord c m y g) m ≡ y
     unfolding memberIn
-    member-with-record h = ap memberOf (member-bytes-with-record h) ∙ member-back y s
+    member-with-record h = ap memberOf (member-bytes-with-record h) ∙ member_back y s
 
 -- as code leaves it that saves the member, and makes the rest of its record zero
 pub record-in-three : (c : List ℕ) (m : ℕ) (z : Member) (g : ℕ) → Shaped z
@@ -130,7 +130,7 @@ record-in-three c m z g s =
     let at : recordAt m + 0 + length x ≡ recordAt m + configurationAt = rw n (omega arith) in
     let on : recordAt m + configurationAt + length y ≡ recordAt m + holdingAt = rw k (omega arith) in
     rw (
-      ← append-assoc noConfiguration (bytes generationSize g) noBytes,
+      ← append_assoc noConfiguration (bytes generationSize g) noBytes,
       uncut recordSize _ r,
       uncut memberSize x n,
       uncut (configurationSize + generationSize) y k,

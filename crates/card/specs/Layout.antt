@@ -1,17 +1,14 @@
 -- The card (01's term for the device that owns the group) is a list of bytes, SPEC 2.7: a header, then a record for each
 -- of its N members. What is in it, and the card with something else there. Assumes nothing.
-use mathlib.Core.Bool.{Bool}
-use mathlib.Core.List.{List, [], _∷_, _++_}
-use Prim.Native.Nat.{ℕ, zero, suc, _+_, _*_, _-_, _≤_}
-use lib.ListN.{length, getD, take, drop, replicate}
-use Rattle·theory.specs.Logic.{if_then_else_, _and_, within}
-use Rattle·theory.specs.Bytes.{bytesAt, put}
-use Rattle·wire.specs.Le.{le, bytes, number}
-use Rattle·protocol.specs.Opcodes.{freshMask}
-use Rattle·member.specs.declared.Member.{Member}
-use Rattle·member.specs.Record.{memberSize, holdingSize, memberOf, memberBytes}
-use Rattle·member.specs.Member.{freshOf}
-use Rattle·card·specs.specs.declared.Setup.{Setup}
+use Rattle.std.specs.Prelude.{Bool, List, [], ◌∷◌, ◌++◌, ℕ, zero, suc, ◌+◌, ◌*◌, ◌-◌, ◌≤◌, length, get_or, take, drop, replicate}
+use Rattle.theory.specs.Logic.{if◌then◌else◌, ◌and◌, within}
+use Rattle.theory.specs.Bytes.{bytes_at, put}
+use Rattle.wire.specs.Le.{le, bytes, number}
+use Rattle.protocol.specs.Opcodes.{freshMask}
+use Rattle.member.specs.declared.Member.{Member}
+use Rattle.member.specs.Record.{memberSize, holdingSize, memberOf, memberBytes}
+use Rattle.member.specs.Member.{fresh_of}
+use Rattle.card.specs.declared.Setup.{Setup}
 
 -- raised whenever a card's bytes change their meaning
 abbrev pub version : ℕ
@@ -58,10 +55,10 @@ cardBytes members = if within 1 16 members then cardSize members else 0
 
 unfoldable pub setupIn : List ℕ → Setup
 setupIn h =
-    record { members = getD h 0 0; gets = getD h 1 0; sets = getD h 2 0; features = drop featuresAt h }
+    record { members = get_or h 0 0; gets = get_or h 1 0; sets = get_or h 2 0; features = drop featuresAt h }
 
 unfoldable pub setupOf : List ℕ → Setup
-setupOf c = setupIn (bytesAt 0 inUseAt c)
+setupOf c = setupIn (bytes_at 0 inUseAt c)
 
 -- the list of commands in use
 unfoldable pub inUseOf : List ℕ → ℕ
@@ -72,7 +69,7 @@ withInUse c mask = put inUseAt (bytes 8 mask) c
 
 -- members are identified 1 to N
 abbrev pub isMember : List ℕ → ℕ → Bool
-isMember c m = within 1 (setupOf c .members) m
+isMember c m = within 1 (setupOf c).members m
 
 abbrev pub recordAt : ℕ → ℕ
 recordAt m = cardHeaderSize + recordSize * (m - 1)
@@ -84,7 +81,7 @@ pub record HasRecord (c : List ℕ) (m : ℕ) : Type 0 where
 
 -- n bytes of member m's record, from an offset; what is put there is cut to their number
 unfoldable pub recordBytes : List ℕ → ℕ → ℕ → ℕ → List ℕ
-recordBytes c m at n = bytesAt (recordAt m + at) n c
+recordBytes c m at n = bytes_at (recordAt m + at) n c
 
 unfoldable pub withRecordBytes : List ℕ → ℕ → ℕ → ℕ → List ℕ → List ℕ
 withRecordBytes c m at n x = put (recordAt m + at) (take n x) c
@@ -102,14 +99,14 @@ withMember c m x = withRecordBytes c m memberBytesAt memberSize (memberBytes x)
 -- the queue counts of n members from m on, and of all members (02, request 9)
 unfoldable pub countsFrom : List ℕ → ℕ → ℕ → List ℕ
 countsFrom c m zero = []
-countsFrom c m (suc n) = memberIn c m .queues ∷ countsFrom c (suc m) n
+countsFrom c m (suc n) = (memberIn c m).queues ∷ countsFrom c (suc m) n
 
 unfoldable pub countsOf : List ℕ → List ℕ
-countsOf c = countsFrom c 1 (setupOf c .members)
+countsOf c = countsFrom c 1 (setupOf c).members
 
 -- member m is marked (02's term, request 10): it is handed back and not yet wiped
 unfoldable pub isMarked : List ℕ → ℕ → Bool
-isMarked c m = isMember c m and memberIn c m .marked
+isMarked c m = isMember c m and (memberIn c m).marked
 
 -- the configuration of member m, and how often it was written (02, request 3); a message writes both
 unfoldable pub configurationIn : List ℕ → ℕ → List ℕ
@@ -144,18 +141,18 @@ withRecord c m x generation = withRecordBytes c m 0 recordSize (recordOf x gener
 
 -- that of a fresh member; no reset changes a queue count (02, request 9)
 abbrev pub freshRecord : ℕ → List ℕ → ℕ → List ℕ
-freshRecord queues features generation = recordOf (freshOf queues features) generation
+freshRecord queues features generation = recordOf (fresh_of queues features) generation
 
 abbrev pub withFresh : List ℕ → ℕ → List ℕ → ℕ → List ℕ
-withFresh c m features generation = withRecord c m (freshOf (memberIn c m .queues) features) generation
+withFresh c m features generation = withRecord c m (fresh_of (memberIn c m).queues features) generation
 
 -- fresh (01's term), SPEC 2.5: opcodes 0x00 and 0x01 are in use, and every member is fresh, with its own queue count
 unfoldable pub freshHeader : Setup → List ℕ
-freshHeader s = (s .members ∷ s .gets ∷ s .sets ∷ s .features) ++ bytes 8 freshMask
+freshHeader s = (s.members ∷ s.gets ∷ s.sets ∷ s.features) ++ bytes 8 freshMask
 
 unfoldable pub freshRecords : List ℕ → ℕ → List ℕ → List ℕ
 freshRecords features generation [] = []
 freshRecords features generation (q ∷ counts) = freshRecord q features generation ++ freshRecords features generation counts
 
 unfoldable pub freshCard : Setup → List ℕ → ℕ → List ℕ
-freshCard s counts generation = freshHeader s ++ freshRecords (s .features) generation counts
+freshCard s counts generation = freshHeader s ++ freshRecords s.features generation counts

@@ -1,19 +1,16 @@
 // The card as lent bytes: its layout, SPEC 2.7, and soundness, SPEC 2.4.
 mod sound;
 
-ghost use mathlib.Core.Path.{_≡_};
-ghost use Prim.Native.Nat.{_+_, _^_, _≤_, _<_};
-ghost use lib.ListN.{length};
-ghost use Rattle·theory.specs.Bytes.{put};
-ghost use Rattle·member.specs.Record.{holdingSize};
-ghost use Rattle·card·specs.specs.Layout.{cardHeaderSize, cardSize, cardBytes, setupOf, inUseOf, withInUse, isMember, recordAt, HasRecord, memberBytesIn, memberIn, withMember, isMarked, configurationSize, configurationIn, generationIn, withConfiguration, noConfiguration, holdingIn, withHolding, noBytes, withRecord, withFresh};
-ghost use Rattle·card·specs.specs.Sound.{isSound};
-use member::FEATURES_SIZE;
-use member::HOLDING_SIZE;
-use member::MEMBER_SIZE;
-use member::Member;
+ghost use Rattle.std.specs.Prelude.{◌≡◌, ◌+◌, ◌^◌, ◌≤◌, ◌<◌, length};
+ghost use Rattle.theory.specs.Bytes.{put};
+ghost use Rattle.member.specs.Record.{holdingSize};
+ghost use Rattle.card.specs.Layout.{cardHeaderSize, cardSize, cardBytes, setupOf, inUseOf, withInUse, isMember, recordAt, HasRecord, memberBytesIn, memberIn, withMember, isMarked, configurationSize, configurationIn, generationIn, withConfiguration, noConfiguration, holdingIn, withHolding, noBytes, withRecord, withFresh};
+ghost use Rattle.card.specs.Sound.{isSound};
+
+use member::{FEATURES_SIZE, HOLDING_SIZE, MEMBER_SIZE, Member};
 
 // A card's setup, from its header; the queue counts stand in the members' records.
+#[derive(Drop)]
 pub struct Setup {
     pub members: u8,
     pub gets: u8,
@@ -56,14 +53,14 @@ const MOST_MEMBERS: u64 = 16;
 
 // A byte as a number of the width that members are counted in.
 fn wide(b: u8) -> u64
-    ensures { λ r. ⌜ (r ≡ b) × (r < 256) ⌝ }
+    ensures { (result ≡ b) × (result < 256) }
 {
     b as u64
 }
 
 // The exact length of a card in bytes, 0 if there is none with so many members.
 pub fn card_bytes(members: u64) -> usize
-    ensures { λ r. ⌜ r ≡ cardBytes members ⌝ }
+    ensures { result ≡ cardBytes members }
 {
     if members < 1 {
         return 0;
@@ -76,8 +73,8 @@ pub fn card_bytes(members: u64) -> usize
 
 // The setup that a card's header holds.
 pub fn setup_of(card: &[u8]) -> Setup
-    requires { ⌜ cardHeaderSize ≤ length (now card) ⌝ }
-    ensures { λ r. ⌜ r ≡ setupOf (now (card .entry)) ⌝ }
+    requires { cardHeaderSize ≤ length card.now }
+    ensures { result ≡ setupOf card.now }
 {
     let mut features = [0u8; FEATURES_SIZE];
     wire::copy(&mut features, 0, &card[FEATURES_AT..IN_USE_AT]);
@@ -91,23 +88,23 @@ pub fn setup_of(card: &[u8]) -> Setup
 
 // The list of commands in use.
 pub fn in_use(card: &[u8]) -> u64
-    requires { ⌜ cardHeaderSize ≤ length (now card) ⌝ }
-    ensures { λ r. ⌜ r ≡ inUseOf (now (card .entry)) ⌝ }
+    requires { cardHeaderSize ≤ length card.now }
+    ensures { result ≡ inUseOf card.now }
 {
     wire::read_u64(card, IN_USE_AT)
 }
 
 pub fn set_in_use(card: &mut [u8], mask: u64)
-    requires { ⌜ cardHeaderSize ≤ length (now card) ⌝ }
-    ensures { λ _. ⌜ now (card .exit) ≡ withInUse (now (card .entry)) mask ⌝ }
+    requires { cardHeaderSize ≤ length card.old }
+    ensures { card.new ≡ withInUse card.old mask }
 {
     wire::write(card, IN_USE_AT, 8, mask);
 }
 
 // Members are identified 1 to N.
 pub fn is_member(card: &[u8], m: u64) -> bool
-    requires { ⌜ cardHeaderSize ≤ length (now card) ⌝ }
-    ensures { λ r. ⌜ r ≡ isMember (now (card .entry)) m ⌝ }
+    requires { cardHeaderSize ≤ length card.now }
+    ensures { result ≡ isMember card.now m }
 {
     if m < 1 {
         return false;
@@ -117,16 +114,16 @@ pub fn is_member(card: &[u8], m: u64) -> bool
 
 // The place of member m's record.
 fn record_at(m: u64) -> usize
-    requires { ⌜ (1 ≤ m) × (recordAt m < 2 ^ 64) ⌝ }
-    ensures { λ r. ⌜ r ≡ recordAt m ⌝ }
+    requires { (1 ≤ m) × (recordAt m < 2 ^ 64) }
+    ensures { result ≡ recordAt m }
 {
     CARD_HEADER_SIZE + RECORD_SIZE * (m as usize - 1)
 }
 
 // The bytes of member m, where they stand.
 pub fn member_bytes(card: &[u8], m: u64) -> &[u8]
-    requires { ⌜ HasRecord (now card) m ⌝ }
-    ensures { λ r. ⌜ now r ≡ memberBytesIn (now (card .entry)) m ⌝ }
+    requires { HasRecord card.now m }
+    ensures { result.now ≡ memberBytesIn card.now m }
 {
     let at = record_at(m);
     &card[at..at + MEMBER_SIZE]
@@ -134,15 +131,15 @@ pub fn member_bytes(card: &[u8], m: u64) -> &[u8]
 
 // Member m by value, and the card with another member m.
 pub fn load_member(card: &[u8], m: u64) -> Member
-    requires { ⌜ HasRecord (now card) m ⌝ }
-    ensures { λ r. ⌜ r ≡ memberIn (now (card .entry)) m ⌝ }
+    requires { HasRecord card.now m }
+    ensures { result ≡ memberIn card.now m }
 {
     member::load(member_bytes(card, m))
 }
 
 pub fn save_member(card: &mut [u8], m: u64, x: Member)
-    requires { ⌜ HasRecord (now card) m ⌝ }
-    ensures { λ _. ⌜ now (card .exit) ≡ withMember (now (card .entry)) m x ⌝ }
+    requires { HasRecord card.old m }
+    ensures { card.new ≡ withMember card.old m x }
 {
     let at = record_at(m);
     member::save(x, &mut card[at..at + MEMBER_SIZE]);
@@ -150,8 +147,8 @@ pub fn save_member(card: &mut [u8], m: u64, x: Member)
 
 // Whether m is a member that is marked: handed back and not yet wiped.
 pub fn is_marked(card: &[u8], m: u64) -> bool
-    requires { ⌜ length (now card) ≡ cardSize (setupOf (now card) .members) ⌝ }
-    ensures { λ r. ⌜ r ≡ isMarked (now (card .entry)) m ⌝ }
+    requires { length card.now ≡ cardSize (setupOf card.now).members }
+    ensures { result ≡ isMarked card.now m }
 {
     if !is_member(card, m) {
         return false;
@@ -161,8 +158,8 @@ pub fn is_marked(card: &[u8], m: u64) -> bool
 
 // The record of member m becomes x's, with this generation and zeros in the rest.
 pub fn write_record(card: &mut [u8], m: u64, x: Member, generation: u32)
-    requires { ⌜ HasRecord (now card) m ⌝ }
-    ensures { λ _. ⌜ now (card .exit) ≡ withRecord (now (card .entry)) m x generation ⌝ }
+    requires { HasRecord card.old m }
+    ensures { card.new ≡ withRecord card.old m x generation }
 {
     save_member(card, m, x);
     reset_configuration(card, m, generation);
@@ -171,8 +168,8 @@ pub fn write_record(card: &mut [u8], m: u64, x: Member, generation: u32)
 
 // It becomes a fresh member's, with the queue count that it has, whatever else it holds.
 pub fn reset_record(card: &mut [u8], m: u64, features: [u8; FEATURES_SIZE], generation: u32)
-    requires { ⌜ HasRecord (now card) m ⌝ }
-    ensures { λ _. ⌜ now (card .exit) ≡ withFresh (now (card .entry)) m features generation ⌝ }
+    requires { HasRecord card.old m }
+    ensures { card.new ≡ withFresh card.old m features generation }
 {
     let x = load_member(card, m).wiped(features);
     write_record(card, m, x, generation);
@@ -180,24 +177,24 @@ pub fn reset_record(card: &mut [u8], m: u64, features: [u8; FEATURES_SIZE], gene
 
 // The configuration bytes of member m, where they stand.
 pub fn configuration(card: &[u8], m: u64) -> &[u8]
-    requires { ⌜ HasRecord (now card) m ⌝ }
-    ensures { λ r. ⌜ now r ≡ configurationIn (now (card .entry)) m ⌝ }
+    requires { HasRecord card.now m }
+    ensures { result.now ≡ configurationIn card.now m }
 {
     let at = record_at(m) + CONFIGURATION_AT;
     &card[at..at + CONFIGURATION_SIZE]
 }
 
 pub fn generation(card: &[u8], m: u64) -> u32
-    requires { ⌜ HasRecord (now card) m ⌝ }
-    ensures { λ r. ⌜ r ≡ generationIn (now (card .entry)) m ⌝ }
+    requires { HasRecord card.now m }
+    ensures { result ≡ generationIn card.now m }
 {
     wire::read_u32(card, record_at(m) + GENERATION_AT)
 }
 
 // Bytes are written into its configuration from an offset on, and this becomes its generation.
 pub fn write_configuration(card: &mut [u8], m: u64, offset: usize, bytes: &[u8], generation: u32)
-    requires { ⌜ HasRecord (now card) m × (offset + length (now bytes) ≤ configurationSize) ⌝ }
-    ensures { λ _. ⌜ now (card .exit) ≡ withConfiguration (now (card .entry)) m (put offset (now (bytes .entry)) (configurationIn (now (card .entry)) m)) generation ⌝ }
+    requires { HasRecord card.old m × (offset + length bytes.now ≤ configurationSize) }
+    ensures { card.new ≡ withConfiguration card.old m (put offset bytes.now (configurationIn card.old m)) generation }
 {
     let at = record_at(m) + CONFIGURATION_AT;
     wire::copy(card, at + offset, bytes);
@@ -211,8 +208,8 @@ pub fn write_configuration(card: &mut [u8], m: u64, offset: usize, bytes: &[u8],
 
 // All of its configuration becomes zero.
 fn reset_configuration(card: &mut [u8], m: u64, generation: u32)
-    requires { ⌜ HasRecord (now card) m ⌝ }
-    ensures { λ _. ⌜ now (card .exit) ≡ withConfiguration (now (card .entry)) m noConfiguration generation ⌝ }
+    requires { HasRecord card.old m }
+    ensures { card.new ≡ withConfiguration card.old m noConfiguration generation }
 {
     let none = [0u8; CONFIGURATION_SIZE];
     write_configuration(card, m, 0, &none, generation);
@@ -220,8 +217,8 @@ fn reset_configuration(card: &mut [u8], m: u64, generation: u32)
 
 // The bytes of member m's holding place, where they stand.
 pub fn holding(card: &[u8], m: u64) -> &[u8]
-    requires { ⌜ HasRecord (now card) m ⌝ }
-    ensures { λ r. ⌜ now r ≡ holdingIn (now (card .entry)) m ⌝ }
+    requires { HasRecord card.now m }
+    ensures { result.now ≡ holdingIn card.now m }
 {
     let at = record_at(m) + HOLDING_AT;
     &card[at..at + HOLDING_SIZE]
@@ -229,8 +226,8 @@ pub fn holding(card: &[u8], m: u64) -> &[u8]
 
 // Bytes are written into it from a place on.
 pub fn write_holding(card: &mut [u8], m: u64, from: usize, bytes: &[u8])
-    requires { ⌜ HasRecord (now card) m × (from + length (now bytes) ≤ holdingSize) ⌝ }
-    ensures { λ _. ⌜ now (card .exit) ≡ withHolding (now (card .entry)) m (put from (now (bytes .entry)) (holdingIn (now (card .entry)) m)) ⌝ }
+    requires { HasRecord card.old m × (from + length bytes.now ≤ holdingSize) }
+    ensures { card.new ≡ withHolding card.old m (put from bytes.now (holdingIn card.old m)) }
 {
     let at = record_at(m) + HOLDING_AT;
     wire::copy(card, at + from, bytes);
@@ -238,8 +235,8 @@ pub fn write_holding(card: &mut [u8], m: u64, from: usize, bytes: &[u8])
 
 // All of them become zero.
 pub fn zero_holding(card: &mut [u8], m: u64)
-    requires { ⌜ HasRecord (now card) m ⌝ }
-    ensures { λ _. ⌜ now (card .exit) ≡ withHolding (now (card .entry)) m noBytes ⌝ }
+    requires { HasRecord card.old m }
+    ensures { card.new ≡ withHolding card.old m noBytes }
 {
     let at = record_at(m) + HOLDING_AT;
     wire::zero(&mut card[at..at + HOLDING_SIZE]);
@@ -249,7 +246,7 @@ pub fn zero_holding(card: &mut [u8], m: u64)
 
 // Whether the card is sound: tried at each command, the cheap tests first.
 pub fn is_sound(card: &[u8]) -> bool
-    ensures { λ r. ⌜ r ≡ isSound (now (card .entry)) ⌝ }
+    ensures { result ≡ isSound card.now }
 {
     if !sound::is_length_right(card) {
         return false;

@@ -1,27 +1,18 @@
 // When a card is sound: SPEC 2.4. It is tested at each call, the cheap tests first.
-ghost use mathlib.Core.Path.{_≡_};
-ghost use mathlib.Core.Bool.{true};
-ghost use Prim.Native.Nat.{_+_, _≤_, _<_};
-ghost use lib.Dec.{eqb};
-ghost use lib.ListN.{length};
-ghost use Rattle·theory.specs.Bytes.{bytesAt};
-ghost use Rattle·protocol.specs.Opcodes.{supportedOnly};
-ghost use Rattle·member.specs.Record.{memberSize};
-ghost use Rattle·card·specs.specs.Layout.{cardHeaderSize, cardSize, setupOf, inUseOf};
-ghost use Rattle·card·specs.specs.Sound.{soundSetup, IsMost, soundFor, soundUpTo};
-use super::CARD_HEADER_SIZE;
-use super::FEATURES_AT;
-use super::GETS_AT;
-use super::IN_USE_AT;
-use super::MEMBERS_AT;
-use super::RECORD_SIZE;
-use super::SETS_AT;
+ghost use Rattle.std.specs.Prelude.{◌≡◌, true, ◌+◌, ◌≤◌, ◌<◌, eqb, length};
+ghost use Rattle.theory.specs.Bytes.{bytes_at};
+ghost use Rattle.protocol.specs.Opcodes.{supportedOnly};
+ghost use Rattle.member.specs.Record.{memberSize};
+ghost use Rattle.card.specs.Layout.{cardHeaderSize, cardSize, setupOf, inUseOf};
+ghost use Rattle.card.specs.Sound.{soundSetup, IsMost, soundFor, soundUpTo};
+
+use super::{CARD_HEADER_SIZE, FEATURES_AT, GETS_AT, IN_USE_AT, MEMBERS_AT, RECORD_SIZE, SETS_AT};
 use member::MEMBER_SIZE;
 use objects::IDS;
 
 pub fn is_setup_sound(card: &[u8]) -> bool
-    requires { ⌜ cardHeaderSize ≤ length (now card) ⌝ }
-    ensures { λ r. ⌜ r ≡ soundSetup (setupOf (now (card .entry))) ⌝ }
+    requires { cardHeaderSize ≤ length card.now }
+    ensures { result ≡ soundSetup (setupOf card.now) }
 {
     setups::in_ranges(
         super::wide(card[MEMBERS_AT]),
@@ -32,8 +23,8 @@ pub fn is_setup_sound(card: &[u8]) -> bool
 
 // Whether the member whose bytes stand at a place is sound. Most holds what each object byte may be at most.
 fn is_sound_at(card: &[u8], at: usize, most: &[u8]) -> bool
-    requires { ⌜ (cardHeaderSize ≤ length (now card)) × (at + memberSize ≤ length (now card)) × IsMost (setupOf (now card)) (now most) ⌝ }
-    ensures { λ r. ⌜ r ≡ soundFor (setupOf (now (card .entry))) (bytesAt at memberSize (now (card .entry))) ⌝ }
+    requires { (cardHeaderSize ≤ length card.now) × (at + memberSize ≤ length card.now) × IsMost (setupOf card.now) most.now }
+    ensures { result ≡ soundFor (setupOf card.now) (bytes_at at memberSize card.now) }
 {
     member::is_sound_record(
         &card[at..at + MEMBER_SIZE],
@@ -47,8 +38,8 @@ fn is_sound_at(card: &[u8], at: usize, most: &[u8]) -> bool
 // One pass over the members, the last one first: it steps from record to record, which is cheaper than to work out the
 // place of each.
 fn is_each_sound(card: &[u8], most: &[u8]) -> bool
-    requires { ⌜ (length (now card) ≡ cardSize (setupOf (now card) .members)) × IsMost (setupOf (now card)) (now most) ⌝ }
-    ensures { λ r. ⌜ r ≡ soundUpTo (setupOf (now (card .entry))) (now (card .entry)) (setupOf (now (card .entry)) .members) ⌝ }
+    requires { (length card.now ≡ cardSize (setupOf card.now).members) × IsMost (setupOf card.now) most.now }
+    ensures { result ≡ soundUpTo (setupOf card.now) card.now (setupOf card.now).members }
 {
     let mut m = super::wide(card[MEMBERS_AT]);
     let mut at = card.len();
@@ -64,8 +55,8 @@ fn is_each_sound(card: &[u8], most: &[u8]) -> bool
 
 // What each object byte may be at most is the same for all members.
 pub fn are_members_sound(card: &[u8]) -> bool
-    requires { ⌜ (length (now card) ≡ cardSize (setupOf (now card) .members)) × (soundSetup (setupOf (now card)) ≡ true) ⌝ }
-    ensures { λ r. ⌜ r ≡ soundUpTo (setupOf (now (card .entry))) (now (card .entry)) (setupOf (now (card .entry)) .members) ⌝ }
+    requires { (length card.now ≡ cardSize (setupOf card.now).members) × (soundSetup (setupOf card.now) ≡ true) }
+    ensures { result ≡ soundUpTo (setupOf card.now) card.now (setupOf card.now).members }
 {
     let table = objects::MOST;
     let ids = super::wide(card[GETS_AT]) + super::wide(card[SETS_AT]);
@@ -74,7 +65,7 @@ pub fn are_members_sound(card: &[u8]) -> bool
 }
 
 pub fn is_length_right(card: &[u8]) -> bool
-    ensures { λ r. ⌜ r ≡ eqb (length (now (card .entry))) (cardSize (setupOf (now (card .entry)) .members)) ⌝ }
+    ensures { result ≡ eqb (length card.now) (cardSize (setupOf card.now).members) }
 {
     if card.len() < CARD_HEADER_SIZE {
         return false;
@@ -83,8 +74,8 @@ pub fn is_length_right(card: &[u8]) -> bool
 }
 
 pub fn is_use_supported(card: &[u8]) -> bool
-    requires { ⌜ cardHeaderSize ≤ length (now card) ⌝ }
-    ensures { λ r. ⌜ r ≡ supportedOnly (inUseOf (now (card .entry))) ⌝ }
+    requires { cardHeaderSize ≤ length card.now }
+    ensures { result ≡ supportedOnly (inUseOf card.now) }
 {
     protocol::supported_only(super::in_use(card))
 }

@@ -1,33 +1,33 @@
 -- What a change of a member can come to, and what it keeps: a refusal leaves the member, and a sound member stays sound.
 -- Assumes nothing.
-use mathlib.Core.Path.{_≡_, refl}
+use mathlib.Core.Path.{◌≡◌, refl}
 use mathlib.Core.Bool.{true, false}
 use mathlib.Core.List.{List}
-use Prim.Native.Nat.{ℕ, _+_, _<_}
-use Rattle·theory.proofs.Tests.{unless-cases}
-use Rattle·protocol.specs.declared.Answer.{Answer}
-use Rattle·protocol.specs.declared.Mode.{Mode}
-use Rattle·protocol.specs.declared.ObjectKind.{ObjectKind}
-use Rattle·protocol.specs.declared.ChangeOp.{ChangeOp}
-use Rattle·protocol.specs.declared.ChangeOp.the-variants.{Create, Modify, Destroy, SetParts, SetMode}
-use Rattle·protocol.specs.Answers.{isDone}
-use Rattle·protocol.proofs.Operations.{IdBelow}
-use Rattle·parts.specs.declared.ListForm.the-variants.{Parts}
-use Rattle·parts.specs.List.{partsOf}
-use Rattle·rules.specs.Rules.{causeOf, isAccepted}
-use Rattle·values.specs.Apply.{applied}
-use Rattle·objects.specs.declared.Slot.{Slot}
-use Rattle·objects.specs.declared.Slot.the-variants.{Free}
-use Rattle·objects.specs.declared.Found.{Found}
-use Rattle·objects.specs.declared.Found.the-variants.{Live, Nothing}
-use Rattle·objects.specs.Objects.{slotFor, onFound}
-use Rattle·member.specs.declared.Member.{Member}
-use Rattle·member.specs.Objects.{lookupOf, withObject, roomIn}
-use Rattle·member.specs.Member.{featuresIn, withMode, withValues}
-use Rattle·member.proofs.Sound.{SoundMember, sound-mode, sound-object, sound-free, sound-applied}
-use Rattle·changes·specs.specs.declared.Changed.{Changed}
-use Rattle·changes·proofs.proofs.Allowed.{accepted-allowed}
-use Rattle·changes·specs.specs.Changes.{refuse, done, limited, createOf, modifyOf, destroyOf, setPartsOf, changeOf}
+use Prim.Native.Nat.{ℕ, ◌+◌, ◌<◌}
+use Rattle.theory.proofs.Tests.{unless-cases}
+use Rattle.protocol.specs.declared.Answer.{Answer}
+use Rattle.protocol.specs.declared.Mode.{Mode}
+use Rattle.protocol.specs.declared.ObjectKind.{ObjectKind}
+use Rattle.protocol.specs.declared.ChangeOp.{ChangeOp}
+use Rattle.protocol.specs.declared.ChangeOp.TheVariants.{Create, Modify, Destroy, SetParts, SetMode}
+use Rattle.protocol.specs.Answers.{isDone}
+use Rattle.protocol.proofs.Operations.{IdBelow}
+use Rattle.parts.specs.declared.ListForm.TheVariants.{Parts}
+use Rattle.parts.specs.List.{parts_of}
+use Rattle.rules.specs.Rules.{causeOf, isAccepted}
+use Rattle.values.specs.Apply.{applied}
+use Rattle.objects.specs.declared.Slot.{Slot}
+use Rattle.objects.specs.declared.Slot.TheVariants.{Free}
+use Rattle.objects.specs.declared.Found.{Found}
+use Rattle.objects.specs.declared.Found.TheVariants.{Live, Nothing}
+use Rattle.objects.specs.Objects.{slotFor, onFound}
+use Rattle.member.specs.declared.Member.{Member}
+use Rattle.member.specs.Objects.{lookupOf, withObject, roomIn}
+use Rattle.member.specs.Member.{featuresIn, withMode, withValues}
+use Rattle.member.proofs.Sound.{SoundMember, sound-mode, sound-object, sound-free, sound-applied}
+use Rattle.changes.specs.declared.Changed.{Changed}
+use Rattle.changes.proofs.Allowed.{accepted-allowed}
+use Rattle.changes.specs.Changes.{refuse, done, limited, createOf, modifyOf, destroyOf, setPartsOf, changeOf}
 
 -- the commands that put an object, and its id
 pub data Puts : ChangeOp → ℕ → Type 0 where
@@ -52,7 +52,7 @@ module _ (gets sets : ℕ) (m : Member) (P : Changed → Type 0) (refused : (a :
       → ((id : ℕ) (slot : Slot) → Puts op id → roomIn gets sets (withObject m id slot) ≡ true → P (done (withObject m id slot)))
       → ((id : ℕ) → P (done (withObject m id Free)))
       → ((mode : Mode) → P (done (withMode m mode)))
-      → (isAccepted (causeOf (m .queues) (featuresIn m) list) ≡ true → P (done (withValues m (applied (m .queues) (partsOf Parts list) (m .values)))))
+      → (isAccepted (causeOf m.queues (featuresIn m) list) ≡ true → P (done (withValues m (applied m.queues (parts_of Parts list) m.values))))
       → P (changeOf gets sets list op m)
   unfolding createOf modifyOf destroyOf setPartsOf
   change-cases list (Create id kind) put free mode set =
@@ -71,30 +71,30 @@ module _ (gets sets : ℕ) (m : Member) (P : Changed → Type 0) (refused : (a :
 
 module _ (gets sets : ℕ) (list : List ℕ) (op : ChangeOp) (m : Member) where
   -- a refusal leaves the member as it was
-  pub change-refused : isDone (changeOf gets sets list op m .answer) ≡ false → changeOf gets sets list op m .member ≡ m
+  pub change-refused : isDone (changeOf gets sets list op m).answer ≡ false → (changeOf gets sets list op m).member ≡ m
   change-refused =
-      change-cases gets sets m (λ x. isDone (x .answer) ≡ false → x .member ≡ m) (λ a e f. refl) list op
+      change-cases gets sets m (λ x. isDone x.answer ≡ false → x.member ≡ m) (λ a e f. refl) list op
       (λ id slot p e f. cc) (λ id f. cc) (λ mode f. cc) (λ e f. cc)
 
   -- no change marks a member
-  pub change-marked : changeOf gets sets list op m .member .marked ≡ m .marked
+  pub change-marked : (changeOf gets sets list op m).member.marked ≡ m.marked
   unfolding withObject
   change-marked =
-      change-cases gets sets m (λ x. x .member .marked ≡ m .marked) (λ a e. refl) list op
+      change-cases gets sets m (λ x. x.member.marked ≡ m.marked) (λ a e. refl) list op
       (λ id slot p e. refl) (λ id. refl) (λ mode. refl) (λ e. refl)
 
   -- nor changes its queue count
-  pub change-queues : changeOf gets sets list op m .member .queues ≡ m .queues
+  pub change-queues : (changeOf gets sets list op m).member.queues ≡ m.queues
   unfolding withObject
   change-queues =
-      change-cases gets sets m (λ x. x .member .queues ≡ m .queues) (λ a e. refl) list op
+      change-cases gets sets m (λ x. x.member.queues ≡ m.queues) (λ a e. refl) list op
       (λ id slot p e. refl) (λ id. refl) (λ mode. refl) (λ e. refl)
 
   -- a member that is not marked
-  pub change-sound : (features : List ℕ) → IdBelow (gets + sets) op → m .marked ≡ false → SoundMember gets sets features m
-      → SoundMember gets sets features (changeOf gets sets list op m .member)
+  pub change-sound : (features : List ℕ) → IdBelow (gets + sets) op → m.marked ≡ false → SoundMember gets sets features m
+      → SoundMember gets sets features (changeOf gets sets list op m).member
   change-sound f h u s =
-      change-cases gets sets m (λ x. SoundMember gets sets f (x .member)) (λ a e. s) list op
+      change-cases gets sets m (λ x. SoundMember gets sets f x.member) (λ a e. s) list op
       (λ id slot p e. sound-object gets sets f m s u id slot (put-below (gets + sets) h p) e) (λ id. sound-free gets sets f m s u id)
       (λ mode. sound-mode gets sets f m s u mode)
-      (λ e. sound-applied gets sets f m s (partsOf Parts list) (accepted-allowed (m .queues) (featuresIn m) _ (m .values) e (s .shaped .long) (s .allowed)))
+      (λ e. sound-applied gets sets f m s (parts_of Parts list) (accepted-allowed m.queues (featuresIn m) _ m.values e s.shaped.long s.allowed))

@@ -1,15 +1,15 @@
 -- `search steps` closes each return of a command that changes: what the lookup found, then a ladder of refusals, then
 -- what is done. Assumes nothing.
-use mathlib.Core.Path.{_≡_, _∙_}
+use mathlib.Core.Path.{◌≡◌, ◌∙◌}
 use Prim.Native.Nat.{ℕ}
-use Rattle·theory.proofs.Ladder.{ladder}
-use Rattle·protocol.proofs.Operations.{kind-set, kind-not-set, mode-stops, mode-runs}
-use Rattle·objects.specs.declared.Slot.{Slot}
-use Rattle·member.specs.declared.Member.{Member}
-use Rattle·member.specs.Objects.{withObject}
-use Rattle·member.proofs.Objects.{on-live, on-nothing}
-use Rattle·changes·specs.specs.declared.Changed.{Changed}
-use Rattle·changes·specs.specs.Changes.{done, limited}
+use Rattle.theory.proofs.Ladder.{ladder}
+use Rattle.protocol.proofs.Operations.{kind-set, kind-not-set, mode-stops, mode-runs}
+use Rattle.objects.specs.declared.Slot.{Slot}
+use Rattle.member.specs.declared.Member.{Member}
+use Rattle.member.specs.Objects.{withObject}
+use Rattle.member.proofs.Objects.{on-live, on-nothing}
+use Rattle.changes.specs.declared.Changed.{Changed}
+use Rattle.changes.specs.Changes.{done, limited}
 
 -- what a function made is what is asked for
 pub changed-to : (n p : Member) (o : Changed) → n ≡ p → o ≡ done n → o ≡ done p

@@ -1,23 +1,22 @@
 -- The commands that change a member, SPEC 4.4, 4.5, 4.7, 4.10 and 4.11: steps 8 to 10 of SPEC 6.1. Assumes nothing.
-use mathlib.Core.List.{List}
-use Prim.Native.Nat.{ℕ}
-use Rattle·theory.specs.Logic.{unless_answer_then_}
-use Rattle·protocol.specs.declared.Answer.{Answer}
-use Rattle·protocol.specs.declared.Answer.the-variants.{Done, Exists, NotLive, NoRoom, WrongKind, Running, BadList}
-use Rattle·protocol.specs.declared.ObjectKind.{ObjectKind}
-use Rattle·protocol.specs.declared.ChangeOp.{ChangeOp}
-use Rattle·protocol.specs.declared.ChangeOp.the-variants.{Create, Modify, Destroy, SetParts, SetMode}
-use Rattle·protocol.specs.Answers.{isStopped, isSet}
-use Rattle·parts.specs.declared.ListForm.the-variants.{Parts}
-use Rattle·parts.specs.List.{partsOf}
-use Rattle·rules.specs.Rules.{causeOf, isAccepted}
-use Rattle·values.specs.Apply.{applied}
-use Rattle·objects.specs.declared.Slot.the-variants.{Free}
-use Rattle·objects.specs.Objects.{slotFor, onFound}
-use Rattle·member.specs.declared.Member.{Member}
-use Rattle·member.specs.Objects.{lookupOf, withObject, roomIn}
-use Rattle·member.specs.Member.{featuresIn, withMode, withValues}
-use Rattle·changes·specs.specs.declared.Changed.{Changed}
+use Rattle.std.specs.Prelude.{List, ℕ}
+use Rattle.theory.specs.Logic.{unless◌answer◌then◌}
+use Rattle.protocol.specs.declared.Answer.{Answer}
+use Rattle.protocol.specs.declared.Answer.TheVariants.{Done, Exists, NotLive, NoRoom, WrongKind, Running, BadList}
+use Rattle.protocol.specs.declared.ObjectKind.{ObjectKind}
+use Rattle.protocol.specs.declared.ChangeOp.{ChangeOp}
+use Rattle.protocol.specs.declared.ChangeOp.TheVariants.{Create, Modify, Destroy, SetParts, SetMode}
+use Rattle.protocol.specs.Answers.{isStopped, is_set}
+use Rattle.parts.specs.declared.ListForm.TheVariants.{Parts}
+use Rattle.parts.specs.List.{parts_of}
+use Rattle.rules.specs.Rules.{causeOf, isAccepted}
+use Rattle.values.specs.Apply.{applied}
+use Rattle.objects.specs.declared.Slot.TheVariants.{Free}
+use Rattle.objects.specs.Objects.{slotFor, onFound}
+use Rattle.member.specs.declared.Member.{Member}
+use Rattle.member.specs.Objects.{lookupOf, withObject, roomIn}
+use Rattle.member.specs.Member.{featuresIn, withMode, withValues}
+use Rattle.changes.specs.declared.Changed.{Changed}
 
 abbrev pub refuse : Member → Answer → Changed
 refuse m a = record { answer = a; member = m }
@@ -53,10 +52,10 @@ unfoldable pub setPartsOf : ℕ → List ℕ → Member → Changed
 setPartsOf id list m =
     onFound (lookupOf m id)
     (λ k.
-    unless isSet k answer refuse m WrongKind then  -- 8
-    unless isStopped (m .mode) answer refuse m Running then  -- 9
-    unless isAccepted (causeOf (m .queues) (featuresIn m) list) answer refuse m BadList then  -- 10
-    done (withValues m (applied (m .queues) (partsOf Parts list) (m .values))))
+    unless is_set k answer refuse m WrongKind then  -- 8
+    unless isStopped m.mode answer refuse m Running then  -- 9
+    unless isAccepted (causeOf m.queues (featuresIn m) list) answer refuse m BadList then  -- 10
+    done (withValues m (applied m.queues (parts_of Parts list) m.values)))
     (refuse m NotLive)
 
 -- by command; a mode set to the mode that the member has succeeds too

@@ -1,31 +1,29 @@
 // The commands that change a member, SPEC 4.4, 4.5, 4.7, 4.10 and 4.11: steps 8 to 10 of SPEC 6.1.
-ghost use mathlib.Core.Path.{_≡_};
-ghost use Rattle·member.specs.Member.{featuresIn, withMode};
-ghost use Rattle·rules.specs.Rules.{causeOf, isAccepted};
-ghost use Rattle·changes·specs.specs.Changes.{limited, createOf, modifyOf, destroyOf, setPartsOf, changeOf};
-ghost use Rattle·changes·specs.specs.Changes.{refuse as refused, done as accepted};
-use member::FEATURES_SIZE;
-use member::Member;
+ghost use Rattle.std.specs.Prelude.{◌≡◌};
+ghost use Rattle.member.specs.Member.{featuresIn, withMode};
+ghost use Rattle.rules.specs.Rules.{causeOf, isAccepted};
+ghost use Rattle.changes.specs.Changes.{limited, createOf, modifyOf, destroyOf, setPartsOf, changeOf};
+ghost use Rattle.changes.specs.Changes.{refuse as refused, done as accepted};
+
+use member::{FEATURES_SIZE, Member};
 use objects::Found;
-use protocol::Answer;
-use protocol::ChangeOp;
-use protocol::Mode;
-use protocol::ObjectKind;
+use protocol::{Answer, ChangeOp, Mode, ObjectKind};
 
 // The outcome of an operation that changes the member: refused, it is the member as it was.
+#[derive(Drop)]
 pub struct Changed {
     pub answer: Answer,
     pub member: Member,
 }
 
 fn refuse(m: Member, answer: Answer) -> Changed
-    ensures { λ r. ⌜ r ≡ refused m answer ⌝ }
+    ensures { result ≡ refused m answer }
 {
     Changed { answer, member: m }
 }
 
 fn done(m: Member) -> Changed
-    ensures { λ r. ⌜ r ≡ accepted m ⌝ }
+    ensures { result ≡ accepted m }
 {
     Changed {
         answer: Answer::Done,
@@ -35,7 +33,7 @@ fn done(m: Member) -> Changed
 
 // n, if it has room for its objects; else m.
 fn if_room(m: Member, n: Member, gets: u8, sets: u8) -> Changed
-    ensures { λ r. ⌜ r ≡ limited gets sets m n ⌝ }
+    ensures { result ≡ limited gets sets m n }
 {
     if !n.has_room(gets, sets) {
         return refuse(m, Answer::NoRoom);
@@ -44,7 +42,7 @@ fn if_room(m: Member, n: Member, gets: u8, sets: u8) -> Changed
 }
 
 fn create(m: Member, id: usize, kind: ObjectKind, gets: u8, sets: u8) -> Changed
-    ensures { λ r. ⌜ r ≡ createOf gets sets id kind m ⌝ }
+    ensures { result ≡ createOf gets sets id kind m }
 {
     let Found::Nothing = m.lookup(id) else {
         return refuse(m, Answer::Exists);
@@ -54,7 +52,7 @@ fn create(m: Member, id: usize, kind: ObjectKind, gets: u8, sets: u8) -> Changed
 }
 
 fn modify(m: Member, id: usize, kind: ObjectKind, gets: u8, sets: u8) -> Changed
-    ensures { λ r. ⌜ r ≡ modifyOf gets sets id kind m ⌝ }
+    ensures { result ≡ modifyOf gets sets id kind m }
 {
     let Found::Live(_) = m.lookup(id) else {
         return refuse(m, Answer::NotLive);
@@ -64,7 +62,7 @@ fn modify(m: Member, id: usize, kind: ObjectKind, gets: u8, sets: u8) -> Changed
 }
 
 fn destroy(m: Member, id: usize) -> Changed
-    ensures { λ r. ⌜ r ≡ destroyOf id m ⌝ }
+    ensures { result ≡ destroyOf id m }
 {
     let Found::Live(_) = m.lookup(id) else {
         return refuse(m, Answer::NotLive);
@@ -73,7 +71,7 @@ fn destroy(m: Member, id: usize) -> Changed
 }
 
 fn set_mode(m: Member, mode: Mode) -> Changed
-    ensures { λ r. ⌜ r ≡ accepted (withMode m mode) ⌝ }
+    ensures { result ≡ accepted (withMode m mode) }
 {
     match mode {
         Mode::Running => done(m.resume()),
@@ -83,7 +81,7 @@ fn set_mode(m: Member, mode: Mode) -> Changed
 
 // Whether the member accepts this list.
 fn accepts(m: Member, list: &[u8]) -> bool
-    ensures { λ r. ⌜ r ≡ isAccepted (causeOf (m .queues) (featuresIn m) (now (list .entry))) ⌝ }
+    ensures { result ≡ isAccepted (causeOf m.queues (featuresIn m) list.now) }
 {
     let values = m.values;
     let cause = rules::check_list(m.queues, &values[0..FEATURES_SIZE], list);
@@ -92,7 +90,7 @@ fn accepts(m: Member, list: &[u8]) -> bool
 
 // Steps 8, 9 and 10 of parts set; all or nothing.
 fn set_parts(m: Member, id: usize, list: &[u8]) -> Changed
-    ensures { λ r. ⌜ r ≡ setPartsOf id (now (list .entry)) m ⌝ }
+    ensures { result ≡ setPartsOf id list.now m }
 {
     let Found::Live(kind) = m.lookup(id) else {
         return refuse(m, Answer::NotLive);
@@ -112,7 +110,7 @@ fn set_parts(m: Member, id: usize, list: &[u8]) -> Changed
 
 // A command that changes the member; list holds the parts given.
 pub fn change(m: Member, op: ChangeOp, gets: u8, sets: u8, list: &[u8]) -> Changed
-    ensures { λ r. ⌜ r ≡ changeOf gets sets (now (list .entry)) op m ⌝ }
+    ensures { result ≡ changeOf gets sets list.now op m }
 {
     match op {
         ChangeOp::Create(id, kind) => create(m, id, kind, gets, sets),

@@ -1,8 +1,6 @@
 -- A number as decimal digits, and a line of the sheet: 02, request 11. Assumes nothing.
-use mathlib.Core.List.{List, [], _∷_, _++_}
-use Prim.Native.Nat.{ℕ, zero, suc, _+_, _/_, _%_}
-use lib.Dec.{ltb}
-use Rattle·theory.specs.Logic.{if_then_else_}
+use Rattle.std.specs.Prelude.{List, [], ◌∷◌, ◌++◌, ℕ, zero, suc, ◌+◌, ◌/◌, ◌%◌, ltb}
+use Rattle.theory.specs.Logic.{if◌then◌else◌}
 
 -- the last digit, as a character
 abbrev pub lastDigit : ℕ → ℕ

@@ -1,9 +1,7 @@
 // Numbers as decimal text, and a line of a name and a number: 02, request 11.
-ghost use mathlib.Core.Path.{_≡_};
-ghost use Prim.Native.Nat.{_+_, _≤_};
-ghost use lib.ListN.{length};
-ghost use Rattle·theory.specs.Bytes.{put};
-ghost use Rattle·decimal·specs.specs.Decimal.{lastDigit, decimal, line};
+ghost use Rattle.std.specs.Prelude.{◌≡◌, ◌+◌, ◌≤◌, length};
+ghost use Rattle.theory.specs.Bytes.{put};
+ghost use Rattle.decimal.specs.Decimal.{lastDigit, decimal, line};
 
 const DIGIT_ZERO: u8 = 48;
 
@@ -12,15 +10,15 @@ const SPACE: u8 = 32;
 const LINE_FEED: u8 = 10;
 
 fn last_digit(n: u64) -> u8
-    ensures { λ r. ⌜ r ≡ lastDigit n ⌝ }
+    ensures { result ≡ lastDigit n }
 {
     DIGIT_ZERO + (n % 10) as u8
 }
 
 // The digits of n, from a place on. Answers the place after them.
 fn put_decimal(out: &mut [u8], at: usize, n: u64) -> usize
-    requires { ⌜ at + length (decimal n) ≤ length (now out) ⌝ }
-    ensures { λ r. ⌜ (now (out .exit) ≡ put at (decimal n) (now (out .entry))) × (r ≡ at + length (decimal n)) ⌝ }
+    requires { at + length (decimal n) ≤ length out.old }
+    ensures { (out.new ≡ put at (decimal n) out.old) × (result ≡ at + length (decimal n)) }
 {
     if n < 10 {
         out[at] = last_digit(n);
@@ -33,8 +31,8 @@ fn put_decimal(out: &mut [u8], at: usize, n: u64) -> usize
 
 // A line of a name and a number, from a place on. Answers the place after it.
 pub fn put_line(out: &mut [u8], at: usize, name: &[u8], n: u64) -> usize
-    requires { ⌜ at + length (line (now name) n) ≤ length (now out) ⌝ }
-    ensures { λ r. ⌜ (now (out .exit) ≡ put at (line (now (name .entry)) n) (now (out .entry))) × (r ≡ at + length (line (now (name .entry)) n)) ⌝ }
+    requires { at + length (line name.now n) ≤ length out.old }
+    ensures { (out.new ≡ put at (line name.now n) out.old) × (result ≡ at + length (line name.now n)) }
 {
     wire::copy(out, at, name);
     let space = at + name.len();

@@ -1,21 +1,21 @@
 -- The hypotheses of the claims of specs/Claims.antt that have no file of their own can be met. Assumes nothing.
-use mathlib.Core.Path.{_≡_, refl, ap}
-use mathlib.Core.Logic.{_≢_}
+use mathlib.Core.Path.{◌≡◌, refl, ap}
+use mathlib.Core.Logic.{◌≢◌}
 use mathlib.Core.Bool.{true, false}
-use mathlib.Core.List.{List, [], _∷_}
-use Prim.Native.Nat.{ℕ, _<_}
+use mathlib.Core.List.{List, [], ◌∷◌}
+use Prim.Native.Nat.{ℕ, ◌<◌}
 use native.Mathlib.Omega.{arith}
-use lib.ListN.{length, getD, replicate}
-use Rattle·protocol.specs.declared.EventAnswer.the-variants.{Done}
-use Rattle·protocol.specs.Answers.{eventNumber}
-use Rattle·card.specs.Layout.{cardSize}
-use Rattle·card.specs.Sound.{isSound}
-use Rattle·events.specs.Events.{setUp}
-use Rattle·frame.specs.Frame.{opcodeOf}
-use Rattle·demands·specs.specs.Calls.{refused, step, names}
-use Rattle·host.specs.Request.{request, setParts}
-use Rattle·demands·specs.specs.Examples.{exampleCard, send, useList, setMode}
-use Rattle·demands·proofs.proofs.Model.{model}
+use lib.ListN.{length, get_or, replicate}
+use Rattle.protocol.specs.declared.EventAnswer.TheVariants.{Done}
+use Rattle.protocol.specs.Answers.{eventNumber}
+use Rattle.card.specs.Layout.{cardSize}
+use Rattle.card.specs.Sound.{isSound}
+use Rattle.events.specs.Events.{setUp}
+use Rattle.frame.specs.Frame.{opcode_of}
+use Rattle.demands.specs.Calls.{refused, step, names}
+use Rattle.host.specs.Request.{request, setParts}
+use Rattle.demands.specs.Examples.{exampleCard, send, useList, setMode}
+use Rattle.demands.proofs.Model.{model}
 
 -- ---- demand 1 ----
 
@@ -31,38 +31,38 @@ short-buffer : length (replicate {A = ℕ} 7 0) < 8
 short-buffer = omega arith
 
 -- opcode 0x0a is not in use on a fresh card
-refused-command : refused (step exampleCard (send (request 0x0a 1 1 [])) .1) ≡ true
+refused-command : refused (step exampleCard (send (request 0x0a 1 1 []))).1 ≡ true
 unfolding model
 refused-command = refl
 
-setup-done : setUp (replicate (cardSize 2) 0) 2 (1 ∷ 1 ∷ []) 1 1 (replicate 16 0) .0 ≡ Done
+setup-done : (setUp (replicate (cardSize 2) 0) 2 (1 ∷ 1 ∷ []) 1 1 (replicate 16 0)).0 ≡ Done
 unfolding model
 setup-done = refl
 
 -- a card of no members
-setup-refused : setUp (replicate (cardSize 2) 0) 0 [] 1 1 (replicate 16 0) .0 ≢ Done
+setup-refused : (setUp (replicate (cardSize 2) 0) 0 [] 1 1 (replicate 16 0)).0 ≢ Done
 unfolding model
-setup-refused e = let z : _≡_ {A = ℕ} 4 0 = ap eventNumber e in omega arith
+setup-refused e = let z : ◌≡◌ {A = ℕ} 4 0 = ap eventNumber e in omega arith
 
 -- ---- integrity ----
 
 -- all commands in use
 abbrev used : List ℕ
-used = step exampleCard (useList 0x3fc03) .0
+used = (step exampleCard (useList 0x3fc03)).0
 
 -- a mode set for member 1 names it, and does change its record
 names-member : names 1 (setMode 1 1) ≡ true
 unfolding model
 names-member = refl
 
-changes-member : getD (step used (setMode 1 1) .0) 27 0 ≢ getD used 27 0
+changes-member : get_or (step used (setMode 1 1)).0 27 0 ≢ get_or used 27 0
 unfolding model
 changes-member = omega arith
 
-uses-list : opcodeOf (request 0x01 1 0 []) ≡ 0x01
+uses-list : opcode_of (request 0x01 1 0 []) ≡ 0x01
 unfolding model
 uses-list = refl
 
-sets-parts : opcodeOf (setParts 1 1 []) ≡ 0x10
+sets-parts : opcode_of (setParts 1 1 []) ≡ 0x10
 unfolding model
 sets-parts = refl

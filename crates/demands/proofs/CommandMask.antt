@@ -1,35 +1,35 @@
 -- What a command that does not name m does to the masked card of Mask.antt. Assumes nothing.
-use mathlib.Core.Path.{_≡_, refl, sym, _∙_}
-use mathlib.Core.Logic.{_≢_}
+use mathlib.Core.Path.{◌≡◌, refl, sym, ◌∙◌}
+use mathlib.Core.Logic.{◌≢◌}
 use mathlib.Core.Bool.{true, false}
 use mathlib.Core.List.{List}
-use Prim.Native.Nat.{ℕ, _≤_}
+use Prim.Native.Nat.{ℕ, ◌≤◌}
 use lib.Dec.{leb}
 use lib.ListN.{length}
 use borrow.Author.Tests.{eqb-false, leb-true}
-use Rattle·theory.specs.Logic.{if_then_else_, _and_}
-use Rattle·theory.proofs.Tests.{by-cases, and-true}
-use Rattle·protocol.specs.Answers.{isDone}
-use Rattle·card.specs.Layout.{cardSize, setupOf, memberIn}
-use Rattle·card.specs.Sound.{isSound}
-use Rattle·card.proofs.RecordLaws.{setup-with-record, record-other}
-use Rattle·frame.specs.declared.Ask.{Ask}
-use Rattle·frame.specs.declared.Ask.the-variants.{Refused, QueryList, UseList, Read, Change}
-use Rattle·admin.specs.Command.{Effect, perform, respond}
-use Rattle·demands·specs.specs.Calls.{command, names}
-use Rattle·admin.proofs.Respond.{NamedIn, FactsIn, asked-of, lastAnswer, ended, respond-none, respond-is}
-use Rattle·demands·proofs.proofs.Named.{names-is}
-use Rattle·demands·proofs.proofs.Mask.{mask, mask-mask, mask-member, mask-use, is-whole, masked-sound, masked-ask}
+use Rattle.theory.specs.Logic.{if◌then◌else◌, ◌and◌}
+use Rattle.theory.proofs.Tests.{by_cases, and-true}
+use Rattle.protocol.specs.Answers.{isDone}
+use Rattle.card.specs.Layout.{cardSize, setupOf, memberIn}
+use Rattle.card.specs.Sound.{isSound}
+use Rattle.card.proofs.RecordLaws.{setup-with-record, record-other}
+use Rattle.frame.specs.declared.Ask.{Ask}
+use Rattle.frame.specs.declared.Ask.TheVariants.{Refused, QueryList, UseList, Read, Change}
+use Rattle.admin.specs.Command.{Effect, perform, respond}
+use Rattle.demands.specs.Calls.{command, names}
+use Rattle.admin.proofs.Respond.{NamedIn, FactsIn, asked_of, lastAnswer, ended, respond-none, respond-is}
+use Rattle.demands.proofs.Named.{names-is}
+use Rattle.demands.proofs.Mask.{mask, mask-mask, mask-member, mask-use, is_whole, masked-sound, masked-ask}
 
 -- an effect on the masked card and one on the card
 record Alike (m : ℕ) (e f : Effect) : Type 0 where
-  outcomes : e .outcome ≡ f .outcome
-  results : e .result ≡ f .result
-  cards : mask m (e .card) ≡ mask m (f .card)
+  outcomes : e.outcome ≡ f.outcome
+  results : e.result ≡ f.result
+  cards : mask m e.card ≡ mask m f.card
 
 module _ (m : ℕ) (low : 1 ≤ m) (c : List ℕ) (s : isSound c ≡ true) (r : List ℕ) (room : ℕ) where
-  abbrev whole : length c ≡ cardSize (setupOf c .members)
-  whole = is-whole m low c s
+  abbrev whole : length c ≡ cardSize (setupOf c).members
+  whole = is_whole m low c s
 
   module _ (n : names m (command r room) ≡ false) where
     -- the member that it is for, and its record in the masked card
@@ -38,7 +38,7 @@ module _ (m : ℕ) (low : 1 ≤ m) (c : List ℕ) (s : isSound c ≡ true) (r : 
       another = eqb-false k m (sym (names-is m r room _ _ k f) ∙ n)
 
       unmasked : memberIn (mask m c) k ≡ memberIn c k
-      unmasked = record-other c m _ 0 k low (f .low) another
+      unmasked = record-other c m _ 0 k low f.low another
 
     perform-alike : (a : Ask) → FactsIn c r a → Alike m (perform (mask m c) r a) (perform c r a)
     unfolding perform
@@ -46,28 +46,28 @@ module _ (m : ℕ) (low : 1 ≤ m) (c : List ℕ) (s : isSound c ≡ true) (r : 
     perform-alike QueryList f = record { outcomes = refl; results = refl; cards = mask-mask m low c whole }
     perform-alike (UseList u) f = record { outcomes = refl; results = refl; cards = mask-use m low c whole u }
     perform-alike (Read k op) f =
-        rw (unmasked k (f .0)) (record { outcomes = refl; results = refl; cards = mask-mask m low c whole })
+        rw (unmasked k f.0) (record { outcomes = refl; results = refl; cards = mask-mask m low c whole })
     perform-alike (Change k op) f =
-        rw (setup-with-record, unmasked k (f .0))
-        (record { outcomes = refl; results = refl; cards = mask-member m low c whole k _ (f .0 .low) (another k (f .0)) })
+        rw (setup-with-record, unmasked k f.0)
+        (record { outcomes = refl; results = refl; cards = mask-member m low c whole k _ f.0.low (another k f.0) })
 
   -- steps 11 and 12 choose between two cards with the same mask
   ended-alike : (e f : Effect) → Alike m e f
-      → (ended (mask m c) room e .1 ≡ ended c room f .1) × (mask m (ended (mask m c) room e .0) ≡ mask m (ended c room f .0))
-  unfolding if_then_else_
+      → ((ended (mask m c) room e).1 ≡ (ended c room f).1) × (mask m (ended (mask m c) room e).0 ≡ mask m (ended c room f).0)
+  unfolding if◌then◌else◌
   ended-alike e f h =
-      rw (h .outcomes, h .results)
-      (refl, by-cases (isDone (lastAnswer room f)) (λ t. rw t (h .cards)) (λ t. rw t (mask-mask m low c whole)))
+      rw (h.outcomes, h.results)
+      (refl, by_cases (isDone (lastAnswer room f)) (λ t. rw t h.cards) (λ t. rw t (mask-mask m low c whole)))
 
   pub respond-answers : names m (command r room) ≡ false
-      → (respond (mask m c) r room .1 ≡ respond c r room .1) × (mask m (respond (mask m c) r room .0) ≡ mask m (respond c r room .0))
+      → ((respond (mask m c) r room).1 ≡ (respond c r room).1) × (mask m (respond (mask m c) r room).0 ≡ mask m (respond c r room).0)
   respond-answers n =
       let z = masked-sound m low c s in
-      by-cases (leb 8 room)
+      by_cases (leb 8 room)
       (λ t.
       let h = leb-true 8 room t in
       rw (respond-is (mask m c) r room h z, respond-is c r room h s, masked-ask m low c s r)
-      (ended-alike _ _ (perform-alike n _ (asked-of c r))))
+      (ended-alike _ _ (perform-alike n _ (asked_of c r))))
       (λ t.
       let g : leb 8 room and isSound (mask m c) ≡ false = rw (z, and-true) t in
       let f : leb 8 room and isSound c ≡ false = rw (s, and-true) t in

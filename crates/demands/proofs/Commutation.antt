@@ -1,50 +1,50 @@
 -- Calls that name different members can change places: each is hidden by the mask of its own member and not by the other's, and
 -- the two masks together leave nothing of the card out. Assumes nothing.
-use mathlib.Core.Path.{_≡_, refl, ap, sym, _∙_}
-use mathlib.Core.Logic.{_≢_}
+use mathlib.Core.Path.{◌≡◌, refl, ap, sym, ◌∙◌}
+use mathlib.Core.Logic.{◌≢◌}
 use mathlib.Core.Bool.{true, false}
 use mathlib.Core.List.{List}
-use Prim.Native.Nat.{ℕ, _≤_}
+use Prim.Native.Nat.{ℕ, ◌≤◌}
 use native.Mathlib.Omega.{arith}
 use lib.Dec.{eqb}
-use borrow.Author.Tests.{eqb-true, eqb-false, ne-eqb}
-use Rattle·theory.proofs.Tests.{by-cases, both, and-false, below}
-use Rattle·theory.proofs.Commuting.{Commute, commute-sym, swappable, after-hidden, commute-by-masks}
-use Rattle·card.specs.Layout.{recordSize, setupOf, isMember, recordBytes, withRecordBytes}
-use Rattle·card.specs.Sound.{isSound}
-use Rattle·card.proofs.RecordBytesLaws.{bytes-back, bytes-long, bytes-over}
-use Rattle·card.proofs.RecordLaws.{record-bytes, record-apart, setup-with-record}
-use Rattle·card.proofs.SoundLaws.{sound-of, sound-has}
-use Rattle·frame.specs.Frame.{targetOf}
-use Rattle·demands·specs.specs.Calls.{Call, command, handBack, wipe, cardReset, cardStore, restoreBegin, restoreFeed, restoreFinish, restoreDrop, message, step, names}
-use Rattle·message.specs.Access.{wholeOf, speaksFor}
-use Rattle·message.proofs.Cases.{speaks-one}
-use Rattle·demands·specs.specs.Commutation.{Commutation, CommandsCommute}
-use Rattle·demands·proofs.proofs.Refusals.{unsound-stays}
-use Rattle·demands·proofs.proofs.Named.{leaves-none, named-leaves}
-use Rattle·demands·proofs.proofs.Mask.{mask, is-whole, mask-none}
-use Rattle·demands·proofs.proofs.Isolation.{masking}
+use borrow.Author.Tests.{eqb-true, eqb-false, ne_eqb}
+use Rattle.theory.proofs.Tests.{by_cases, both, and-false, below}
+use Rattle.theory.proofs.Commuting.{Commute, commute-sym, swappable, after-hidden, commute-by-masks}
+use Rattle.card.specs.Layout.{recordSize, setupOf, isMember, recordBytes, withRecordBytes}
+use Rattle.card.specs.Sound.{isSound}
+use Rattle.card.proofs.RecordBytesLaws.{bytes_back, bytes-long, bytes-over}
+use Rattle.card.proofs.RecordLaws.{record-bytes, record_apart, setup-with-record}
+use Rattle.card.proofs.SoundLaws.{sound-of, sound-has}
+use Rattle.frame.specs.Frame.{target_of}
+use Rattle.demands.specs.Calls.{Call, command, handBack, wipe, cardReset, cardStore, restoreBegin, restoreFeed, restoreFinish, restoreDrop, message, step, names}
+use Rattle.message.specs.Access.{whole_of, speaksFor}
+use Rattle.message.proofs.Cases.{speaks-one}
+use Rattle.demands.specs.Commutation.{Commutation, CommandsCommute}
+use Rattle.demands.proofs.Refusals.{unsound-stays}
+use Rattle.demands.proofs.Named.{leaves_none, named-leaves}
+use Rattle.demands.proofs.Mask.{mask, is_whole, mask-none}
+use Rattle.demands.proofs.Isolation.{masking}
 
 -- a call names one member at most
 names-one : (m k : ℕ) → m ≢ k → (x : Call) → names m x ≡ true → names k x ≡ false
 unfolding names
-names-one m k n (command r room) e = rw (eqb-true (targetOf r) m (both _ _ e .1), ne-eqb m k n) (and-false _)
+names-one m k n (command r room) e = rw (eqb-true (target_of r) m (both _ _ e).1, ne_eqb m k n) (and-false _)
 names-one m k n (handBack j) e = refl
 names-one m k n (wipe j g) e = refl
 names-one m k n (cardReset g) e = refl
-names-one m k n (cardStore j t s value) e = rw (eqb-true j m e) (ne-eqb m k n)
-names-one m k n (restoreBegin j) e = rw (eqb-true j m e) (ne-eqb m k n)
-names-one m k n (restoreFeed j x) e = rw (eqb-true j m e) (ne-eqb m k n)
-names-one m k n (restoreFinish j id) e = rw (eqb-true j m e) (ne-eqb m k n)
-names-one m k n (restoreDrop j) e = rw (eqb-true j m e) (ne-eqb m k n)
-names-one m k n (message x room) e = by-cases (speaksFor k (wholeOf x)) (λ f. absurd (n (speaks-one (wholeOf x) m k e f))) (λ f. f)
+names-one m k n (cardStore j t s value) e = rw (eqb-true j m e) (ne_eqb m k n)
+names-one m k n (restoreBegin j) e = rw (eqb-true j m e) (ne_eqb m k n)
+names-one m k n (restoreFeed j x) e = rw (eqb-true j m e) (ne_eqb m k n)
+names-one m k n (restoreFinish j id) e = rw (eqb-true j m e) (ne_eqb m k n)
+names-one m k n (restoreDrop j) e = rw (eqb-true j m e) (ne_eqb m k n)
+names-one m k n (message x room) e = by_cases (speaksFor k (whole_of x)) (λ f. absurd (n (speaks-one (whole_of x) m k e f))) (λ f. f)
 
 -- ---- two members ----
 
 module _ (m k : ℕ) (m-low : 1 ≤ m) (k-low : 1 ≤ k) (apart : m ≢ k) where
   -- m's record is in the card with k's masked
   record-there : (c : List ℕ) → recordBytes (mask k c) m 0 recordSize ≡ recordBytes c m 0 recordSize
-  record-there c = record-apart c k _ 0 m 0 recordSize (omega arith) k-low m-low apart
+  record-there c = record_apart c k _ 0 m 0 recordSize (omega arith) k-low m-low apart
 
   -- and makes the card of the one with m's masked
   rebuilt : (c : List ℕ) → isSound c ≡ true → isMember c m ≡ true
@@ -53,16 +53,16 @@ module _ (m k : ℕ) (m-low : 1 ≤ m) (k-low : 1 ≤ k) (apart : m ≢ k) where
       rw (record-bytes c m _ 0)
       (bytes-over c m 0 recordSize _ 0 recordSize _ (omega arith) (omega arith)
       (bytes-long c m 0 recordSize (sound-has c (sound-of c s) m h) (omega arith))
-      ∙ bytes-back c m 0 recordSize)
+      ∙ bytes_back c m 0 recordSize)
 
   determined : (a b : List ℕ) → isSound a ≡ true → isSound b ≡ true → mask m a ≡ mask m b → mask k a ≡ mask k b → a ≡ b
   determined a b sa sb e f =
       let same : recordBytes a m 0 recordSize ≡ recordBytes b m 0 recordSize =
       sym (record-there a) ∙ ap (λ c. recordBytes c m 0 recordSize) f ∙ record-there b in
       let setups : setupOf a ≡ setupOf b = sym (setup-with-record a m _ 0) ∙ ap setupOf e ∙ setup-with-record b m _ 0 in
-      by-cases (isMember a m)
+      by_cases (isMember a m)
       (λ h. sym (rebuilt a sa h) ∙ rw (e, same) (rebuilt b sb (rw setups at h)))
-      (λ h. sym (mask-none m m-low a (is-whole m m-low a sa) h) ∙ e ∙ mask-none m m-low b (is-whole m m-low b sb) (rw setups at h))
+      (λ h. sym (mask-none m m-low a (is_whole m m-low a sa) h) ∙ e ∙ mask-none m m-low b (is_whole m m-low b sb) (rw setups at h))
 
 -- ---- any two numbers ----
 
@@ -74,14 +74,14 @@ module _ (m k : ℕ) (apart : m ≢ k) (x y : Call) (nx : names m x ≡ true) (n
   y-other = names-one k m (λ e. apart (sym e)) y ny
 
   -- a call that names 0 changes nothing, whatever came before it
-  idle : (c : List ℕ) → m ≡ 0 → step c x .0 ≡ c
-  idle c e = leaves-none m c _ (rw e (below 1 _ 0 (omega arith))) (named-leaves m c x nx)
+  idle : (c : List ℕ) → m ≡ 0 → (step c x).0 ≡ c
+  idle c e = leaves_none m c _ (rw e (below 1 _ 0 (omega arith))) (named-leaves m c x nx)
 
   commute-idle : (c : List ℕ) → isSound c ≡ true → m ≡ 0 → 1 ≤ k → Commute step c x y
   commute-idle c s e low = record {
-    states = idle _ e ∙ ap (λ d. step d y .0) (sym (idle c e));
+    states = idle _ e ∙ ap (λ d. (step d y).0) (sym (idle c e));
     first = after-hidden (masking k low) c y x s ny x-other;
-    second = ap (λ d. step d y .1) (idle c e);
+    second = ap (λ d. (step d y).1) (idle c e);
   }
 
   commute-members : (c : List ℕ) → isSound c ≡ true → 1 ≤ m → 1 ≤ k → Commute step c x y
@@ -94,10 +94,10 @@ low n h = omega arith
 commute-sound : (m k : ℕ) → m ≢ k → (x y : Call) → names m x ≡ true → names k y ≡ true
     → (c : List ℕ) → isSound c ≡ true → Commute step c x y
 commute-sound m k apart x y nx ny c s =
-    by-cases (eqb m 0)
+    by_cases (eqb m 0)
     (λ e. let z = eqb-true m 0 e in commute-idle m k apart x y nx ny c s z (low k (λ q. apart (z ∙ sym q))))
     (λ e. let l = low m (eqb-false m 0 e) in
-    by-cases (eqb k 0)
+    by_cases (eqb k 0)
     (λ f. commute-sym c y x (commute-idle k m (λ q. apart (sym q)) y x ny nx c s (eqb-true k 0 f) l))
     (λ f. commute-members m k apart x y nx ny c s l (low k (eqb-false k 0 f))))
 
@@ -110,7 +110,7 @@ commute-unsound x y c s =
 
 pub commutation : Commutation
 commutation c m k apart x y nx ny p t =
-    swappable {Good = λ d. Unit {0}} (λ d z g. tt) x y (λ d g. by-cases (isSound d) (commute-sound m k apart x y nx ny d) (commute-unsound x y d)) t p c tt
+    swappable {Good = λ d. Unit {0}} (λ d z g. tt) x y (λ d g. by_cases (isSound d) (commute-sound m k apart x y nx ny d) (commute-unsound x y d)) t p c tt
 
 pub commands-commute : CommandsCommute
 commands-commute c m k apart q i r j = commutation c m k apart (command q i) (command r j)

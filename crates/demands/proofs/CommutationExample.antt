@@ -1,19 +1,19 @@
 -- The hypotheses of commutation can be met: two commands that each change their member. Assumes nothing.
-use mathlib.Core.Path.{_≡_, refl}
-use mathlib.Core.Logic.{_≢_}
+use mathlib.Core.Path.{◌≡◌, refl}
+use mathlib.Core.Logic.{◌≢◌}
 use mathlib.Core.Bool.{true}
-use mathlib.Core.List.{List, [], _∷_, _++_}
-use Prim.Native.Nat.{ℕ, _+_}
+use mathlib.Core.List.{List, [], ◌∷◌, ◌++◌}
+use Prim.Native.Nat.{ℕ, ◌+◌}
 use native.Mathlib.Omega.{arith}
-use lib.ListN.{getD}
-use Rattle·theory.specs.Machine.{replies, Swappable}
-use Rattle·member.specs.Record.{objectsAt}
-use Rattle·card.specs.Layout.{recordAt}
-use Rattle·demands·specs.specs.Calls.{Call, step, names}
-use Rattle·host.specs.Request.{getAll}
-use Rattle·demands·specs.specs.Examples.{exampleCard, send, useList, create, setMode, succeeds, gives, nineParts}
-use Rattle·demands·proofs.proofs.Model.{model}
-use Rattle·demands·proofs.proofs.Commutation.{commutation}
+use lib.ListN.{get_or}
+use Rattle.theory.specs.Machine.{replies, Swappable}
+use Rattle.member.specs.Record.{objectsAt}
+use Rattle.card.specs.Layout.{recordAt}
+use Rattle.demands.specs.Calls.{Call, step, names}
+use Rattle.host.specs.Request.{getAll}
+use Rattle.demands.specs.Examples.{exampleCard, send, useList, create, setMode, succeeds, gives, nineParts}
+use Rattle.demands.proofs.Model.{model}
+use Rattle.demands.proofs.Commutation.{commutation}
 
 -- member 1 gets an object, member 2 is stopped
 abbrev first : Call
@@ -30,7 +30,7 @@ later = send (getAll 1 0) ∷ []
 
 -- ---- each hypothesis ----
 
-apart : _≢_ {A = ℕ} 1 2
+apart : ◌≢◌ {A = ℕ} 1 2
 apart = omega arith
 
 names-first : names 1 first ≡ true
@@ -44,13 +44,13 @@ names-second = refl
 -- ---- both change the card, and the claim at them ----
 
 abbrev used : List ℕ
-used = step exampleCard (useList 0x3fc03) .0
+used = (step exampleCard (useList 0x3fc03)).0
 
-first-changes : getD (step used first .0) (recordAt 1 + objectsAt) 0 ≢ getD used (recordAt 1 + objectsAt) 0
+first-changes : get_or (step used first).0 (recordAt 1 + objectsAt) 0 ≢ get_or used (recordAt 1 + objectsAt) 0
 unfolding model
 first-changes = omega arith
 
-second-changes : getD (step used second .0) (recordAt 2) 0 ≢ getD used (recordAt 2) 0
+second-changes : get_or (step used second).0 (recordAt 2) 0 ≢ get_or used (recordAt 2) 0
 unfolding model
 second-changes = omega arith
 

@@ -1,35 +1,35 @@
 -- Commands, card stores, hand backs and the calls of a restore leave every configuration as it was. Assumes nothing.
-use mathlib.Core.Path.{_≡_, refl, ap, _∙_}
+use mathlib.Core.Path.{◌≡◌, refl, ap, ◌∙◌}
 use mathlib.Core.Bool.{true}
 use mathlib.Core.List.{List}
-use Prim.Native.Nat.{ℕ, _+_, _≤_}
+use Prim.Native.Nat.{ℕ, ◌+◌, ◌≤◌}
 use native.Mathlib.Omega.{arith}
 use lib.Dec.{eqb}
 use borrow.Author.Tests.{eqb-true, eqb-false}
-use Rattle·theory.proofs.Tests.{by-cases, unless-cases, within-low}
-use Rattle·wire.specs.Le.{le}
-use Rattle·protocol.specs.declared.EventAnswer.{EventAnswer}
-use Rattle·member.specs.declared.Member.{Member}
-use Rattle·member.specs.Record.{memberSize, holdingSize, memberBytes}
-use Rattle·card.specs.Layout.{memberBytesAt, configurationAt, configurationSize, generationAt, generationSize, holdingAt, isMember, recordBytes, withInUse, withMember, configurationIn, generationIn, withHolding, noBytes}
-use Rattle·card.proofs.RecordBytesLaws.{bytes-before, bytes-after, bytes-other}
-use Rattle·card.proofs.HeaderLaws.{bytes-with-use}
-use Rattle·events.specs.Events.{withHandedBack, handBack as handBackOf, storeIn, store}
-use Rattle·events.proofs.Cases.{if-done-cases, on-member-cases}
-use Rattle·frame.specs.declared.Ask.{Ask}
-use Rattle·frame.specs.declared.Ask.the-variants.{Refused, QueryList, UseList, Read, Change}
-use Rattle·admin.specs.Command.{perform, respond}
-use Rattle·admin.proofs.Respond.{FactsIn, asked-of, card-cases}
-use Rattle·staging.specs.Staging.{withHeldBytes, withoutHeld, beginOf, feedOf, finishOf, dropOf}
-use Rattle·staging.proofs.Refusals.{on-member-cases as restore-cases, on-open-cases}
-use Rattle·demands·specs.specs.Calls.{step}
-use Rattle·demands·specs.specs.Messages.{SameConfiguration, ConfigurationKept}
+use Rattle.theory.proofs.Tests.{by_cases, unless-cases, within_low}
+use Rattle.wire.specs.Le.{le}
+use Rattle.protocol.specs.declared.EventAnswer.{EventAnswer}
+use Rattle.member.specs.declared.Member.{Member}
+use Rattle.member.specs.Record.{memberSize, holdingSize, memberBytes}
+use Rattle.card.specs.Layout.{memberBytesAt, configurationAt, configurationSize, generationAt, generationSize, holdingAt, isMember, recordBytes, withInUse, withMember, configurationIn, generationIn, withHolding, noBytes}
+use Rattle.card.proofs.RecordBytesLaws.{bytes-before, bytes_after, bytes-other}
+use Rattle.card.proofs.HeaderLaws.{bytes-with-use}
+use Rattle.events.specs.Events.{withHandedBack, handBack as handBackOf, storeIn, store}
+use Rattle.events.proofs.Cases.{if-done-cases, on-member-cases}
+use Rattle.frame.specs.declared.Ask.{Ask}
+use Rattle.frame.specs.declared.Ask.TheVariants.{Refused, QueryList, UseList, Read, Change}
+use Rattle.admin.specs.Command.{perform, respond}
+use Rattle.admin.proofs.Respond.{FactsIn, asked_of, card-cases}
+use Rattle.staging.specs.Staging.{withHeldBytes, withoutHeld, beginOf, feedOf, finishOf, dropOf}
+use Rattle.staging.proofs.Refusals.{on-member-cases as restore-cases, on-open-cases}
+use Rattle.demands.specs.Calls.{step}
+use Rattle.demands.specs.Messages.{SameConfiguration, ConfigurationKept}
 
 -- the same bytes between the member's and those of its holding place
-pub same-bytes : (c d : List ℕ) (m : ℕ) → ((at n : ℕ) → configurationAt ≤ at → at + n ≤ holdingAt → recordBytes d m at n ≡ recordBytes c m at n)
+pub same_bytes : (c d : List ℕ) (m : ℕ) → ((at n : ℕ) → configurationAt ≤ at → at + n ≤ holdingAt → recordBytes d m at n ≡ recordBytes c m at n)
     → SameConfiguration c d m
 unfolding configurationIn generationIn
-same-bytes c d m f = record {
+same_bytes c d m f = record {
   configuration = f configurationAt configurationSize (omega arith) (omega arith);
   generation = ap le (f generationAt generationSize (omega arith) (omega arith));
 }
@@ -38,99 +38,99 @@ pub kept : (c : List ℕ) (m : ℕ) → SameConfiguration c c m
 kept c m = record { configuration = refl; generation = refl }
 
 then-kept : (c d e : List ℕ) (m : ℕ) → SameConfiguration c d m → SameConfiguration d e m → SameConfiguration c e m
-then-kept c d e m f g = record { configuration = g .configuration ∙ f .configuration; generation = g .generation ∙ f .generation }
+then-kept c d e m f g = record { configuration = g.configuration ∙ f.configuration; generation = g.generation ∙ f.generation }
 
 -- ---- what is put at a member k; m is any ----
 
 module _ (c : List ℕ) (m : ℕ) (low : 1 ≤ m) where
-  use-kept : (mask : ℕ) → SameConfiguration c (withInUse c mask) m
-  use-kept mask = same-bytes c _ m (λ at n a b. bytes-with-use c mask m at n)
+  use_kept : (mask : ℕ) → SameConfiguration c (withInUse c mask) m
+  use_kept mask = same_bytes c _ m (λ at n a b. bytes-with-use c mask m at n)
 
   module _ (k : ℕ) (l : 1 ≤ k) where
     member-kept : (x : Member) → SameConfiguration c (withMember c k x) m
     unfolding withMember
-    member-kept x = same-bytes c _ m λ at n a b.
-        by-cases (eqb m k)
-        (λ t. rw (eqb-true m k t) (bytes-after c k memberBytesAt memberSize (memberBytes x) at n (omega arith)))
+    member-kept x = same_bytes c _ m λ at n a b.
+        by_cases (eqb m k)
+        (λ t. rw (eqb-true m k t) (bytes_after c k memberBytesAt memberSize (memberBytes x) at n (omega arith)))
         (λ t. bytes-other c k memberBytesAt memberSize (memberBytes x) (omega arith) l m at n (omega arith) low (eqb-false m k t))
 
     holding-kept : (x : List ℕ) → SameConfiguration c (withHolding c k x) m
     unfolding withHolding
-    holding-kept x = same-bytes c _ m λ at n a b.
-        by-cases (eqb m k)
+    holding-kept x = same_bytes c _ m λ at n a b.
+        by_cases (eqb m k)
         (λ t. rw (eqb-true m k t) (bytes-before c k holdingAt holdingSize x at n (omega arith)))
         (λ t. bytes-other c k holdingAt holdingSize x (omega arith) l m at n (omega arith) low (eqb-false m k t))
 
 module _ (c : List ℕ) (m : ℕ) (low : 1 ≤ m) (k : ℕ) (l : 1 ≤ k) where
-  held-kept : (n : ℕ) (x : List ℕ) → SameConfiguration c (withHeldBytes c k n x) m
+  held_kept : (n : ℕ) (x : List ℕ) → SameConfiguration c (withHeldBytes c k n x) m
   unfolding withHeldBytes
-  held-kept n x = then-kept c _ _ m (member-kept c m low k l _) (holding-kept _ m low k l x)
+  held_kept n x = then-kept c _ _ m (member-kept c m low k l _) (holding-kept _ m low k l x)
 
   gone-kept : SameConfiguration c (withoutHeld c k) m
   unfolding withoutHeld
-  gone-kept = held-kept 0 noBytes
+  gone-kept = held_kept 0 noBytes
 
 -- ---- the calls ----
 
 module _ (c : List ℕ) (m : ℕ) (h : isMember c m ≡ true) where
   low : 1 ≤ m
-  low = within-low _ _ m h
+  low = within_low _ _ m h
 
-  perform-kept : (r : List ℕ) (a : Ask) → FactsIn c r a → SameConfiguration c (perform c r a .card) m
+  perform_kept : (r : List ℕ) (a : Ask) → FactsIn c r a → SameConfiguration c (perform c r a).card m
   unfolding perform
-  perform-kept r (Refused a) f = kept c m
-  perform-kept r QueryList f = kept c m
-  perform-kept r (UseList mask) f = use-kept c m low mask
-  perform-kept r (Read k op) f = kept c m
-  perform-kept r (Change k op) f = member-kept c m low k (f .0 .low) _
+  perform_kept r (Refused a) f = kept c m
+  perform_kept r QueryList f = kept c m
+  perform_kept r (UseList mask) f = use_kept c m low mask
+  perform_kept r (Read k op) f = kept c m
+  perform_kept r (Change k op) f = member-kept c m low k f.0.low _
 
-  respond-kept : (r : List ℕ) (room : ℕ) → SameConfiguration c (respond c r room .0) m
-  respond-kept r room = card-cases c r room (λ d. SameConfiguration c d m) (kept c m) (λ s. perform-kept r _ (asked-of c r))
+  respond-kept : (r : List ℕ) (room : ℕ) → SameConfiguration c (respond c r room).0 m
+  respond-kept r room = card-cases c r room (λ d. SameConfiguration c d m) (kept c m) (λ s. perform_kept r _ (asked_of c r))
 
   abbrev After : ℕ × List ℕ → Type 0
-  After y = SameConfiguration c (y .1) m
+  After y = SameConfiguration c y.1 m
 
   abbrev AfterEvent : EventAnswer × List ℕ → Type 0
-  AfterEvent y = SameConfiguration c (y .1) m
+  AfterEvent y = SameConfiguration c y.1 m
 
-  store-kept : (k t s : ℕ) (value : List ℕ) → SameConfiguration c (store c k t s value .1) m
+  store_kept : (k t s : ℕ) (value : List ℕ) → SameConfiguration c (store c k t s value).1 m
   unfolding store storeIn
-  store-kept k t s value =
+  store_kept k t s value =
       on-member-cases c k _ AfterEvent (λ a d. kept c m) λ e i.
-      if-done-cases AfterEvent _ _ c (λ d. kept c m) (λ d. member-kept c m low k (within-low _ _ k i) _)
+      if-done-cases AfterEvent _ _ c (λ d. kept c m) (λ d. member-kept c m low k (within_low _ _ k i) _)
 
-  back-kept : (k : ℕ) → SameConfiguration c (handBackOf c k .1) m
+  back-kept : (k : ℕ) → SameConfiguration c (handBackOf c k).1 m
   unfolding handBackOf withHandedBack
   back-kept k =
       on-member-cases c k _ AfterEvent (λ a d. kept c m) λ e i.
-      let l = within-low _ _ k i in
+      let l = within_low _ _ k i in
       unless-cases AfterEvent _ _ _ (λ t. kept c m) (λ t. then-kept c _ _ m (member-kept c m low k l _) (holding-kept _ m low k l noBytes))
 
-  begin-kept : (k : ℕ) → SameConfiguration c (beginOf c k .1) m
+  begin-kept : (k : ℕ) → SameConfiguration c (beginOf c k).1 m
   unfolding beginOf
   begin-kept k = restore-cases c k _ After (λ a. kept c m) λ p.
-      unless-cases After _ _ _ (λ t. kept c m) (λ t. member-kept c m low k (within-low _ _ k (p .member)) _)
+      unless-cases After _ _ _ (λ t. kept c m) (λ t. member-kept c m low k (within_low _ _ k p.member) _)
 
-  feed-kept : (k : ℕ) (x : List ℕ) → SameConfiguration c (feedOf c k x .1) m
+  feed-kept : (k : ℕ) (x : List ℕ) → SameConfiguration c (feedOf c k x).1 m
   unfolding feedOf
   feed-kept k x = on-open-cases c k _ After (λ a. kept c m) λ p.
-      let l = within-low _ _ k (p .member) in
-      unless-cases After _ _ _ (λ t. gone-kept c m low k l) (λ t. held-kept c m low k l _ _)
+      let l = within_low _ _ k p.member in
+      unless-cases After _ _ _ (λ t. gone-kept c m low k l) (λ t. held_kept c m low k l _ _)
 
-  finish-kept : (k id : ℕ) → SameConfiguration c (finishOf c k id .1) m
+  finish-kept : (k id : ℕ) → SameConfiguration c (finishOf c k id).1 m
   unfolding finishOf
   finish-kept k id = on-open-cases c k _ After (λ a. kept c m) λ p.
-      then-kept c _ _ m (respond-kept _ _) (gone-kept _ m low k (within-low _ _ k (p .member)))
+      then-kept c _ _ m (respond-kept _ _) (gone-kept _ m low k (within_low _ _ k p.member))
 
-  drop-kept : (k : ℕ) → SameConfiguration c (dropOf c k .1) m
+  drop-kept : (k : ℕ) → SameConfiguration c (dropOf c k).1 m
   unfolding dropOf
-  drop-kept k = on-open-cases c k _ After (λ a. kept c m) (λ p. gone-kept c m low k (within-low _ _ k (p .member)))
+  drop-kept k = on-open-cases c k _ After (λ a. kept c m) (λ p. gone-kept c m low k (within_low _ _ k p.member))
 
 pub configuration-kept : ConfigurationKept
 unfolding step
 configuration-kept c m h = record {
   commands = respond-kept c m h;
-  cardStores = store-kept c m h;
+  cardStores = store_kept c m h;
   handBacks = back-kept c m h;
   begins = begin-kept c m h;
   feeds = feed-kept c m h;

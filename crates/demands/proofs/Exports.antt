@@ -1,28 +1,28 @@
 -- What the exported functions give is the step of a sequence. Assumes nothing.
-use mathlib.Core.Path.{_≡_, refl, ap}
+use mathlib.Core.Path.{◌≡◌, refl, ap}
 use mathlib.Core.List.{List}
-use Prim.Native.Nat.{ℕ, _≤_}
+use Prim.Native.Nat.{ℕ, ◌≤◌}
 use native.Mathlib.Omega.{arith}
 use lib.ListN.{length, take}
-use Rattle·theory.specs.Bytes.{put}
-use Rattle·theory.proofs.Bytes.{bytesAt-put}
-use Rattle·reply.specs.Reply.{written as writtenOf}
-use Rattle·admin.specs.Command.{respond, delivered, commandOf}
-use Rattle·message.specs.Message.{answerOf, delivered as respondedOf, messageOf}
-use Rattle·demands·specs.specs.Calls.{Reply, written, responded, step}
-use Rattle·demands·specs.specs.Exports.{ExportsStep}
-use Rattle·demands·proofs.proofs.Demand1.{delivers}
-use Rattle·demands·proofs.proofs.Messages.{responded as responds}
+use Rattle.theory.specs.Bytes.{put}
+use Rattle.theory.proofs.Bytes.{bytesAt-put}
+use Rattle.reply.specs.Reply.{written as written_of}
+use Rattle.admin.specs.Command.{respond, delivered, commandOf}
+use Rattle.message.specs.Message.{answer_of, delivered as respondedOf, messageOf}
+use Rattle.demands.specs.Calls.{Reply, written, responded, step}
+use Rattle.demands.specs.Exports.{ExportsStep}
+use Rattle.demands.proofs.Demand1.{delivers}
+use Rattle.demands.proofs.Messages.{responded as responds}
 
 -- what is put at the front of a buffer is read there
 front : (x b : List ℕ) → length x ≤ length b → take (length x) (put 0 x b) ≡ x
 front x b h = bytesAt-put 0 x b (omega arith)
 
 pub exports-step : ExportsStep
-unfolding step commandOf delivered writtenOf messageOf respondedOf
+unfolding step commandOf delivered written_of messageOf respondedOf
 exports-step = record {
   commands = λ c r b.
-      ap (λ (x : List ℕ). (respond c r (length b) .0, written x)) (front (respond c r (length b) .1) b (delivers c r b .within));
+      ap (λ (x : List ℕ). ((respond c r (length b)).0, written x)) (front (respond c r (length b)).1 b (delivers c r b).within);
   handBacks = λ c m. refl;
   wipes = λ c m g. refl;
   cardResets = λ c g. refl;
@@ -32,5 +32,5 @@ exports-step = record {
   finishes = λ c m id. refl;
   drops = λ c m. refl;
   messages = λ c x b.
-      ap (λ (y : List ℕ). (answerOf c x (length b) .0, responded y)) (front (answerOf c x (length b) .1) b (responds c x b .within));
+      ap (λ (y : List ℕ). ((answer_of c x (length b)).0, responded y)) (front (answer_of c x (length b)).1 b (responds c x b).within);
 }

@@ -1,75 +1,75 @@
 -- When setup is done, and what is fresh after it, after a wipe and after a card reset. Assumes nothing.
-use mathlib.Core.Path.{_≡_, refl, ap, _∙_}
+use mathlib.Core.Path.{◌≡◌, refl, ap, ◌∙◌}
 use mathlib.Core.Bool.{true}
 use mathlib.Core.List.{List}
-use Prim.Native.Nat.{ℕ, _+_, _-_, _*_, _<_}
+use Prim.Native.Nat.{ℕ, ◌+◌, ◌-◌, ◌*◌, ◌<◌}
 use native.Mathlib.Omega.{arith}
-use borrow.Author.Tests.{eqb-true, eq-eqb, ne-eqb}
+use borrow.Author.Tests.{eqb-true, eq-eqb, ne_eqb}
 use lib.Dec.{eqb}
-use lib.ListN.{length, getD, replicate}
-use Rattle·theory.specs.Logic.{unless_answer_then_, _and_}
-use Rattle·theory.proofs.Tests.{by-cases, both, and-i}
-use Rattle·theory.proofs.Lists.{getD-same}
-use Rattle·protocol.specs.declared.EventAnswer.the-variants.{Done, BadSetup}
-use Rattle·objects.specs.declared.Found.the-variants.{Nothing}
-use Rattle·objects.specs.Objects.{free}
-use Rattle·member.specs.declared.Member.{Member}
-use Rattle·member.specs.Member.{featuresSize, freshOf}
-use Rattle·member.specs.Objects.{lookupOf}
-use Rattle·member.proofs.Record.{fresh-shaped}
-use Rattle·setups.specs.declared.Setup as setups
-use Rattle·setups.specs.Setup.{inNumbers}
-use Rattle·setups.specs.Reading.{readNumber, readAs, readSetup}
-use Rattle·setups.specs.Accepted.{GoodSetup}
-use Rattle·setups.specs.Claims.{countsRead}
-use Rattle·setups.proofs.Ranges.{numbers-in}
-use Rattle·setups.proofs.Accepted.{numbers-good, good-numbers}
-use Rattle·setups.proofs.Claims.{claims}
-use Rattle·card.specs.declared.Setup.{Setup}
-use Rattle·card.specs.Layout.{recordSize, cardSize, setupOf, isMember, recordBytes, memberIn, countsOf, isMarked, noConfiguration, noBytes, recordOf, withFresh, freshCard}
-use Rattle·card.specs.Sound.{isSound}
-use Rattle·card.proofs.HeaderLaws.{features-long}
-use Rattle·card.proofs.FreshLaws.{length-fresh, setup-fresh, use-fresh, record-fresh}
-use Rattle·card.proofs.WholeRecordLaws.{whole-member, whole-configuration, whole-generation, whole-holding, record-written}
-use Rattle·card.proofs.CountLaws.{counts-long}
-use Rattle·card.proofs.SoundLaws.{sound-of, sound-long, sound-has}
-use Rattle·events.specs.Events.{setupWith, refusedSetup, setUp, setUpOf, setUpFrom, numbered, wipe as wipeOf, resetCard}
-use Rattle·events.proofs.Cases.{on-sound}
-use Rattle·demands·specs.specs.Calls.{wipe, cardReset, answered, step}
-use Rattle·demands·specs.specs.Fresh.{FreshMember, FreshCard, SetupDone, SetupFromDone, SetupsDone, ResetsDone}
+use lib.ListN.{length, get_or, replicate}
+use Rattle.theory.specs.Logic.{unless◌answer◌then◌, ◌and◌}
+use Rattle.theory.proofs.Tests.{by_cases, both, and_i}
+use Rattle.theory.proofs.Lists.{getD-same}
+use Rattle.protocol.specs.declared.EventAnswer.TheVariants.{Done, BadSetup}
+use Rattle.objects.specs.declared.Found.TheVariants.{Nothing}
+use Rattle.objects.specs.Objects.{free}
+use Rattle.member.specs.declared.Member.{Member}
+use Rattle.member.specs.Member.{featuresSize, fresh_of}
+use Rattle.member.specs.Objects.{lookupOf}
+use Rattle.member.proofs.Record.{fresh-shaped}
+use Rattle.setups.specs.declared.Setup as setups
+use Rattle.setups.specs.Setup.{inNumbers}
+use Rattle.setups.specs.Reading.{readNumber, readAs, readSetup}
+use Rattle.setups.specs.Accepted.{GoodSetup}
+use Rattle.setups.specs.Claims.{countsRead}
+use Rattle.setups.proofs.Ranges.{numbers-in}
+use Rattle.setups.proofs.Accepted.{numbers-good, good-numbers}
+use Rattle.setups.proofs.Claims.{claims}
+use Rattle.card.specs.declared.Setup.{Setup}
+use Rattle.card.specs.Layout.{recordSize, cardSize, setupOf, isMember, recordBytes, memberIn, countsOf, isMarked, noConfiguration, noBytes, recordOf, withFresh, freshCard}
+use Rattle.card.specs.Sound.{isSound}
+use Rattle.card.proofs.HeaderLaws.{features-long}
+use Rattle.card.proofs.FreshLaws.{length-fresh, setup-fresh, use-fresh, record-fresh}
+use Rattle.card.proofs.WholeRecordLaws.{whole-member, whole-configuration, whole-generation, whole-holding, record-written}
+use Rattle.card.proofs.CountLaws.{counts-long}
+use Rattle.card.proofs.SoundLaws.{sound-of, sound-long, sound-has}
+use Rattle.events.specs.Events.{setupWith, refusedSetup, setUp, setUpOf, setUpFrom, numbered, wipe as wipeOf, resetCard}
+use Rattle.events.proofs.Cases.{on-sound}
+use Rattle.demands.specs.Calls.{wipe, cardReset, answered, step}
+use Rattle.demands.specs.Fresh.{FreshMember, FreshCard, SetupDone, SetupFromDone, SetupsDone, ResetsDone}
 
 -- ---- fresh ----
 
-no-object : (q : ℕ) (f : List ℕ) (id : ℕ) → lookupOf (freshOf q f) id ≡ Nothing
-unfolding lookupOf freshOf
+no-object : (q : ℕ) (f : List ℕ) (id : ℕ) → lookupOf (fresh_of q f) id ≡ Nothing
+unfolding lookupOf fresh_of
 no-object q f id = rw (getD-same 16 id free)
 
 -- a record that was written with a fresh member
 fresh-member : (c : List ℕ) (m q : ℕ) (f : List ℕ) (g : ℕ) → length f ≡ featuresSize → g < 4294967296
-    → recordBytes c m 0 recordSize ≡ recordOf (freshOf q f) g → FreshMember c m q f g
-unfolding freshOf noConfiguration noBytes
+    → recordBytes c m 0 recordSize ≡ recordOf (fresh_of q f) g → FreshMember c m q f g
+unfolding fresh_of noConfiguration noBytes
 fresh-member c m q f g l h e =
     let s = fresh-shaped q f l in
-    let x = whole-member c m (freshOf q f) g s e in
+    let x = whole-member c m (fresh_of q f) g s e in
     record {
-      runs = ap (λ (y : Member). y .mode) x;
-      unmarked = ap (λ (y : Member). y .marked) x;
-      count = ap (λ (y : Member). y .queues) x;
+      runs = ap (λ (y : Member). y.mode) x;
+      unmarked = ap (λ (y : Member). y.marked) x;
+      count = ap (λ (y : Member). y.queues) x;
       noObject = λ id. ap (λ (y : Member). lookupOf y id) x ∙ no-object q f id;
-      noPlace = ap (λ (y : Member). y .held) x;
-      values = ap (λ (y : Member). y .values) x;
-      configuration = whole-configuration c m (freshOf q f) g s e;
-      generationIs = whole-generation c m (freshOf q f) g s e h;
-      holding = whole-holding c m (freshOf q f) g s e;
+      noPlace = ap (λ (y : Member). y.held) x;
+      values = ap (λ (y : Member). y.values) x;
+      configuration = whole-configuration c m (fresh_of q f) g s e;
+      generationIs = whole-generation c m (fresh_of q f) g s e h;
+      holding = whole-holding c m (fresh_of q f) g s e;
     }
 
-fresh-card : (s : Setup) (q : List ℕ) (g : ℕ) → length (s .features) ≡ featuresSize → length q ≡ s .members → g < 4294967296
-    → FreshCard (freshCard s q g) (s .members) q (s .gets) (s .sets) (s .features) g
+fresh-card : (s : Setup) (q : List ℕ) (g : ℕ) → length s.features ≡ featuresSize → length q ≡ s.members → g < 4294967296
+    → FreshCard (freshCard s q g) s.members q s.gets s.sets s.features g
 fresh-card s q g l n h = record {
   long = length-fresh s q g l ∙ ap cardSize n;
   setup = setup-fresh s q g l;
   inUse = use-fresh s q g l;
-  member = λ m low high. fresh-member (freshCard s q g) m (getD q (m - 1) 0) (s .features) g l h
+  member = λ m low high. fresh-member (freshCard s q g) m (get_or q (m - 1) 0) s.features g l h
       (record-fresh s q g l m low (omega arith));
 }
 
@@ -79,56 +79,56 @@ module _ (b : List ℕ) (members : ℕ) (q : List ℕ) (gets sets : ℕ) (featur
   -- the two tests that are not of numbers
   setup-right : GoodSetup members q gets sets features → length b ≡ 27 + 1266 * members
       → inNumbers members q gets sets and eqb (length features) featuresSize and eqb (length b) (cardSize members) ≡ true
-  setup-right h l = and-i _ _ (and-i _ _ (good-numbers members q gets sets features h) (eq-eqb _ _ (h .long))) (eq-eqb _ _ l)
+  setup-right h l = and_i _ _ (and_i _ _ (good-numbers members q gets sets features h) (eq-eqb _ _ h.long)) (eq-eqb _ _ l)
 
   setup-done : GoodSetup members q gets sets features → length b ≡ 27 + 1266 * members
       → setUp b members q gets sets features ≡ (Done, freshCard (setupWith members gets sets features) q 0)
-  unfolding setUp unless_answer_then_
+  unfolding setUp unless◌answer◌then◌
   setup-done h l = rw (setup-right h l)
 
   -- whatever rules out that the tests hold
   setup-refused : (GoodSetup members q gets sets features → length b ≡ 27 + 1266 * members → ⊥)
       → setUp b members q gets sets features ≡ (BadSetup, replicate (length b) 0)
-  unfolding setUp refusedSetup unless_answer_then_
+  unfolding setUp refusedSetup unless◌answer◌then◌
   setup-refused f =
-      by-cases (inNumbers members q gets sets and eqb (length features) featuresSize and eqb (length b) (cardSize members))
+      by_cases (inNumbers members q gets sets and eqb (length features) featuresSize and eqb (length b) (cardSize members))
       (λ t.
       let p = both _ _ t in
-      let r = both _ _ (p .0) in
-      absurd (f (numbers-good members q gets sets features (numbers-in members q gets sets (r .0)) (eqb-true _ _ (r .1)))
-      (eqb-true _ _ (p .1))))
+      let r = both _ _ p.0 in
+      absurd (f (numbers-good members q gets sets features (numbers-in members q gets sets r.0) (eqb-true _ _ r.1))
+      (eqb-true _ _ p.1)))
       (λ t. rw t)
 
   pub setup-is-done : SetupDone b members q gets sets features
   setup-is-done = record {
     done = λ h l.
         let e = setup-done h l in
-        rw e (refl, fresh-card (setupWith members gets sets features) q 0 (h .long) (h .each) (omega arith));
+        rw e (refl, fresh-card (setupWith members gets sets features) q 0 h.long h.each (omega arith));
     bad = λ n. ap numbered (setup-refused (λ h l. n h));
     otherLength = λ n. ap numbered (setup-refused (λ h l. n l));
   }
 
 module _ (b l : List ℕ) where
   from-read : (s : setups.Setup) → readSetup l ≡ readAs s
-      → setUpFrom b l ≡ setUp b (s .members) (countsRead s) (s .gets) (s .sets) (s .features)
-  unfolding setUpFrom setUpOf unless_answer_then_
+      → setUpFrom b l ≡ setUp b s.members (countsRead s) s.gets s.sets s.features
+  unfolding setUpFrom setUpOf unless◌answer◌then◌
   from-read s e = rw e
 
   read-good : (s : setups.Setup) → readSetup l ≡ readAs s
-      → GoodSetup (s .members) (countsRead s) (s .gets) (s .sets) (s .features)
+      → GoodSetup s.members (countsRead s) s.gets s.sets s.features
   read-good s e =
-      let r = rw e at (claims .inRange l (rw e)) in
-      numbers-good _ _ _ _ _ (numbers-in _ _ _ _ (r .numbers)) (r .features)
+      let r = rw e at (claims.in_range l (rw e)) in
+      numbers-good _ _ _ _ _ (numbers-in _ _ _ _ r.numbers) r.features
 
-  from-refused : (readNumber (readSetup l .answer) ≡ 0 → ⊥) → setUpFrom b l ≡ (BadSetup, replicate (length b) 0)
-  unfolding setUpFrom refusedSetup unless_answer_then_
-  from-refused n = rw (ne-eqb _ 0 n)
+  from-refused : (readNumber (readSetup l).answer ≡ 0 → ⊥) → setUpFrom b l ≡ (BadSetup, replicate (length b) 0)
+  unfolding setUpFrom refusedSetup unless◌answer◌then◌
+  from-refused n = rw (ne_eqb _ 0 n)
 
   pub from-is-done : SetupFromDone b l
   from-is-done = record {
-    done = λ s e h. rw (from-read s e) (setup-is-done b _ _ _ _ _ .done (read-good s e) h);
+    done = λ s e h. rw (from-read s e) ((setup-is-done b _ _ _ _ _).done (read-good s e) h);
     bad = λ n. ap numbered (from-refused n);
-    otherLength = λ s e n. rw (from-read s e) (setup-is-done b _ _ _ _ _ .otherLength n);
+    otherLength = λ s e n. rw (from-read s e) ((setup-is-done b _ _ _ _ _).otherLength n);
   }
 
 pub setups-done : SetupsDone
@@ -137,31 +137,31 @@ setups-done = record { given = setup-is-done; packed = from-is-done }
 -- ---- resets ----
 
 module _ (c : List ℕ) (g : ℕ) (s : isSound c ≡ true) (h : g < 4294967296) where
-  features-are : length (setupOf c .features) ≡ featuresSize
+  features-are : length (setupOf c).features ≡ featuresSize
   features-are = features-long c (omega (arith, sound-long c (sound-of c s)))
 
   module _ (m : ℕ) (u : isMarked c m ≡ true) where
     marked-member : isMember c m ≡ true
     unfolding isMarked
-    marked-member = both _ _ u .0
+    marked-member = (both _ _ u).0
 
-    wiped : wipeOf c m g ≡ (Done, withFresh c m (setupOf c .features) g)
-    unfolding wipeOf unless_answer_then_
+    wiped : wipeOf c m g ≡ (Done, withFresh c m (setupOf c).features g)
+    unfolding wipeOf unless◌answer◌then◌
     wiped = rw (on-sound c m _ s, marked-member, u)
 
-    wipe-done : (step c (wipe m g) .1
-        ≡ answered 0) × FreshMember (step c (wipe m g) .0) m (memberIn c m .queues) (setupOf c .features) g
+    wipe-done : ((step c (wipe m g)).1
+        ≡ answered 0) × FreshMember (step c (wipe m g)).0 m (memberIn c m).queues (setupOf c).features g
     unfolding step
     wipe-done =
-        let x = freshOf (memberIn c m .queues) (setupOf c .features) in
+        let x = fresh_of (memberIn c m).queues (setupOf c).features in
         let r = record-written c m x g (fresh-shaped _ _ features-are) (sound-has c (sound-of c s) m marked-member) in
         rw wiped (refl, fresh-member _ m _ _ g features-are h r)
 
-  reset-done : (step c (cardReset g) .1 ≡ answered 0)
-      × FreshCard (step c (cardReset g) .0) (setupOf c .members) (countsOf c) (setupOf c .gets) (setupOf c .sets)
-      (setupOf c .features) g
-  unfolding step resetCard countsOf unless_answer_then_
-  reset-done = rw s (refl, fresh-card (setupOf c) (countsOf c) g features-are (counts-long c 1 (setupOf c .members)) h)
+  reset-done : ((step c (cardReset g)).1 ≡ answered 0)
+      × FreshCard (step c (cardReset g)).0 (setupOf c).members (countsOf c) (setupOf c).gets (setupOf c).sets
+      (setupOf c).features g
+  unfolding step resetCard countsOf unless◌answer◌then◌
+  reset-done = rw s (refl, fresh-card (setupOf c) (countsOf c) g features-are (counts-long c 1 (setupOf c).members) h)
 
 pub resets-done : ResetsDone
 resets-done = record {

@@ -1,27 +1,27 @@
 -- The hypotheses of the claims of request 10 can be met: a member with an object, before and after it is handed back. Assumes
 -- nothing.
-use mathlib.Core.Path.{_≡_, refl}
+use mathlib.Core.Path.{◌≡◌, refl}
 use mathlib.Core.Bool.{true, false}
-use mathlib.Core.List.{List, [], _∷_}
+use mathlib.Core.List.{List, [], ◌∷◌}
 use Prim.Native.Nat.{ℕ}
-use Rattle·theory.specs.Machine.{run}
-use Rattle·card.specs.Layout.{inUseOf, isMember, isMarked}
-use Rattle·card.specs.Sound.{isSound}
-use Rattle·frame.specs.Frame.{opcodeOf}
-use Rattle·frame.specs.Ask.{usable}
-use Rattle·host.specs.Request.{getAll}
-use Rattle·demands·specs.specs.Calls.{handBack, step, names}
-use Rattle·demands·specs.specs.Examples.{exampleCard, send, objectsLive}
-use Rattle·demands·specs.specs.Halves.{DoesReset, Between, StoredAlike, Idle}
-use Rattle·demands·proofs.proofs.Model.{model}
-use Rattle·demands·proofs.proofs.Halves.{two-halves}
-use Rattle·demands·proofs.proofs.Between.{marked-refused, marked-idle, stores-work}
+use Rattle.theory.specs.Machine.{run}
+use Rattle.card.specs.Layout.{inUseOf, isMember, isMarked}
+use Rattle.card.specs.Sound.{isSound}
+use Rattle.frame.specs.Frame.{opcode_of}
+use Rattle.frame.specs.Ask.{usable}
+use Rattle.host.specs.Request.{getAll}
+use Rattle.demands.specs.Calls.{handBack, step, names}
+use Rattle.demands.specs.Examples.{exampleCard, send, objectsLive}
+use Rattle.demands.specs.Halves.{DoesReset, Between, StoredAlike, Idle}
+use Rattle.demands.proofs.Model.{model}
+use Rattle.demands.proofs.Halves.{two-halves}
+use Rattle.demands.proofs.Between.{marked_refused, marked-idle, stores-work}
 
 before : List ℕ
 before = run step exampleCard objectsLive
 
 pub after : List ℕ
-after = step before (handBack 1) .0
+after = (step before (handBack 1)).0
 
 example : Unit {0}
 unfolding model before after
@@ -55,7 +55,7 @@ unfolding example
 is-marked = refl
 
 refused-between : Between after 1
-refused-between = marked-refused after 1 sound-after is-marked
+refused-between = marked_refused after 1 sound-after is-marked
 
 idle-between : Idle after 1
 idle-between = marked-idle after 1 sound-after is-marked
@@ -65,6 +65,6 @@ names-it : names 1 (send (getAll 1 0)) ≡ true
 unfolding example
 names-it = refl
 
-in-use : usable (inUseOf after) (opcodeOf (getAll 1 0)) ≡ true
+in_use : usable (inUseOf after) (opcode_of (getAll 1 0)) ≡ true
 unfolding example
-in-use = refl
+in_use = refl

@@ -1,32 +1,32 @@
 -- The hypotheses of the host's claims can be met: by a request of each command, on 01's bench card with all commands in
 -- use. Assumes nothing.
-use mathlib.Core.Path.{_≡_, refl}
+use mathlib.Core.Path.{◌≡◌, refl}
 use mathlib.Core.Bool.{Bool, true}
-use mathlib.Core.List.{List, [], _∷_, map}
-use Prim.Native.Nat.{ℕ, _+_}
+use mathlib.Core.List.{List, [], ◌∷◌, map}
+use Prim.Native.Nat.{ℕ, ◌+◌}
 use native.Mathlib.Omega.{arith}
 use borrow.Author.Tests.{leb-true}
 use lib.Dec.{leb}
 use lib.ListN.{length, replicate}
-use Rattle·theory.specs.Logic.{_and_}
-use Rattle·theory.proofs.Tests.{both}
-use Rattle·protocol.specs.Opcodes.{bit}
-use Rattle·card.specs.Layout.{setupOf, inUseOf, isMarked}
-use Rattle·card.specs.Sound.{isSound}
-use Rattle·frame.specs.Frame.{longest}
-use Rattle·frame.specs.Ask.{reaches, attended}
-use Rattle·host.specs.declared.Command.{Command}
-use Rattle·host.specs.declared.Command.the-variants as host
-use Rattle·host.specs.Request.{sentOf, requestOf}
-use Rattle·demands·specs.specs.Calls.{step}
-use Rattle·demands·specs.specs.Examples.{exampleCard, useList}
-use Rattle·demands·specs.specs.Host.{inside, Takeable, TakenAs, ReadAs}
-use Rattle·demands·proofs.proofs.Model.{model}
-use Rattle·demands·proofs.proofs.Taken.{taken}
-use Rattle·demands·proofs.proofs.ReadBack.{read-back}
+use Rattle.theory.specs.Logic.{◌and◌}
+use Rattle.theory.proofs.Tests.{both}
+use Rattle.protocol.specs.Opcodes.{bit}
+use Rattle.card.specs.Layout.{setupOf, inUseOf, isMarked}
+use Rattle.card.specs.Sound.{isSound}
+use Rattle.frame.specs.Frame.{longest}
+use Rattle.frame.specs.Ask.{reaches, attended}
+use Rattle.host.specs.declared.Command.{Command}
+use Rattle.host.specs.declared.Command.TheVariants as host
+use Rattle.host.specs.Request.{sentOf, requestOf}
+use Rattle.demands.specs.Calls.{step}
+use Rattle.demands.specs.Examples.{exampleCard, useList}
+use Rattle.demands.specs.Host.{inside, Takeable, TakenAs, ReadAs}
+use Rattle.demands.proofs.Model.{model}
+use Rattle.demands.proofs.Taken.{taken}
+use Rattle.demands.proofs.ReadBack.{read_back}
 
 bench : List ℕ
-bench = step exampleCard (useList 0x3fc03) .0
+bench = (step exampleCard (useList 0x3fc03)).0
 
 bench-sound : isSound bench ≡ true
 unfolding model bench
@@ -37,19 +37,19 @@ bench-sound = refl
 -- the hypotheses as one test
 abbrev takes : Command × List ℕ → Bool
 takes (x, list) =
-    bit (inUseOf bench) (sentOf x .opcode)
-    and reaches (setupOf bench .members) (sentOf x .opcode) (sentOf x .member)
-    and attended (isMarked bench (sentOf x .member)) (sentOf x .opcode)
-    and inside (setupOf bench .gets + setupOf bench .sets) x list
+    bit (inUseOf bench) (sentOf x).opcode
+    and reaches (setupOf bench).members (sentOf x).opcode (sentOf x).member
+    and attended (isMarked bench (sentOf x).member) (sentOf x).opcode
+    and inside ((setupOf bench).gets + (setupOf bench).sets) x list
     and leb (length (requestOf x list)) longest
 
 takeable : (x : Command) (list : List ℕ) → takes (x, list) ≡ true → Takeable bench x list
 takeable x list e =
     let p = both _ _ e in
-    let q = both _ _ (p .0) in
-    let w = both _ _ (q .0) in
-    let r = both _ _ (w .0) in
-    record { sound = bench-sound; inUse = r .0; member = r .1; unmarked = w .1; fields = q .1; short = leb-true _ _ (p .1) }
+    let q = both _ _ p.0 in
+    let w = both _ _ q.0 in
+    let r = both _ _ w.0 in
+    record { sound = bench-sound; inUse = r.0; member = r.1; unmarked = w.1; fields = q.1; short = leb-true _ _ p.1 }
 
 -- a request of each command: two headers are asked for, and five bytes given to be set
 ten : List (Command × List ℕ)
@@ -66,9 +66,9 @@ ten =
     ∷ (host.SetMode 2 1, [])
     ∷ []
 
-all-take : map takes ten ≡ replicate 10 true
+all_take : map takes ten ≡ replicate 10 true
 unfolding model bench inside ten
-all-take = refl
+all_take = refl
 
 -- the claim at one of them
 get-takes : takes (host.Get 1 0 0, replicate 32 0) ≡ true
@@ -83,5 +83,5 @@ get-taken = taken bench (host.Get 1 0 0) (replicate 32 0) (takeable (host.Get 1 
 type-is : (m id type : ℕ) → host.Metadata 1 0 2 ≡ host.Metadata m id type → type ≡ 2
 type-is m id type e = cc
 
-list-read : ReadAs bench (host.Metadata 1 0 2) [] 8 2
-list-read = read-back bench (host.Metadata 1 0 2) [] 8 2 bench-sound (omega arith) (omega arith) type-is
+list_read : ReadAs bench (host.Metadata 1 0 2) [] 8 2
+list_read = read_back bench (host.Metadata 1 0 2) [] 8 2 bench-sound (omega arith) (omega arith) type-is

@@ -1,38 +1,38 @@
 -- REQUEST 2: empty list use leaves nothing in use, and then no command is carried out until a reset of the card. Assumes nothing.
-use mathlib.Core.Path.{_≡_, refl, sym, _∙_}
-use mathlib.Core.Logic.{_≢_}
+use mathlib.Core.Path.{◌≡◌, refl, sym, ◌∙◌}
+use mathlib.Core.Logic.{◌≢◌}
 use mathlib.Core.Bool.{true}
 use mathlib.Core.List.{List, []}
-use Prim.Native.Nat.{ℕ, _≤_}
+use Prim.Native.Nat.{ℕ, ◌≤◌}
 use native.Mathlib.Omega.{arith}
 use borrow.Author.Tests.{eq-eqb}
-use Rattle·theory.specs.Logic.{if_then_else_, unless_answer_then_, _and_, _or_, within}
-use Rattle·theory.proofs.Tests.{both, unless-cases, or-true, never}
-use Rattle·wire.specs.Le.{le, bytes, number}
-use Rattle·protocol.specs.declared.Answer.the-variants.{Done, BadLength, BadGroup, BadOpcode}
-use Rattle·protocol.specs.Opcodes.{opcodeRows, opcodeRow, supported, bit, namesMember, supportedOnly}
-use Rattle·protocol.proofs.Masks.{bit-out}
-use Rattle·frame.specs.declared.Ask.{Ask}
-use Rattle·frame.specs.declared.Ask.the-variants.{Refused, UseList}
-use Rattle·frame.specs.Frame.{opcodeOf}
-use Rattle·frame.specs.Fields.{useIn, fieldsOf}
-use Rattle·frame.specs.Ask.{usable, reaches, attended, framedOf, askOf}
-use Rattle·card.specs.Layout.{inUseOf}
-use Rattle·card.specs.Sound.{isSound}
-use Rattle·card.proofs.HeaderLaws.{same-use, use-same}
-use Rattle·card.proofs.ConfigurationLaws.{use-with-configuration}
-use Rattle·card.proofs.SoundLaws.{sound-of, sound-long}
-use Rattle·reply.specs.Reply.{headOf}
-use Rattle·reply.proofs.Reply.{reply-empty, final-empty}
-use Rattle·admin.specs.Command.{askIn, perform}
-use Rattle·admin.proofs.Respond.{ended, respond-is, respond-cases}
-use Rattle·host.specs.Request.{request}
-use Rattle·host.proofs.Request.{length-request, opcode-request, group-request, data-request}
-use Rattle·message.proofs.Cases.{card-cases}
-use Rattle·demands·specs.specs.Calls.{Call, command, handBack, wipe, cardReset, cardStore, restoreBegin, restoreFeed, restoreFinish, restoreDrop, message, written, refused, step, names}
-use Rattle·demands·specs.specs.Lengths.{NothingInUse}
-use Rattle·demands·proofs.proofs.Refusals.{respond-keeps}
-use Rattle·demands·proofs.proofs.Integrity.{integrity}
+use Rattle.theory.specs.Logic.{if◌then◌else◌, unless◌answer◌then◌, ◌and◌, ◌or◌, within}
+use Rattle.theory.proofs.Tests.{both, unless-cases, or-true, never}
+use Rattle.wire.specs.Le.{le, bytes, number}
+use Rattle.protocol.specs.declared.Answer.TheVariants.{Done, BadLength, BadGroup, BadOpcode}
+use Rattle.protocol.specs.Opcodes.{opcodeRows, opcodeRow, supported, bit, namesMember, supportedOnly}
+use Rattle.protocol.proofs.Masks.{bit-out}
+use Rattle.frame.specs.declared.Ask.{Ask}
+use Rattle.frame.specs.declared.Ask.TheVariants.{Refused, UseList}
+use Rattle.frame.specs.Frame.{opcode_of}
+use Rattle.frame.specs.Fields.{useIn, fields_of}
+use Rattle.frame.specs.Ask.{usable, reaches, attended, framedOf, askOf}
+use Rattle.card.specs.Layout.{inUseOf}
+use Rattle.card.specs.Sound.{isSound}
+use Rattle.card.proofs.HeaderLaws.{same-use, use-same}
+use Rattle.card.proofs.ConfigurationLaws.{use-with-configuration}
+use Rattle.card.proofs.SoundLaws.{sound-of, sound-long}
+use Rattle.reply.specs.Reply.{head_of}
+use Rattle.reply.proofs.Reply.{reply-empty, final-empty}
+use Rattle.admin.specs.Command.{askIn, perform}
+use Rattle.admin.proofs.Respond.{ended, respond-is, respond-cases}
+use Rattle.host.specs.Request.{request}
+use Rattle.host.proofs.Request.{length-request, opcode-request, group-request, data-request}
+use Rattle.message.proofs.Cases.{card-cases}
+use Rattle.demands.specs.Calls.{Call, command, handBack, wipe, cardReset, cardStore, restoreBegin, restoreFeed, restoreFinish, restoreDrop, message, written, refused, step, names}
+use Rattle.demands.specs.Lengths.{NothingInUse}
+use Rattle.demands.proofs.Refusals.{respond-keeps}
+use Rattle.demands.proofs.Integrity.{integrity}
 
 -- ---- every command is refused ----
 
@@ -43,15 +43,15 @@ none-asked c r e P f g k =
     unless-cases P _ _ _ (λ t. f) λ t.
     unless-cases P _ _ _ (λ t. g) λ t.
     unless-cases P _ _ _ (λ t. k) λ t.
-    let b : bit (inUseOf c) (opcodeOf r) ≡ true = both _ _ t .1 in
-    never (sym (bit-out 0 0 (opcodeOf r) (omega arith) (omega arith)) ∙ rw e at b)
+    let b : bit (inUseOf c) (opcode_of r) ≡ true = (both _ _ t).1 in
+    never (sym (bit-out 0 0 (opcode_of r) (omega arith) (omega arith)) ∙ rw e at b)
 
-blocked : (c r : List ℕ) (room : ℕ) → inUseOf c ≡ 0 → refused (step c (command r room) .1) ≡ true
-unfolding step perform refused headOf bytes number le
+blocked : (c r : List ℕ) (room : ℕ) → inUseOf c ≡ 0 → refused (step c (command r room)).1 ≡ true
+unfolding step perform refused head_of bytes number le
 blocked c r room e =
-    respond-cases c r room (λ (y : List ℕ × List ℕ). refused (written (y .1)) ≡ true) refl
+    respond-cases c r room (λ (y : List ℕ × List ℕ). refused (written y.1) ≡ true) refl
     (λ h s.
-    none-asked c r e (λ x. refused (written (ended c room (perform c r x) .1)) ≡ true)
+    none-asked c r e (λ x. refused (written (ended c room (perform c r x)).1) ≡ true)
     (rw (final-empty BadLength room h, reply-empty BadLength))
     (rw (final-empty BadGroup room h, reply-empty BadGroup))
     (rw (final-empty BadOpcode room h, reply-empty BadOpcode)))
@@ -59,14 +59,14 @@ blocked c r room e =
 -- ---- no other call changes the list in use ----
 
 -- a call that names m
-named-use : (c : List ℕ) (m : ℕ) (x : Call) → names m x ≡ true → inUseOf (step c x .0) ≡ inUseOf c
-named-use c m x n = same-use (step c x .0) c m (integrity .named c m x n .before)
+named-use : (c : List ℕ) (m : ℕ) (x : Call) → names m x ≡ true → inUseOf (step c x).0 ≡ inUseOf c
+named-use c m x n = same-use (step c x).0 c m (integrity.named c m x n).before
 
-lasting : (c : List ℕ) (x : Call) → inUseOf c ≡ 0 → ((generation : ℕ) → x ≢ cardReset generation) → inUseOf (step c x .0) ≡ 0
+lasting : (c : List ℕ) (x : Call) → inUseOf c ≡ 0 → ((generation : ℕ) → x ≢ cardReset generation) → inUseOf (step c x).0 ≡ 0
 unfolding step names
 lasting c (command r room) e n = rw (respond-keeps c r room (blocked c r room e)) e
-lasting c (handBack m) e n = same-use (step c (handBack m) .0) c m (integrity .handedBack c m .before) ∙ e
-lasting c (wipe m g) e n = same-use (step c (wipe m g) .0) c m (integrity .wiped c m g .before) ∙ e
+lasting c (handBack m) e n = same-use (step c (handBack m)).0 c m (integrity.handedBack c m).before ∙ e
+lasting c (wipe m g) e n = same-use (step c (wipe m g)).0 c m (integrity.wiped c m g).before ∙ e
 lasting c (cardReset g) e n = absurd (n g refl)
 lasting c (cardStore m t s value) e n = named-use c m (cardStore m t s value) (eq-eqb m m refl) ∙ e
 lasting c (restoreBegin m) e n = named-use c m (restoreBegin m) (eq-eqb m m refl) ∙ e
@@ -79,13 +79,13 @@ lasting c (message x room) e n =
 -- ---- empty list use ----
 
 asked-empty : (c : List ℕ) (m : ℕ) → bit (inUseOf c) 0x01 ≡ true → askIn c (request 0x01 1 m []) ≡ UseList 0
-unfolding askIn askOf framedOf usable reaches attended fieldsOf useIn supportedOnly supported namesMember opcodeRow opcodeRows le if_then_else_
-    unless_answer_then_ _and_ _or_ within
+unfolding askIn askOf framedOf usable reaches attended fields_of useIn supportedOnly supported namesMember opcodeRow opcodeRows le if◌then◌else◌
+    unless◌answer◌then◌ ◌and◌ ◌or◌ within
 asked-empty c m b =
     rw (length-request 0x01 1 m [], group-request 0x01 1 m [] (omega arith), opcode-request 0x01 1 m [] (omega arith), b, data-request) (rw or-true)
 
-empties : (c : List ℕ) (m room : ℕ) → isSound c ≡ true → bit (inUseOf c) 0x01 ≡ true → 8 ≤ room → inUseOf (step c (command (request 0x01 1 m []) room) .0) ≡ 0
-unfolding step perform if_then_else_
+empties : (c : List ℕ) (m room : ℕ) → isSound c ≡ true → bit (inUseOf c) 0x01 ≡ true → 8 ≤ room → inUseOf (step c (command (request 0x01 1 m []) room)).0 ≡ 0
+unfolding step perform if◌then◌else◌
 empties c m room s b h =
     rw (respond-is c (request 0x01 1 m []) room h s, asked-empty c m b, final-empty Done room h)
     (use-same c 0 (sound-long c (sound-of c s)) (omega arith))

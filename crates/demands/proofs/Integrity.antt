@@ -1,45 +1,45 @@
 -- What a call leaves alone: the bytes outside a member's record, outside the list in use, and a member's mode and objects.
 -- Assumes nothing.
-use mathlib.Core.Path.{_≡_, refl, _∙_}
+use mathlib.Core.Path.{◌≡◌, refl, ◌∙◌}
 use mathlib.Core.List.{List}
-use Prim.Native.Nat.{ℕ, _+_, _≤_, _<_}
+use Prim.Native.Nat.{ℕ, ◌+◌, ◌≤◌, ◌<◌}
 use native.Mathlib.Omega.{arith}
 use lib.ListN.{length, take}
-use Rattle·theory.specs.Logic.{if_then_else_}
-use Rattle·theory.specs.Bytes.{put}
-use Rattle·theory.proofs.Tests.{unless-cases}
-use Rattle·theory.proofs.Bytes.{take-before, drop-after, length-bytesAt-le}
-use Rattle·wire.specs.Le.{bytes}
-use Rattle·protocol.specs.declared.Answer.{Answer}
-use Rattle·protocol.specs.declared.EventAnswer.{EventAnswer}
-use Rattle·protocol.specs.declared.ObjectKind.{ObjectKind}
-use Rattle·protocol.specs.declared.ChangeOp.the-variants.{SetParts}
-use Rattle·objects.specs.declared.Found.{Found}
-use Rattle·objects.specs.declared.Found.the-variants.{Live, Nothing}
-use Rattle·objects.specs.Objects.{onFound}
-use Rattle·member.specs.declared.Member.{Member}
-use Rattle·member.specs.Objects.{lookupOf}
-use Rattle·member.specs.Record.{memberSize, holdingSize, memberBytes}
-use Rattle·member.specs.Member.{handedBack}
-use Rattle·changes.specs.declared.Changed.{Changed}
-use Rattle·changes.specs.Changes.{refuse, setPartsOf, changeOf}
-use Rattle·changes.proofs.Kept.{change-sound}
-use Rattle·card.specs.Layout.{inUseAt, memberBytesAt, holdingAt, recordSize, setupOf, recordAt, withInUse, withRecordBytes, memberIn, withMember, withHolding, noBytes, withRecord}
-use Rattle·card.proofs.MemberLaws.{member-same}
-use Rattle·events.proofs.Cases.{on-member-cases}
-use Rattle·card.proofs.SoundLaws.{Sound, sound-of, sound-has, sound-member-in}
-use Rattle·events.specs.Events.{withHandedBack, handBack, wipe}
-use Rattle·frame.specs.declared.Ask.{Ask}
-use Rattle·frame.specs.declared.Ask.the-variants.{Refused, Change}
-use Rattle·frame.specs.Frame.{opcodeOf, targetOf, dataOf, givenList}
-use Rattle·frame.specs.Fields.{setIn, useIn, fieldsOf}
-use Rattle·frame.specs.Ask.{framedOf, askOf}
-use Rattle·admin.specs.Command.{askIn, perform, respond}
-use Rattle·demands·specs.specs.Calls.{step}
-use Rattle·demands·specs.specs.Claims.{SameOutside, DifferAtMost, Integrity}
-use Rattle·admin.proofs.Respond.{NamedIn, FactsIn, asked-of, card-cases}
-use Rattle·admin.proofs.Marks.{named-here, named-unmarked}
-use Rattle·demands·proofs.proofs.Named.{Leaves, unchanged, changed, named-leaves}
+use Rattle.theory.specs.Logic.{if◌then◌else◌}
+use Rattle.theory.specs.Bytes.{put}
+use Rattle.theory.proofs.Tests.{unless-cases}
+use Rattle.theory.proofs.Bytes.{take-before, drop-after, length-bytesAt-le}
+use Rattle.wire.specs.Le.{bytes}
+use Rattle.protocol.specs.declared.Answer.{Answer}
+use Rattle.protocol.specs.declared.EventAnswer.{EventAnswer}
+use Rattle.protocol.specs.declared.ObjectKind.{ObjectKind}
+use Rattle.protocol.specs.declared.ChangeOp.TheVariants.{SetParts}
+use Rattle.objects.specs.declared.Found.{Found}
+use Rattle.objects.specs.declared.Found.TheVariants.{Live, Nothing}
+use Rattle.objects.specs.Objects.{onFound}
+use Rattle.member.specs.declared.Member.{Member}
+use Rattle.member.specs.Objects.{lookupOf}
+use Rattle.member.specs.Record.{memberSize, holdingSize, memberBytes}
+use Rattle.member.specs.Member.{handedBack}
+use Rattle.changes.specs.declared.Changed.{Changed}
+use Rattle.changes.specs.Changes.{refuse, setPartsOf, changeOf}
+use Rattle.changes.proofs.Kept.{change-sound}
+use Rattle.card.specs.Layout.{inUseAt, memberBytesAt, holdingAt, recordSize, setupOf, recordAt, withInUse, withRecordBytes, memberIn, withMember, withHolding, noBytes, withRecord}
+use Rattle.card.proofs.MemberLaws.{member-same}
+use Rattle.events.proofs.Cases.{on-member-cases}
+use Rattle.card.proofs.SoundLaws.{Sound, sound-of, sound-has, sound-member-in}
+use Rattle.events.specs.Events.{withHandedBack, handBack, wipe}
+use Rattle.frame.specs.declared.Ask.{Ask}
+use Rattle.frame.specs.declared.Ask.TheVariants.{Refused, Change}
+use Rattle.frame.specs.Frame.{opcode_of, target_of, data_of, givenList}
+use Rattle.frame.specs.Fields.{setIn, useIn, fields_of}
+use Rattle.frame.specs.Ask.{framedOf, askOf}
+use Rattle.admin.specs.Command.{askIn, perform, respond}
+use Rattle.demands.specs.Calls.{step}
+use Rattle.demands.specs.Claims.{SameOutside, DifferAtMost, Integrity}
+use Rattle.admin.proofs.Respond.{NamedIn, FactsIn, asked_of, card-cases}
+use Rattle.admin.proofs.Marks.{named_here, named-unmarked}
+use Rattle.demands.proofs.Named.{Leaves, unchanged, changed, named-leaves}
 
 same : (at size : ℕ) (c : List ℕ) → SameOutside at size c c
 same at size c = record { before = refl; after = refl }
@@ -63,11 +63,11 @@ leaves-outside m c _ unchanged = same _ _ c
 leaves-outside m c _ (changed {d} l h at n x i q) =
     let f = bytes-outside m d at n x i in
     let g = leaves-outside m c d l in
-    record { before = f .before ∙ g .before; after = f .after ∙ g .after }
+    record { before = f.before ∙ g.before; after = f.after ∙ g.after }
 
 -- both halves of a reset
 EventOutside : ℕ → List ℕ → EventAnswer × List ℕ → Type 0
-EventOutside m c y = DifferAtMost m (y .1) c
+EventOutside m c y = DifferAtMost m y.1 c
 
 back-outside : (c : List ℕ) (m : ℕ) → EventOutside m c (handBack c m)
 unfolding handBack withHandedBack withMember withHolding EventOutside
@@ -76,7 +76,7 @@ back-outside c m =
     unless-cases (EventOutside m c) _ _ _ (λ t. same _ _ c) λ t.
     let f = bytes-outside m c memberBytesAt memberSize (memberBytes (handedBack (memberIn c m))) (omega arith) in
     let g = bytes-outside m _ holdingAt holdingSize noBytes (omega arith) in
-    record { before = g .before ∙ f .before; after = g .after ∙ f .after }
+    record { before = g.before ∙ f.before; after = g.after ∙ f.after }
 
 wipe-outside : (c : List ℕ) (m g : ℕ) → EventOutside m c (wipe c m g)
 unfolding wipe withRecord EventOutside
@@ -87,8 +87,8 @@ wipe-outside c m g =
 -- ---- a command, by its opcode ----
 
 -- what holds of a refusal and of what the fields at the opcode ask, holds of what the request asks
-ask-at : (c r : List ℕ) (op : ℕ) → opcodeOf r ≡ op → (P : Ask → Type 0) → ((a : Answer) → P (Refused a))
-    → P (fieldsOf (setupOf c .gets + setupOf c .sets) (targetOf r) op (dataOf r)) → P (askIn c r)
+ask-at : (c r : List ℕ) (op : ℕ) → opcode_of r ≡ op → (P : Ask → Type 0) → ((a : Answer) → P (Refused a))
+    → P (fields_of ((setupOf c).gets + (setupOf c).sets) (target_of r) op (data_of r)) → P (askIn c r)
 unfolding askIn askOf framedOf
 ask-at c r op e P f g =
     rw e
@@ -99,60 +99,60 @@ ask-at c r op e P f g =
     unless-cases P _ _ _ (λ t. f _) λ t. g)
 
 -- list use
-use-outside : (c r : List ℕ) (room : ℕ) → opcodeOf r ≡ 0x01 → SameOutside inUseAt 8 (respond c r room .0) c
-unfolding perform withInUse fieldsOf useIn if_then_else_ bytes
+use-outside : (c r : List ℕ) (room : ℕ) → opcode_of r ≡ 0x01 → SameOutside inUseAt 8 (respond c r room).0 c
+unfolding perform withInUse fields_of useIn if◌then◌else◌ bytes
 use-outside c r room e =
-    let P : Ask → Type 0 = λ a. SameOutside inUseAt 8 (perform c r a .card) c in
+    let P : Ask → Type 0 = λ a. SameOutside inUseAt 8 (perform c r a).card c in
     card-cases c r room (λ d. SameOutside inUseAt 8 d c) (same _ _ c)
     (λ s. ask-at c r 0x01 e P (λ a. same _ _ c)
     (unless-cases P _ _ _ (λ t. same _ _ c) (λ t. put-outside inUseAt 8 _ c (omega arith))))
 
 -- parts set: the member with other values at most
 Kept : Member → Member → Type 0
-Kept m x = (x .mode ≡ m .mode) × (x .objects ≡ m .objects)
+Kept m x = (x.mode ≡ m.mode) × (x.objects ≡ m.objects)
 
-found-kept : (m : Member) (x : Found) (f : ObjectKind → Changed) (a : Answer) → ((k : ObjectKind) → Kept m (f k .member))
-    → Kept m (onFound x f (refuse m a) .member)
+found-kept : (m : Member) (x : Found) (f : ObjectKind → Changed) (a : Answer) → ((k : ObjectKind) → Kept m (f k).member)
+    → Kept m (onFound x f (refuse m a)).member
 unfolding Kept
 found-kept m Nothing f a h = (refl, refl)
 found-kept m (Live k) f a h = h k
 
-set-kept : (gets sets id : ℕ) (list : List ℕ) (m : Member) → Kept m (changeOf gets sets list (SetParts id) m .member)
+set-kept : (gets sets id : ℕ) (list : List ℕ) (m : Member) → Kept m (changeOf gets sets list (SetParts id) m).member
 unfolding setPartsOf Kept
 set-kept gets sets id list m = found-kept m (lookupOf m id) _ _ λ k.
-    unless-cases (λ (y : Changed). Kept m (y .member)) _ _ _ (λ t. (refl, refl)) λ t.
-    unless-cases (λ (y : Changed). Kept m (y .member)) _ _ _ (λ t. (refl, refl)) λ t.
-    unless-cases (λ (y : Changed). Kept m (y .member)) _ _ _ (λ t. (refl, refl)) λ t. (refl, refl)
+    unless-cases (λ (y : Changed). Kept m y.member) _ _ _ (λ t. (refl, refl)) λ t.
+    unless-cases (λ (y : Changed). Kept m y.member) _ _ _ (λ t. (refl, refl)) λ t.
+    unless-cases (λ (y : Changed). Kept m y.member) _ _ _ (λ t. (refl, refl)) λ t. (refl, refl)
 
 -- in the card
 module _ (c : List ℕ) (s : Sound c) (r : List ℕ) where
   abbrev m : ℕ
-  m = targetOf r
+  m = target_of r
 
   abbrev StaysAs : List ℕ → Type 0
   StaysAs d = Kept (memberIn c m) (memberIn d m)
 
-  put-kept : (id : ℕ) → NamedIn c r m → id < setupOf c .gets + setupOf c .sets
-      → StaysAs (perform c r (Change m (SetParts id)) .card)
+  put-kept : (id : ℕ) → NamedIn c r m → id < (setupOf c).gets + (setupOf c).sets
+      → StaysAs (perform c r (Change m (SetParts id))).card
   unfolding perform
   put-kept id n b =
-      let h = named-here c r m n in
+      let h = named_here c r m n in
       let x = sound-member-in c s m h in
       let y = change-sound _ _ (givenList r) (SetParts id) (memberIn c m) _ b (named-unmarked c r m n) x in
-      rw (member-same c m _ (sound-has c s m h) (y .shaped)) (set-kept (setupOf c .gets) (setupOf c .sets) id (givenList r) (memberIn c m))
+      rw (member-same c m _ (sound-has c s m h) y.shaped) (set-kept (setupOf c).gets (setupOf c).sets id (givenList r) (memberIn c m))
 
-  asked-kept : opcodeOf r ≡ 0x10 → FactsIn c r (askIn c r) → StaysAs (perform c r (askIn c r) .card)
-  unfolding fieldsOf setIn perform if_then_else_ Kept
+  asked-kept : opcode_of r ≡ 0x10 → FactsIn c r (askIn c r) → StaysAs (perform c r (askIn c r)).card
+  unfolding fields_of setIn perform if◌then◌else◌ Kept
   asked-kept e =
-      let P : Ask → Type 0 = λ a. FactsIn c r a → StaysAs (perform c r a .card) in
+      let P : Ask → Type 0 = λ a. FactsIn c r a → StaysAs (perform c r a).card in
       ask-at c r 0x10 e P (λ a f. (refl, refl))
-      (unless-cases P _ _ _ (λ t f. (refl, refl)) (λ t f. put-kept _ (f .0) (f .1)))
+      (unless-cases P _ _ _ (λ t f. (refl, refl)) (λ t f. put-kept _ f.0 f.1))
 
-set-keeps : (c r : List ℕ) (room : ℕ) → opcodeOf r ≡ 0x10 → Kept (memberIn c (targetOf r)) (memberIn (respond c r room .0) (targetOf r))
+set_keeps : (c r : List ℕ) (room : ℕ) → opcode_of r ≡ 0x10 → Kept (memberIn c (target_of r)) (memberIn (respond c r room).0 (target_of r))
 unfolding Kept
-set-keeps c r room e =
-    card-cases c r room (λ d. Kept (memberIn c (targetOf r)) (memberIn d (targetOf r))) (refl, refl)
-    (λ s. asked-kept c (sound-of c s) r e (asked-of c r))
+set_keeps c r room e =
+    card-cases c r room (λ d. Kept (memberIn c (target_of r)) (memberIn d (target_of r))) (refl, refl)
+    (λ s. asked-kept c (sound-of c s) r e (asked_of c r))
 
 -- ---- the claim ----
 
@@ -163,5 +163,5 @@ integrity = record {
   handedBack = back-outside;
   wiped = wipe-outside;
   listUse = λ c r room. use-outside c r _;
-  partsSet = λ c r room. set-keeps c r _;
+  partsSet = λ c r room. set_keeps c r _;
 }

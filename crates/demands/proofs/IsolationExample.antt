@@ -1,29 +1,29 @@
 -- The hypotheses of isolation can be met: two cards and two sequences that do differ, and the claim at them. Assumes nothing.
-use mathlib.Core.Path.{_≡_, refl, sym, _∙_}
-use mathlib.Core.Logic.{_≢_}
+use mathlib.Core.Path.{◌≡◌, refl, sym, ◌∙◌}
+use mathlib.Core.Logic.{◌≢◌}
 use mathlib.Core.Bool.{true}
-use mathlib.Core.List.{List, [], _∷_, _++_}
-use Prim.Native.Nat.{ℕ, _+_}
+use mathlib.Core.List.{List, [], ◌∷◌, ◌++◌}
+use Prim.Native.Nat.{ℕ, ◌+◌}
 use native.Mathlib.Omega.{arith}
-use lib.ListN.{length, getD, take, drop, replicate}
-use Rattle·theory.specs.Bytes.{same}
-use Rattle·theory.proofs.Tests.{same-true}
-use Rattle·theory.specs.Machine.{trace, run, seen, visible}
-use Rattle·card.specs.Layout.{recordSize, recordAt, isMember, memberIn, isMarked}
-use Rattle·card.specs.Sound.{isSound}
-use Rattle·demands·specs.specs.Calls.{Call, handBack, wipe, cardStore, answered, step, names, ofWipe}
-use Rattle·host.specs.Request.{getAll}
-use Rattle·demands·specs.specs.Claims.{DifferAtMost}
-use Rattle·demands·specs.specs.Examples.{exampleCard, send, useList, create, setMode}
-use Rattle·demands·proofs.proofs.Model.{model}
-use Rattle·demands·proofs.proofs.Isolation.{isolation}
+use lib.ListN.{length, get_or, take, drop, replicate}
+use Rattle.theory.specs.Bytes.{same}
+use Rattle.theory.proofs.Tests.{same_true}
+use Rattle.theory.specs.Machine.{trace, run, seen, visible}
+use Rattle.card.specs.Layout.{recordSize, recordAt, isMember, memberIn, isMarked}
+use Rattle.card.specs.Sound.{isSound}
+use Rattle.demands.specs.Calls.{Call, handBack, wipe, cardStore, answered, step, names, ofWipe}
+use Rattle.host.specs.Request.{getAll}
+use Rattle.demands.specs.Claims.{DifferAtMost}
+use Rattle.demands.specs.Examples.{exampleCard, send, useList, create, setMode}
+use Rattle.demands.proofs.Model.{model}
+use Rattle.demands.proofs.Isolation.{isolation}
 
 -- the card after all commands are in use, and after member 1 has a get object and is stopped, too
 card₁ : List ℕ
-card₁ = step exampleCard (useList 0x3fc03) .0
+card₁ = (step exampleCard (useList 0x3fc03)).0
 
 card₂ : List ℕ
-card₂ = step (step card₁ (create 0 0) .0) (setMode 1 1) .0
+card₂ = (step (step card₁ (create 0 0)).0 (setMode 1 1)).0
 
 -- a queue address of member 1 is stored; member 2 is stopped in both. Member 1 is handed back: a command for it is refused, and
 -- a card store for it works. Then it is wiped and asked again
@@ -54,30 +54,30 @@ member-here : isMember card₁ 1 ≡ true
 unfolding example
 member-here = refl
 
-same-after : same (drop (recordAt 1 + recordSize) card₁) (drop (recordAt 1 + recordSize) card₂) ≡ true
+same_after : same (drop (recordAt 1 + recordSize) card₁) (drop (recordAt 1 + recordSize) card₂) ≡ true
 unfolding example
-same-after = refl
+same_after = refl
 
 same-before : take (recordAt 1) card₁ ≡ take (recordAt 1) card₂
 unfolding example
 same-before = refl
 
 same-but-member : DifferAtMost 1 card₁ card₂
-same-but-member = record { before = same-before; after = same-true _ _ same-after }
+same-but-member = record { before = same-before; after = same_true _ _ same_after }
 
 same-mark : isMarked card₁ 1 ≡ isMarked card₂ 1
 unfolding example
 same-mark = refl
 
-queues₁ : memberIn card₁ 1 .queues ≡ 1
+queues₁ : (memberIn card₁ 1).queues ≡ 1
 unfolding example
 queues₁ = refl
 
-queues₂ : memberIn card₂ 1 .queues ≡ 1
+queues₂ : (memberIn card₂ 1).queues ≡ 1
 unfolding example
 queues₂ = refl
 
-wipe-answers : step (run step card₁ calls₁) (wipe 1 7) .1 ≡ answered 0
+wipe-answers : (step (run step card₁ calls₁) (wipe 1 7)).1 ≡ answered 0
 unfolding example
 wipe-answers = refl
 
@@ -87,7 +87,7 @@ same-struck-out = refl
 
 -- ---- what differs, what is seen, and the claim at them ----
 
-cards-differ : getD card₁ 27 0 ≢ getD card₂ 27 0
+cards-differ : get_or card₁ 27 0 ≢ get_or card₂ 27 0
 unfolding example
 cards-differ = omega arith
 

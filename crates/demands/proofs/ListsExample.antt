@@ -1,30 +1,30 @@
 -- The hypotheses of requests 7 and 8 on commands can be met: the target of the round trip's example, a fresh full capture, and a
 -- later list of a device status; and for request 8 that list, cut. Assumes nothing.
-use mathlib.Core.Path.{_≡_, refl, ap}
+use mathlib.Core.Path.{◌≡◌, refl, ap}
 use mathlib.Core.Bool.{true}
-use mathlib.Core.List.{List, [], _∷_}
-use Prim.Native.Nat.{ℕ, _≤_}
+use mathlib.Core.List.{List, [], ◌∷◌}
+use Prim.Native.Nat.{ℕ, ◌≤◌}
 use native.Mathlib.Omega.{arith}
 use lib.ListN.{length, replicate, take, drop}
-use Rattle·capture.specs.Capture.{captureOf}
-use Rattle·capture.proofs.Sizes.{capture-length}
-use Rattle·card.specs.declared.Setup.{Setup}
-use Rattle·setups.specs.declared.MemberSetup.{MemberSetup}
-use Rattle·setups.specs.Bits.{bit, bitsAt}
-use Rattle·setups.specs.Setup.{noCounts, sixteen}
-use Rattle·setups.specs.Reading.{countsFrom, setupAt, headRight, isVersion1, takeVersion1, readSetup}
-use Rattle·setups.specs.Member.{memberOf, memberSetup}
-use Rattle·difference.specs.Difference.{spanFrom, placeIn, hasRow, hasRows, verdictOf, onVerdict, lookupOf, lookupTold, mergeOf}
-use Rattle·difference.specs.Under.{lookupUnder, mergeUnder}
-use Rattle·salvage.specs.Salvage.{Salvage, salvage, isTaken, salvaged, salvageOf, salvageUnder}
-use Rattle·protocol.specs.declared.Answer.the-variants.{Done}
-use Rattle·parts.specs.List.{longestList}
-use Rattle·reply.specs.Reply.{headOf}
-use Rattle·demands·specs.specs.RoundTrip.{capture}
-use Rattle·demands·specs.specs.Lists.{HasMember, Settable, Alike, SetAlike, mergedList, afterBoth, valueUnder, setList, salvagedList}
-use Rattle·demands·proofs.proofs.Model.{model}
-use Rattle·demands·proofs.proofs.Lists.{merged-sets, found-captured, salvaged-accepted}
-use Rattle·demands·proofs.proofs.RoundTripExample.{target, sound-target, setup-target, target-queues, target-member, target-set, target-get, target-stopped, set-in-use, recapture-in-use}
+use Rattle.capture.specs.Capture.{captureOf}
+use Rattle.capture.proofs.Sizes.{capture-length}
+use Rattle.card.specs.declared.Setup.{Setup}
+use Rattle.setups.specs.declared.MemberSetup.{MemberSetup}
+use Rattle.setups.specs.Bits.{bit, bits_at}
+use Rattle.setups.specs.Setup.{noCounts, sixteen}
+use Rattle.setups.specs.Reading.{countsFrom, setupAt, headRight, isVersion1, takeVersion1, readSetup}
+use Rattle.setups.specs.Member.{memberOf, memberSetup}
+use Rattle.difference.specs.Difference.{spanFrom, place_in, has_row, hasRows, verdictOf, onVerdict, lookupOf, lookupTold, mergeOf}
+use Rattle.difference.specs.Under.{lookupUnder, mergeUnder}
+use Rattle.salvage.specs.Salvage.{Salvage, salvage, is_taken, salvaged, salvageOf, salvageUnder}
+use Rattle.protocol.specs.declared.Answer.TheVariants.{Done}
+use Rattle.parts.specs.List.{longestList}
+use Rattle.reply.specs.Reply.{head_of}
+use Rattle.demands.specs.RoundTrip.{capture}
+use Rattle.demands.specs.Lists.{HasMember, Settable, Alike, SetAlike, mergedList, after_both, valueUnder, setList, salvagedList}
+use Rattle.demands.proofs.Model.{model}
+use Rattle.demands.proofs.Lists.{merged-sets, found-captured, salvaged-accepted}
+use Rattle.demands.proofs.RoundTripExample.{target, sound-target, setup-target, target-queues, target-member, target-set, target-get, target-stopped, set-in-use, recapture-in-use}
 
 settable : Settable target 1 1
 settable =
@@ -44,16 +44,16 @@ abbrev says : MemberSetup
 says = record { known = true; queues = 1; features = replicate 16 0 }
 
 bench-says : memberSetup bench 1 ≡ says
-unfolding model bit bitsAt noCounts sixteen countsFrom setupAt headRight isVersion1 takeVersion1 readSetup memberOf memberSetup
+unfolding model bit bits_at noCounts sixteen countsFrom setupAt headRight isVersion1 takeVersion1 readSetup memberOf memberSetup
 bench-says = refl
 
 member-said : HasMember (readSetup bench) 2
-unfolding model bit bitsAt noCounts sixteen countsFrom setupAt headRight isVersion1 takeVersion1 readSetup
+unfolding model bit bits_at noCounts sixteen countsFrom setupAt headRight isVersion1 takeVersion1 readSetup
 member-said = record { read = refl; low = omega arith; high = omega arith }
 
 alike : Alike target 1 (memberSetup bench 1)
 alike =
-    rw bench-says (record { known = refl; features = ap (λ (y : Setup). y .features) setup-target; queues = target-queues })
+    rw bench-says (record { known = refl; features = ap (λ (y : Setup). y.features) setup-target; queues = target-queues })
 
 abbrev full : List ℕ
 full = captureOf 1 (replicate 205 0)
@@ -65,37 +65,37 @@ later = 3 ∷ 1 ∷ 0 ∷ 0 ∷ 0 ∷ 0 ∷ 0 ∷ 0 ∷ 0 ∷ 0 ∷ 0 ∷ 0 ∷ 
 full-short : length full ≤ longestList
 full-short = omega (arith, capture-length 1 (replicate 205 0) (omega arith) refl)
 
-says-merged : mergeUnder says full later (replicate 229 0) .0 ≡ 0
-unfolding model spanFrom placeIn hasRow hasRows verdictOf onVerdict mergeOf mergeUnder
+says-merged : (mergeUnder says full later (replicate 229 0)).0 ≡ 0
+unfolding model spanFrom place_in has_row hasRows verdictOf onVerdict mergeOf mergeUnder
 says-merged = refl
 
-is-merged : mergeUnder (memberSetup bench 1) full later (replicate 229 0) .0 ≡ 0
+is-merged : (mergeUnder (memberSetup bench 1) full later (replicate 229 0)).0 ≡ 0
 is-merged = rw bench-says says-merged
 
 merged : SetAlike target 1 1 full later (mergedList (memberSetup bench 1) full later (replicate 229 0)) 8
 merged = merged-sets target 1 1 bench 1 settable alike full later (replicate 229 0) is-merged full-short (omega arith) 8 (omega arith)
 
-says-found : lookupTold (lookupUnder says full later 0x103 0) .0 ≡ 0
-unfolding model spanFrom placeIn hasRow hasRows verdictOf onVerdict lookupOf lookupTold lookupUnder
+says-found : (lookupTold (lookupUnder says full later 0x103 0)).0 ≡ 0
+unfolding model spanFrom place_in has_row hasRows verdictOf onVerdict lookupOf lookupTold lookupUnder
 says-found = refl
 
-is-found : lookupTold (lookupUnder (memberSetup bench 1) full later 0x103 0) .0 ≡ 0
-is-found = rw bench-says says-found
+is_found : (lookupTold (lookupUnder (memberSetup bench 1) full later 0x103 0)).0 ≡ 0
+is_found = rw bench-says says-found
 
 found : valueUnder (memberSetup bench 1) full later 0x103 0
-    ≡ valueUnder (memberSetup bench 1) (drop 8 (capture (afterBoth target 1 1 full later 237) 1 0 237)) [] 0x103 0
+    ≡ valueUnder (memberSetup bench 1) (drop 8 (capture (after_both target 1 1 full later 237) 1 0 237)) [] 0x103 0
 found =
-    found-captured target 1 1 bench 1 settable alike 0 target-get recapture-in-use full later 0x103 0 is-found full-short (omega arith) 237
+    found-captured target 1 1 bench 1 settable alike 0 target-get recapture-in-use full later 0x103 0 is_found full-short (omega arith) 237
     (rw target-queues (omega arith))
 
 -- buffers of just the length
 abbrev lent : Salvage
 lent = salvage 0 (replicate 229 0) (replicate 9 0) (replicate 4 0) 0
 
-is-salvaged : salvageUnder (memberSetup bench 1) (take 16 later) lent .written ≡ 229
-unfolding model isTaken salvaged salvageOf salvageUnder
+is-salvaged : (salvageUnder (memberSetup bench 1) (take 16 later) lent).written ≡ 229
+unfolding model is_taken salvaged salvageOf salvageUnder
 is-salvaged = rw bench-says
 
-accepted : setList target 1 1 (salvagedList (memberSetup bench 1) (take 16 later) lent) 8 .1 ≡ headOf Done
+accepted : (setList target 1 1 (salvagedList (memberSetup bench 1) (take 16 later) lent) 8).1 ≡ head_of Done
 accepted =
     salvaged-accepted target 1 1 bench 1 settable alike (take 16 later) lent (λ z. let n = is-salvaged in omega arith) 8 (omega arith)

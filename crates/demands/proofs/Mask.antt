@@ -1,39 +1,39 @@
 -- The mask of isolation blanks the record of member m, but for its mark and its queue count: what it covers, what can be put
 -- before or after it, and that the masked card of a sound one is sound. Assumes nothing.
-use mathlib.Core.Path.{_≡_, refl, ap, sym, _∙_}
-use mathlib.Core.Logic.{_≢_}
+use mathlib.Core.Path.{◌≡◌, refl, ap, sym, ◌∙◌}
+use mathlib.Core.Logic.{◌≢◌}
 use mathlib.Core.Bool.{Bool, true, false}
 use mathlib.Core.List.{List}
-use Prim.Native.Nat.{ℕ, _+_, _≤_, _<_}
+use Prim.Native.Nat.{ℕ, ◌+◌, ◌≤◌, ◌<◌}
 use native.Mathlib.Omega.{arith}
 use lib.Dec.{eqb}
 use lib.ListN.{length}
 use borrow.Author.Tests.{eqb-true, eqb-false}
-use Rattle·theory.specs.Logic.{if_then_else_, within}
-use Rattle·theory.proofs.Tests.{by-cases, if-cases, within-low, within-high, outside}
-use Rattle·member.specs.declared.Member.{Member}
-use Rattle·member.specs.Record.{memberSize, holdingSize, memberBytes}
-use Rattle·member.specs.Member.{featuresSize, freshOf, handedBack}
-use Rattle·member.proofs.Record.{Shaped, fresh-shaped}
-use Rattle·member.proofs.Sound.{SoundMember, sound-fresh, sound-handed-back}
-use Rattle·card.specs.Layout.{memberBytesAt, holdingAt, recordSize, cardSize, setupOf, withInUse, isMember, withRecordBytes, memberIn, withMember, countsOf, isMarked, withHolding, recordOf, withRecord}
-use Rattle·card.specs.Sound.{isSound}
-use Rattle·card.proofs.RecordBytesLaws.{has-record, setup-with-bytes}
-use Rattle·card.proofs.HeaderLaws.{features-long, length-with-use, setup-with-use}
-use Rattle·card.proofs.MemberLaws.{length-with-member, setup-with-member}
-use Rattle·card.proofs.RecordLaws.{record-bytes, length-with-record, setup-with-record, use-with-record, record-other, record-swap, record-use, record-none, record-over, record-again, member-with-record}
-use Rattle·card.proofs.MarkLaws.{mark-alike, mark-other, mark-with-use, mark-with-record}
-use Rattle·card.proofs.CountLaws.{count-other, count-with-use, counts-same}
-use Rattle·card.proofs.SoundLaws.{sound-of, is-sound, sound-member-in, sound-with-record}
-use Rattle·admin.specs.Command.{askIn}
-use Rattle·demands·proofs.proofs.Named.{SameKept, Leaves, unchanged, changed, leaves-whole}
+use Rattle.theory.specs.Logic.{if◌then◌else◌, within}
+use Rattle.theory.proofs.Tests.{by_cases, if-cases, within_low, within-high, outside}
+use Rattle.member.specs.declared.Member.{Member}
+use Rattle.member.specs.Record.{memberSize, holdingSize, memberBytes}
+use Rattle.member.specs.Member.{featuresSize, fresh_of, handedBack}
+use Rattle.member.proofs.Record.{Shaped, fresh-shaped}
+use Rattle.member.proofs.Sound.{SoundMember, sound-fresh, sound-handed-back}
+use Rattle.card.specs.Layout.{memberBytesAt, holdingAt, recordSize, cardSize, setupOf, withInUse, isMember, withRecordBytes, memberIn, withMember, countsOf, isMarked, withHolding, recordOf, withRecord}
+use Rattle.card.specs.Sound.{isSound}
+use Rattle.card.proofs.RecordBytesLaws.{has-record, setup-with-bytes}
+use Rattle.card.proofs.HeaderLaws.{features-long, length-with-use, setup-with-use}
+use Rattle.card.proofs.MemberLaws.{length-with-member, setup-with-member}
+use Rattle.card.proofs.RecordLaws.{record-bytes, length-with-record, setup-with-record, use-with-record, record-other, record-swap, record-use, record-none, record-over, record-again, member-with-record}
+use Rattle.card.proofs.MarkLaws.{mark-alike, mark-other, mark-with-use, mark-with-record}
+use Rattle.card.proofs.CountLaws.{count-other, count-with-use, counts_same}
+use Rattle.card.proofs.SoundLaws.{sound-of, is-sound, sound-member-in, sound-with-record}
+use Rattle.admin.specs.Command.{askIn}
+use Rattle.demands.proofs.Named.{SameKept, Leaves, unchanged, changed, leaves-whole}
 
 -- what it puts there: a fresh member, handed back where m is marked
 unfoldable pub blankOf : ℕ → List ℕ → Bool → Member
-blankOf queues f marked = if marked then handedBack (freshOf queues f) else freshOf queues f
+blankOf queues f marked = if marked then handedBack (fresh_of queues f) else fresh_of queues f
 
 unfoldable pub blankIn : ℕ → List ℕ → Member
-blankIn m c = blankOf (memberIn c m .queues) (setupOf c .features) (isMarked c m)
+blankIn m c = blankOf (memberIn c m).queues (setupOf c).features (isMarked c m)
 
 abbrev pub mask : ℕ → List ℕ → List ℕ
 mask m c = withRecord c m (blankIn m c) 0
@@ -46,27 +46,27 @@ module _ (queues : ℕ) (f : List ℕ) (b : Bool) where
       if-cases (SoundMember gets sets f) b _ _ (λ t. sound-handed-back gets sets f _ s) (λ t. s)
 
   pub blank-shape : length f ≡ featuresSize → Shaped (blankOf queues f b)
-  unfolding blankOf freshOf
+  unfolding blankOf fresh_of
   blank-shape e =
       let s = fresh-shaped queues f e in
-      if-cases Shaped b _ _ (λ t. record { ids = s .ids; low = s .low; long = s .long }) (λ t. s)
+      if-cases Shaped b _ _ (λ t. record { ids = s.ids; low = s.low; long = s.long }) (λ t. s)
 
-  blank-marked : blankOf queues f b .marked ≡ b
-  unfolding blankOf freshOf if_then_else_
-  blank-marked = by-cases b (λ t. rw t) (λ t. rw t)
+  blank-marked : (blankOf queues f b).marked ≡ b
+  unfolding blankOf fresh_of if◌then◌else◌
+  blank-marked = by_cases b (λ t. rw t) (λ t. rw t)
 
-  blank-queues : blankOf queues f b .queues ≡ queues
-  unfolding blankOf freshOf if_then_else_
-  blank-queues = by-cases b (λ t. rw t) (λ t. rw t)
+  blank-queues : (blankOf queues f b).queues ≡ queues
+  unfolding blankOf fresh_of if◌then◌else◌
+  blank-queues = by_cases b (λ t. rw t) (λ t. rw t)
 
 -- a card with the same setup that keeps m's mark and count
 pub blank-same : (m : ℕ) (c d : List ℕ) → setupOf d ≡ setupOf c → SameKept m c d → blankIn m d ≡ blankIn m c
 unfolding blankIn
-blank-same m c d e k = rw (e, k .mark, k .count)
+blank-same m c d e k = rw (e, k.mark, k.count)
 
 -- ---- the mask ----
 
-module _ (m : ℕ) (low : 1 ≤ m) (c : List ℕ) (whole : length c ≡ cardSize (setupOf c .members)) where
+module _ (m : ℕ) (low : 1 ≤ m) (c : List ℕ) (whole : length c ≡ cardSize (setupOf c).members) where
   pub blank-shaped : Shaped (blankIn m c)
   unfolding blankIn
   blank-shaped = blank-shape _ _ (isMarked c m) (features-long c (omega arith))
@@ -74,7 +74,7 @@ module _ (m : ℕ) (low : 1 ≤ m) (c : List ℕ) (whole : length c ≡ cardSize
   -- where there is no member m nothing is masked
   pub mask-none : isMember c m ≡ false → mask m c ≡ c
   mask-none t =
-      let h : setupOf c .members < m = outside 1 (setupOf c .members) m t (λ z. absurd (omega arith)) (λ z. z) in
+      let h : (setupOf c).members < m = outside 1 (setupOf c).members m t (λ z. absurd (omega arith)) (λ z. z) in
       record-none c m _ 0 whole h
 
   -- it keeps the mark and the count
@@ -82,12 +82,12 @@ module _ (m : ℕ) (low : 1 ≤ m) (c : List ℕ) (whole : length c ≡ cardSize
   unfolding blankIn
   mask-mark = mark-with-record c m (blankIn m c) 0 blank-shaped whole (blank-marked _ _ (isMarked c m))
 
-  pub mask-count : memberIn (mask m c) m .queues ≡ memberIn c m .queues
+  pub mask-count : (memberIn (mask m c) m).queues ≡ (memberIn c m).queues
   unfolding blankIn
-  mask-count = by-cases (isMember c m)
-      (λ t. ap (λ (y : Member). y .queues) (member-with-record c m _ 0 blank-shaped (has-record c m whole low (within-high _ _ m t)))
+  mask-count = by_cases (isMember c m)
+      (λ t. ap (λ (y : Member). y.queues) (member-with-record c m _ 0 blank-shaped (has-record c m whole low (within-high _ _ m t)))
       ∙ blank-queues _ _ (isMarked c m))
-      (λ t. ap (λ d. memberIn d m .queues) (mask-none t))
+      (λ t. ap (λ d. (memberIn d m).queues) (mask-none t))
 
   mask-kept : SameKept m c (mask m c)
   mask-kept = record { mark = mask-mark; count = mask-count }
@@ -102,7 +102,7 @@ module _ (m : ℕ) (low : 1 ≤ m) (c : List ℕ) (whole : length c ≡ cardSize
   pub mask-mask : mask m (mask m c) ≡ mask m c
   mask-mask = rw (blank-same m c (mask m c) (setup-with-record c m _ 0) mask-kept) (mask-again _ 0 blank-shaped)
 
-pub mask-leaves : (m : ℕ) → 1 ≤ m → (c : List ℕ) → length c ≡ cardSize (setupOf c .members) → (d : List ℕ) → Leaves m c d → mask m d ≡ mask m c
+pub mask-leaves : (m : ℕ) → 1 ≤ m → (c : List ℕ) → length c ≡ cardSize (setupOf c).members → (d : List ℕ) → Leaves m c d → mask m d ≡ mask m c
 mask-leaves m low c whole _ unchanged = refl
 mask-leaves m low c whole _ (changed {d} l h at n x i q) = mask-over m low d (leaves-whole m c d l whole) at n x i q ∙ mask-leaves m low c whole d l
 
@@ -123,7 +123,7 @@ module _ (m : ℕ) (low : 1 ≤ m) (c : List ℕ) where
   unfolding withHolding
   swap-holding k x l e = mask-swap k holdingAt holdingSize x (omega arith) l e
 
-  module _ (whole : length c ≡ cardSize (setupOf c .members)) where
+  module _ (whole : length c ≡ cardSize (setupOf c).members) where
     pub mask-member : (k : ℕ) (x : Member) → 1 ≤ k → k ≢ m → mask m (withMember (mask m c) k x) ≡ mask m (withMember c k x)
     mask-member k x l e =
         ap (mask m) (swap-member k x l e) ∙ mask-mask m low (withMember c k x) (rw (length-with-member, setup-with-member) whole)
@@ -142,31 +142,31 @@ module _ (m : ℕ) (low : 1 ≤ m) (c : List ℕ) where
 -- ---- the masked card of a sound one ----
 
 module _ (m : ℕ) (low : 1 ≤ m) (c : List ℕ) (e : isSound c ≡ true) where
-  pub is-whole : length c ≡ cardSize (setupOf c .members)
-  is-whole = sound-of c e .long
+  pub is_whole : length c ≡ cardSize (setupOf c).members
+  is_whole = (sound-of c e).long
 
   pub masked-sound : isSound (mask m c) ≡ true
   unfolding blankIn
-  masked-sound = by-cases (isMember c m)
+  masked-sound = by_cases (isMember c m)
       (λ t. is-sound _ (sound-with-record c m _ 0 (sound-of c e) low
-      (blank-sound _ _ (isMarked c m) _ _ (sound-member-in c (sound-of c e) m t .count) (features-long c (omega (arith, is-whole))))))
-      (λ t. rw (mask-none m low c is-whole t) e)
+      (blank-sound _ _ (isMarked c m) _ _ (sound-member-in c (sound-of c e) m t).count (features-long c (omega (arith, is_whole))))))
+      (λ t. rw (mask-none m low c is_whole t) e)
 
   -- every member is marked as it was
   pub masked-mark : (k : ℕ) → isMarked (mask m c) k ≡ isMarked c k
-  masked-mark k = by-cases (eqb k m)
-      (λ q. rw (eqb-true k m q) (mask-mark m low c is-whole))
+  masked-mark k = by_cases (eqb k m)
+      (λ q. rw (eqb-true k m q) (mask-mark m low c is_whole))
       (λ q. mark-alike c _ k (setup-with-record c m _ 0)
-      (λ t. ap (λ (x : Member). x .marked) (record-other c m _ 0 k low (within-low _ _ k t) (eqb-false k m q))))
+      (λ t. ap (λ (x : Member). x.marked) (record-other c m _ 0 k low (within_low _ _ k t) (eqb-false k m q))))
 
   -- and has as many queues
-  pub masked-count : (k : ℕ) → 1 ≤ k → memberIn (mask m c) k .queues ≡ memberIn c k .queues
-  masked-count k l = by-cases (eqb k m)
-      (λ q. rw (eqb-true k m q) (mask-count m low c is-whole))
-      (λ q. ap (λ (x : Member). x .queues) (record-other c m _ 0 k low l (eqb-false k m q)))
+  pub masked-count : (k : ℕ) → 1 ≤ k → (memberIn (mask m c) k).queues ≡ (memberIn c k).queues
+  masked-count k l = by_cases (eqb k m)
+      (λ q. rw (eqb-true k m q) (mask-count m low c is_whole))
+      (λ q. ap (λ (x : Member). x.queues) (record-other c m _ 0 k low l (eqb-false k m q)))
 
   pub masked-counts : countsOf (mask m c) ≡ countsOf c
-  masked-counts = counts-same c _ (setup-with-record c m _ 0) (λ k t. masked-count k (within-low _ _ k t))
+  masked-counts = counts_same c _ (setup-with-record c m _ 0) (λ k t. masked-count k (within_low _ _ k t))
 
   -- a request asks the same of it
   pub masked-ask : (r : List ℕ) → askIn (mask m c) r ≡ askIn c r

@@ -1,44 +1,44 @@
 -- What a message for another member does to the masked card of Mask.antt. Assumes nothing.
-use mathlib.Core.Path.{_≡_, refl, ap, _∙_}
-use mathlib.Core.Logic.{_≢_}
+use mathlib.Core.Path.{◌≡◌, refl, ap, ◌∙◌}
+use mathlib.Core.Logic.{◌≢◌}
 use mathlib.Core.Bool.{true, false}
 use mathlib.Core.List.{List}
-use Prim.Native.Nat.{ℕ, _+_, _≤_}
+use Prim.Native.Nat.{ℕ, ◌+◌, ◌≤◌}
 use native.Mathlib.Omega.{arith}
 use lib.Dec.{leb}
 use lib.ListN.{length}
 use borrow.Author.Tests.{eqb-false}
-use Rattle·theory.specs.Logic.{unless_answer_then_}
-use Rattle·theory.proofs.Tests.{by-cases}
-use Rattle·wire.specs.Le.{le}
-use Rattle·card.specs.Layout.{configurationAt, configurationSize, generationAt, generationSize, cardSize, setupOf, withRecordBytes, configurationIn, generationIn, withConfiguration}
-use Rattle·card.specs.Sound.{isSound}
-use Rattle·card.proofs.RecordBytesLaws.{length-with-bytes, setup-with-bytes}
-use Rattle·card.proofs.RecordLaws.{setup-with-record, record-apart}
-use Rattle·message.specs.declared.Access.{Access}
-use Rattle·message.specs.declared.Access.the-variants.{Nothing, Read, Write}
-use Rattle·message.specs.Format.{memberFor}
-use Rattle·message.specs.Access.{wholeOf, speaksFor}
-use Rattle·message.specs.Message.{accessIn, isApplied, appliedTo, actOf, fitting, answerOf}
-use Rattle·message.proofs.Asked.{Facts, access-cases}
-use Rattle·message.proofs.Cases.{answer-sound}
-use Rattle·demands·proofs.proofs.Mask.{mask, mask-mask, mask-swap, is-whole, masked-sound, masked-mark}
+use Rattle.theory.specs.Logic.{unless◌answer◌then◌}
+use Rattle.theory.proofs.Tests.{by_cases}
+use Rattle.wire.specs.Le.{le}
+use Rattle.card.specs.Layout.{configurationAt, configurationSize, generationAt, generationSize, cardSize, setupOf, withRecordBytes, configurationIn, generationIn, withConfiguration}
+use Rattle.card.specs.Sound.{isSound}
+use Rattle.card.proofs.RecordBytesLaws.{length-with-bytes, setup-with-bytes}
+use Rattle.card.proofs.RecordLaws.{setup-with-record, record_apart}
+use Rattle.message.specs.declared.Access.{Access}
+use Rattle.message.specs.declared.Access.TheVariants.{Nothing, Read, Write}
+use Rattle.message.specs.Format.{memberFor}
+use Rattle.message.specs.Access.{whole_of, speaksFor}
+use Rattle.message.specs.Message.{accessIn, isApplied, appliedTo, actOf, fitting, answer_of}
+use Rattle.message.proofs.Asked.{Facts, access-cases}
+use Rattle.message.proofs.Cases.{answer-sound}
+use Rattle.demands.proofs.Mask.{mask, mask-mask, mask-swap, is_whole, masked-sound, masked-mark}
 
 -- the same response, and cards with the same mask
 pub record Alike (m : ℕ) (x y : List ℕ × List ℕ) : Type 0 where
-  pub says : x .1 ≡ y .1
-  pub cards : mask m (x .0) ≡ mask m (y .0)
+  pub says : x.1 ≡ y.1
+  pub cards : mask m x.0 ≡ mask m y.0
 
-module _ (m : ℕ) (low : 1 ≤ m) (c : List ℕ) (whole : length c ≡ cardSize (setupOf c .members)) where
+module _ (m : ℕ) (low : 1 ≤ m) (c : List ℕ) (whole : length c ≡ cardSize (setupOf c).members) where
   -- the configuration of another member k: what it is in the masked card, and that it is changed there alike
   module _ (k : ℕ) (l : 1 ≤ k) (o : k ≢ m) where
     configuration-unmasked : configurationIn (mask m c) k ≡ configurationIn c k
     unfolding configurationIn
-    configuration-unmasked = record-apart c m _ 0 k configurationAt configurationSize (omega arith) low l o
+    configuration-unmasked = record_apart c m _ 0 k configurationAt configurationSize (omega arith) low l o
 
     generation-unmasked : generationIn (mask m c) k ≡ generationIn c k
     unfolding generationIn
-    generation-unmasked = ap le (record-apart c m _ 0 k generationAt generationSize (omega arith) low l o)
+    generation-unmasked = ap le (record_apart c m _ 0 k generationAt generationSize (omega arith) low l o)
 
     mask-configuration : (y : List ℕ) (g : ℕ) → mask m (withConfiguration (mask m c) k y g) ≡ mask m (withConfiguration c k y g)
     unfolding withConfiguration
@@ -46,37 +46,37 @@ module _ (m : ℕ) (low : 1 ≤ m) (c : List ℕ) (whole : length c ≡ cardSize
         ap (mask m) (mask-swap m low c k configurationAt (configurationSize + generationSize) _ (omega arith) l o)
         ∙ mask-mask m low (withRecordBytes c k configurationAt _ _) (rw (length-with-bytes, setup-with-bytes) whole)
 
-  act-alike : (x : List ℕ) (a : Access) → Facts (setupOf c .members) x a → speaksFor m a ≡ false → Alike m (actOf (mask m c) x a) (actOf c x a)
-  unfolding actOf appliedTo speaksFor unless_answer_then_
+  act-alike : (x : List ℕ) (a : Access) → Facts (setupOf c).members x a → speaksFor m a ≡ false → Alike m (actOf (mask m c) x a) (actOf c x a)
+  unfolding actOf appliedTo speaksFor unless◌answer◌then◌
   act-alike x Nothing f n = record { says = refl; cards = mask-mask m low c whole }
   act-alike x (Read k offset j) f n =
       let o = eqb-false k m n in
-      rw (configuration-unmasked k (f .low) o, generation-unmasked k (f .low) o) (record { says = refl; cards = mask-mask m low c whole })
+      rw (configuration-unmasked k f.low o, generation-unmasked k f.low o) (record { says = refl; cards = mask-mask m low c whole })
   act-alike x (Write k sent offset j) f n =
       let o = eqb-false k m n in
-      rw (configuration-unmasked k (f .0 .low) o, generation-unmasked k (f .0 .low) o)
-      (by-cases (isApplied (generationIn c k) sent offset j)
-      (λ t. rw t (record { says = refl; cards = mask-configuration k (f .0 .low) o _ _ }))
+      rw (configuration-unmasked k f.0.low o, generation-unmasked k f.0.low o)
+      (by_cases (isApplied (generationIn c k) sent offset j)
+      (λ t. rw t (record { says = refl; cards = mask-configuration k f.0.low o _ _ }))
       (λ t. rw t (record { says = refl; cards = mask-mask m low c whole })))
 
   fitting-alike : (room : ℕ) (y z : List ℕ × List ℕ) → Alike m y z → Alike m (fitting (mask m c) room y) (fitting c room z)
-  unfolding fitting unless_answer_then_
+  unfolding fitting unless◌answer◌then◌
   fitting-alike room y z h =
-      by-cases (leb (length (z .1)) room)
-      (λ t. let u : leb (length (y .1)) room ≡ true = rw (h .says) t in rw (u, t) h)
-      (λ t. let u : leb (length (y .1)) room ≡ false = rw (h .says) t in rw (u, t) (record { says = refl; cards = mask-mask m low c whole }))
+      by_cases (leb (length z.1) room)
+      (λ t. let u : leb (length y.1) room ≡ true = rw h.says t in rw (u, t) h)
+      (λ t. let u : leb (length y.1) room ≡ false = rw h.says t in rw (u, t) (record { says = refl; cards = mask-mask m low c whole }))
 
 -- a message asks the same of the masked card
 masked-access : (m : ℕ) (low : 1 ≤ m) (c : List ℕ) → isSound c ≡ true → (x : List ℕ) → accessIn (mask m c) x ≡ accessIn c x
 unfolding accessIn
 masked-access m low c e x = rw (setup-with-record, masked-mark m low c e (memberFor x))
 
-pub message-alike : (m : ℕ) (low : 1 ≤ m) (c : List ℕ) → isSound c ≡ true → (x : List ℕ) → speaksFor m (wholeOf x) ≡ false → (room : ℕ)
-    → Alike m (answerOf (mask m c) x room) (answerOf c x room)
+pub message-alike : (m : ℕ) (low : 1 ≤ m) (c : List ℕ) → isSound c ≡ true → (x : List ℕ) → speaksFor m (whole_of x) ≡ false → (room : ℕ)
+    → Alike m (answer_of (mask m c) x room) (answer_of c x room)
 unfolding speaksFor
 message-alike m low c e x n room =
-    let whole = is-whole m low c e in
+    let whole = is_whole m low c e in
     rw (answer-sound (mask m c) x room (masked-sound m low c e), answer-sound c x room e, masked-access m low c e x)
     (fitting-alike m low c whole room _ _
     (access-cases c x (λ a. Alike m (actOf (mask m c) x a) (actOf c x a))
-    (act-alike m low c whole x Nothing tt refl) (λ f. act-alike m low c whole x (wholeOf x) f n)))
+    (act-alike m low c whole x Nothing tt refl) (λ f. act-alike m low c whole x (whole_of x) f n)))

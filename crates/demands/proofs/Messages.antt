@@ -1,27 +1,27 @@
 -- What a message leaves and what it touches, and the worked examples of messages. Assumes nothing.
-use mathlib.Core.Path.{_≡_, refl, sym, _∙_}
-use mathlib.Core.Logic.{_≢_}
+use mathlib.Core.Path.{◌≡◌, refl, sym, ◌∙◌}
+use mathlib.Core.Logic.{◌≢◌}
 use mathlib.Core.Bool.{true, false}
 use mathlib.Core.List.{List}
-use Prim.Native.Nat.{ℕ, _≤_}
+use Prim.Native.Nat.{ℕ, ◌≤◌}
 use native.Mathlib.Omega.{arith}
 use lib.Dec.{eqb}
 use lib.ListN.{length}
 use borrow.Author.Tests.{eqb-true, eqb-false}
-use Rattle·theory.proofs.Tests.{by-cases, within-low, never}
-use Rattle·theory.proofs.Bytes.{put-nil, put-front}
-use Rattle·theory.proofs.Lists.{length-zero}
-use Rattle·wire.specs.Le.{le, number}
-use Rattle·member.specs.Record.{holdingSize}
-use Rattle·card.specs.Layout.{holdingAt, isMember, holdingIn, withConfiguration}
-use Rattle·card.proofs.ConfigurationLaws.{setup-with-configuration, use-with-configuration, member-with-configuration, holding-with-configuration, configuration-apart}
-use Rattle·message.specs.Access.{wholeOf, speaksFor}
-use Rattle·message.specs.Message.{answerOf, delivered, messageOf}
-use Rattle·message.proofs.Cases.{card-cases, no-data-keeps, answer-fits}
-use Rattle·demands·specs.specs.Calls.{step, names}
-use Rattle·demands·specs.specs.Messages.{Responded, NothingApplied, SameButConfiguration, SameConfiguration, OnlyConfiguration, messageExamples, MessageExamplesHold}
-use Rattle·demands·proofs.proofs.Model.{model}
-use Rattle·demands·proofs.proofs.ConfigurationKept.{same-bytes, kept}
+use Rattle.theory.proofs.Tests.{by_cases, within_low, never}
+use Rattle.theory.proofs.Bytes.{put-nil, put_front}
+use Rattle.theory.proofs.Lists.{length-zero}
+use Rattle.wire.specs.Le.{le, number}
+use Rattle.member.specs.Record.{holdingSize}
+use Rattle.card.specs.Layout.{holdingAt, isMember, holdingIn, withConfiguration}
+use Rattle.card.proofs.ConfigurationLaws.{setup-with-configuration, use-with-configuration, member-with-configuration, holding-with-configuration, configuration-apart}
+use Rattle.message.specs.Access.{whole_of, speaksFor}
+use Rattle.message.specs.Message.{answer_of, delivered, messageOf}
+use Rattle.message.proofs.Cases.{card-cases, no-data-keeps, answer-fits}
+use Rattle.demands.specs.Calls.{step, names}
+use Rattle.demands.specs.Messages.{Responded, NothingApplied, SameButConfiguration, SameConfiguration, OnlyConfiguration, messageExamples, MessageExamplesHold}
+use Rattle.demands.proofs.Model.{model}
+use Rattle.demands.proofs.ConfigurationKept.{same_bytes, kept}
 
 -- ---- what a message leaves ----
 
@@ -31,16 +31,16 @@ responded c x b = record {
   card = refl;
   reported = refl;
   within = answer-fits c x (length b);
-  buffer = put-front (answerOf c x (length b) .1) b (answer-fits c x (length b));
+  buffer = put_front (answer_of c x (length b)).1 b (answer-fits c x (length b));
 }
 
-no-response : (c x b : List ℕ) → messageOf c x b .0 ≡ 0 → messageOf c x b ≡ (0, (c, b))
+no-response : (c x b : List ℕ) → (messageOf c x b).0 ≡ 0 → messageOf c x b ≡ (0, (c, b))
 unfolding messageOf delivered number le
 no-response c x b e =
-    let z = length-zero (answerOf c x (length b) .1) e in
+    let z = length-zero (answer_of c x (length b)).1 e in
     rw (no-data-keeps c x (length b) (rw z refl), z, put-nil)
 
-no-data : (c x b : List ℕ) → number 16 4 (answerOf c x (length b) .1) ≡ 0 → messageOf c x b .1 .0 ≡ c
+no-data : (c x b : List ℕ) → number 16 4 (answer_of c x (length b)).1 ≡ 0 → (messageOf c x b).1.0 ≡ c
 unfolding messageOf delivered
 no-data c x b e = no-data-keeps c x (length b) e
 
@@ -52,7 +52,7 @@ nothing-applied = record { busOutcome = no-response; lengthZero = no-data }
 module _ (c : List ℕ) (m : ℕ) (low : 1 ≤ m) (k : ℕ) (l : 1 ≤ k) (y : List ℕ) (g : ℕ) where
   holding-kept : holdingIn (withConfiguration c k y g) m ≡ holdingIn c m
   unfolding holdingIn
-  holding-kept = by-cases (eqb m k)
+  holding-kept = by_cases (eqb m k)
       (λ t. rw (eqb-true m k t) (own t))
       (λ t. configuration-apart c k y g m holdingAt holdingSize (omega arith) l low (eqb-false m k t))
     where
@@ -68,19 +68,19 @@ module _ (c : List ℕ) (m : ℕ) (low : 1 ≤ m) (k : ℕ) (l : 1 ≤ k) (y : L
   }
 
   untouched : m ≢ k → SameConfiguration c (withConfiguration c k y g) m
-  untouched o = same-bytes c _ m (λ at n a b. configuration-apart c k y g m at n (omega arith) l low o)
+  untouched o = same_bytes c _ m (λ at n a b. configuration-apart c k y g m at n (omega arith) l low o)
 
 module _ (c : List ℕ) (m : ℕ) (h : isMember c m ≡ true) (x : List ℕ) (room : ℕ) where
-  own-touched : SameButConfiguration c (answerOf c x room .0) m
+  own-touched : SameButConfiguration c (answer_of c x room).0 m
   own-touched =
       card-cases c x (λ d. SameButConfiguration c d m) (record { setup = refl; inUse = refl; member = refl; holding = refl }) room
-      (λ k y g s i t. touched c m (within-low _ _ m h) k (within-low _ _ k i) y g)
+      (λ k y g s i t. touched c m (within_low _ _ m h) k (within_low _ _ k i) y g)
 
-  others-kept : speaksFor m (wholeOf x) ≡ false → SameConfiguration c (answerOf c x room .0) m
+  others-kept : speaksFor m (whole_of x) ≡ false → SameConfiguration c (answer_of c x room).0 m
   others-kept n =
       card-cases c x (λ d. SameConfiguration c d m) (kept c m) room λ k y g s i t.
       let o : m ≢ k = λ q. never (sym n ∙ rw q t) in
-      untouched c m (within-low _ _ m h) k (within-low _ _ k i) y g o
+      untouched c m (within_low _ _ m h) k (within_low _ _ k i) y g o
 
 pub only-configuration : OnlyConfiguration
 unfolding step names

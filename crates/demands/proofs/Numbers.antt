@@ -1,7 +1,7 @@
 -- The worked examples of Numbers.antt hold. Assumes nothing.
 use mathlib.Core.Path.{refl}
-use Rattle·demands·specs.specs.Numbers.{numberExamples, NumbersHold}
-use Rattle·demands·proofs.proofs.Model.{model}
+use Rattle.demands.specs.Numbers.{numberExamples, NumbersHold}
+use Rattle.demands.proofs.Model.{model}
 
 pub numbers-hold : NumbersHold
 unfolding model numberExamples

@@ -1,48 +1,48 @@
 -- DEMAND 2: what is not read of the header of a part. Assumes nothing.
-use mathlib.Core.Path.{_≡_, refl, ap, sym, _∙_}
+use mathlib.Core.Path.{◌≡◌, refl, ap, sym, ◌∙◌}
 use mathlib.Core.Bool.{true, false}
-use mathlib.Core.List.{List, [], _++_, append-assoc}
-use Prim.Native.Nat.{ℕ, _+_, _%_, _^_, _≤_}
+use mathlib.Core.List.{List, [], ◌++◌, append_assoc}
+use Prim.Native.Nat.{ℕ, ◌+◌, ◌%◌, ◌^◌, ◌≤◌}
 use native.Mathlib.Omega.{arith}
 use lib.Dec.{eqb}
-use lib.ListN.{length, getD, drop, length-append, length-drop, List·getD-append}
-use lib.Seq.{drop-append-seam, take-append-seam}
-use Rattle·theory.specs.Logic.{if_then_else_, _or_}
-use Rattle·theory.specs.Bytes.{bytesAt}
-use Rattle·theory.proofs.Tests.{by-cases}
-use Rattle·theory.proofs.Items.{items-same}
-use Rattle·wire.specs.Le.{le, number}
-use Rattle·wire.proofs.Le.{number-byte, number-alike, number-append}
-use Rattle·protocol.specs.declared.Body.{Body}
-use Rattle·protocol.specs.declared.Body.the-variants as body
-use Rattle·inventory.specs.Inventory.{rowAt, rowCount, lowBytes, selectorOf}
-use Rattle·parts.specs.declared.ListForm.{ListForm}
-use Rattle·parts.specs.declared.ListForm.the-variants.{Parts, Headers}
-use Rattle·parts.specs.declared.Step.the-variants as step
-use Rattle·parts.specs.List.{valueSize, headerAt, stepAt, Part, part, partWith, partsOf}
-use Rattle·parts.proofs.Walk.{step-found, parts-part}
-use Rattle·rules.specs.Rules.{known, knownOrSkipped, lengthRight, sizeRight, featuresSame, asksKnown, causeIn, askedIn}
-use Rattle·capture.specs.Capture.{Asked, asks, partItem, partsWritten}
-use Rattle·member.specs.declared.Member.{Member}
-use Rattle·member.specs.Member.{featuresIn}
-use Rattle·reads.specs.Reads.{selectedOf}
-use Rattle·changes.specs.Changes.{setPartsOf}
-use Rattle·card.specs.Layout.{memberIn}
-use Rattle·frame.specs.Frame.{groupAt, memberAt, opcodeOf, targetOf, dataOf}
-use Rattle·frame.specs.Fields.{objectValid, getIn, setIn, fieldsOf}
-use Rattle·frame.specs.Ask.{framedOf, askOf}
-use Rattle·reply.specs.Result.{resultOf}
-use Rattle·admin.specs.Command.{askIn, effect, changing, perform, respond}
-use Rattle·demands·specs.specs.PartHeaders.{namedBytes, SamePart, SameGiven, sameGiven, nextGiven, SameAsked, sameAsked, nextAsked, HeadersNotRead}
-use Rattle·demands·proofs.proofs.SameAsked.{Same, respond-alike}
-use Rattle·demands·proofs.proofs.Reserved.{data-at}
-use Rattle·demands·proofs.proofs.PartLists.{parts-behind, Alike, same, next, whole-alike, every-alike, among-alike, repeated-alike, applied-alike}
+use lib.ListN.{length, get_or, drop, length-append, length-drop, get_or-append}
+use lib.Seq.{drop-append_seam, take-append_seam}
+use Rattle.theory.specs.Logic.{if◌then◌else◌, ◌or◌}
+use Rattle.theory.specs.Bytes.{bytes_at}
+use Rattle.theory.proofs.Tests.{by_cases}
+use Rattle.theory.proofs.Items.{items-same}
+use Rattle.wire.specs.Le.{le, number}
+use Rattle.wire.proofs.Le.{number-byte, number-alike, number_append}
+use Rattle.protocol.specs.declared.Body.{Body}
+use Rattle.protocol.specs.declared.Body.TheVariants as body
+use Rattle.inventory.specs.Inventory.{row_at, rowCount, low_bytes, selectorOf}
+use Rattle.parts.specs.declared.ListForm.{ListForm}
+use Rattle.parts.specs.declared.ListForm.TheVariants.{Parts, Headers}
+use Rattle.parts.specs.declared.Step.TheVariants as step
+use Rattle.parts.specs.List.{valueSize, header_at, stepAt, Part, part, partWith, parts_of}
+use Rattle.parts.proofs.Walk.{step-found, parts-part}
+use Rattle.rules.specs.Rules.{known, knownOrSkipped, lengthRight, sizeRight, featuresSame, asksKnown, causeIn, askedIn}
+use Rattle.capture.specs.Capture.{Asked, asks, partItem, partsWritten}
+use Rattle.member.specs.declared.Member.{Member}
+use Rattle.member.specs.Member.{featuresIn}
+use Rattle.reads.specs.Reads.{selectedOf}
+use Rattle.changes.specs.Changes.{setPartsOf}
+use Rattle.card.specs.Layout.{memberIn}
+use Rattle.frame.specs.Frame.{groupAt, memberAt, opcode_of, target_of, data_of}
+use Rattle.frame.specs.Fields.{objectValid, getIn, setIn, fields_of}
+use Rattle.frame.specs.Ask.{framedOf, askOf}
+use Rattle.reply.specs.Result.{result_of}
+use Rattle.admin.specs.Command.{askIn, effect, changing, perform, respond}
+use Rattle.demands.specs.PartHeaders.{namedBytes, SamePart, SameGiven, sameGiven, nextGiven, SameAsked, sameAsked, nextAsked, HeadersNotRead}
+use Rattle.demands.proofs.SameAsked.{Same, respond-alike}
+use Rattle.demands.proofs.Reserved.{data-at}
+use Rattle.demands.proofs.PartLists.{parts-behind, Alike, same, next, whole-alike, every-alike, among-alike, repeated-alike, applied-alike}
 
 -- ---- a part at the front of a list ----
 
 module _ (h rest : List ℕ) (long : length h ≡ 16) where
   front-number : (at n : ℕ) → at + n ≤ 16 → number at n (h ++ rest) ≡ number at n h
-  front-number at n b = number-alike 16 (h ++ rest) h (λ i j. List·getD-append h rest 0 i (omega arith)) n at b
+  front-number at n b = number-alike 16 (h ++ rest) h (λ i j. get_or-append h rest 0 i (omega arith)) n at b
 
   front-size : (form : ListForm) → valueSize form (h ++ rest) 0 ≡ valueSize form h 0
   front-size Parts = front-number 12 4 (omega arith)
@@ -50,53 +50,53 @@ module _ (h rest : List ℕ) (long : length h ≡ 16) where
 
   front-header : (form : ListForm) → valueSize form h 0 ≤ length rest
       → stepAt form (h ++ rest) 0
-      ≡ step.Part (number 0 2 h) (getD h 2 0) (selectorOf (number 0 2 h) (number 4 8 h)) 16 (valueSize form h 0)
-  unfolding headerAt
+      ≡ step.Part (number 0 2 h) (get_or h 2 0) (selectorOf (number 0 2 h) (number 4 8 h)) 16 (valueSize form h 0)
+  unfolding header_at
   front-header form b =
       let n = length-append h rest in
       let e = front-size form in
       step-found form (h ++ rest) 0 (omega arith) (omega arith)
-      ∙ rw (front-number 0 2 (omega arith), List·getD-append h rest 0 2 (omega arith), front-number 4 8 (omega arith), e)
+      ∙ rw (front-number 0 2 (omega arith), get_or-append h rest 0 2 (omega arith), front-number 4 8 (omega arith), e)
 
 abbrev headerPart : List ℕ → List ℕ → Part
-headerPart h x = partWith (number 0 2 h) (getD h 2 0) (selectorOf (number 0 2 h) (number 4 8 h)) x
+headerPart h x = partWith (number 0 2 h) (get_or h 2 0) (selectorOf (number 0 2 h) (number 4 8 h)) x
 
 front-part : (form : ListForm) (h x l : List ℕ) → length h ≡ 16 → length x ≡ valueSize form h 0
-    → partsOf form (h ++ (x ++ l)) ≡ part (headerPart h x) (partsOf form l)
+    → parts_of form (h ++ (x ++ l)) ≡ part (headerPart h x) (parts_of form l)
 front-part form h x l long size =
     let n = length-append x l in
-    let value : bytesAt 16 (length x) (h ++ (x ++ l)) ≡ x = rw (← long) (rw (drop-append-seam h (x ++ l)) (take-append-seam x l)) in
+    let value : bytes_at 16 (length x) (h ++ (x ++ l)) ≡ x = rw (← long) (rw (drop-append_seam h (x ++ l)) (take-append_seam x l)) in
     let place : 16 + length x ≡ length (h ++ x) = sym (length-append h x ∙ rw long) in
     parts-part form (h ++ (x ++ l)) 0 (front-header h (x ++ l) long form (omega arith))
-    ∙ rw (← size, value, place, ← append-assoc h x l, parts-behind (h ++ x) l form)
+    ∙ rw (← size, value, place, ← append_assoc h x l, parts-behind (h ++ x) l form)
 
 -- ---- headers of the same part ----
 
-same-number : (n : ℕ) (h k : List ℕ) → bytesAt 4 n k ≡ bytesAt 4 n h → number 4 n k ≡ number 4 n h
+same_number : (n : ℕ) (h k : List ℕ) → bytes_at 4 n k ≡ bytes_at 4 n h → number 4 n k ≡ number 4 n h
 unfolding number
-same-number n h k e = ap le e
+same_number n h k e = ap le e
 
-low-four : (l : List ℕ) → lowBytes 4 (number 4 8 l) ≡ number 4 4 l % 256 ^ 4
-low-four l = rw (number-append 4 4 4 l) (omega arith)
+low-four : (l : List ℕ) → low_bytes 4 (number 4 8 l) ≡ number 4 4 l % 256 ^ 4
+low-four l = rw (number_append 4 4 4 l) (omega arith)
 
-low-two : (l : List ℕ) → lowBytes 2 (number 4 8 l) ≡ number 4 2 l % 256 ^ 2
-low-two l = rw (number-append 4 2 6 l) (omega arith)
+low-two : (l : List ℕ) → low_bytes 2 (number 4 8 l) ≡ number 4 2 l % 256 ^ 2
+low-two l = rw (number_append 4 2 6 l) (omega arith)
 
 module _ (h k : List ℕ) (p : SamePart h k) where
   abbrev t : ℕ
   t = number 0 2 h
 
   selector-same : selectorOf t (number 4 8 k) ≡ selectorOf t (number 4 8 h)
-  unfolding selectorOf namedBytes if_then_else_
+  unfolding selectorOf namedBytes if◌then◌else◌
   selector-same =
-      let e = p .selector in
-      by-cases (eqb t 0x102)
-      (λ a. let f = same-number 4 h k (rw a at e) in rw (a, low-four k, low-four h, f)) λ a.
-      by-cases (eqb t 0x104 or eqb t 0x105)
-      (λ b. let f = same-number 2 h k (rw (a, b) at e) in rw (a, b, low-two k, low-two h, f)) (λ b. rw (a, b))
+      let e = p.selector in
+      by_cases (eqb t 0x102)
+      (λ a. let f = same_number 4 h k (rw a at e) in rw (a, low-four k, low-four h, f)) λ a.
+      by_cases (eqb t 0x104 or eqb t 0x105)
+      (λ b. let f = same_number 2 h k (rw (a, b) at e) in rw (a, b, low-two k, low-two h, f)) (λ b. rw (a, b))
 
-  header-same : (x : List ℕ) → headerPart k x ≡ partWith t (getD k 2 0) (selectorOf t (number 4 8 h)) x
-  header-same x = rw (p .partType, selector-same)
+  header-same : (x : List ℕ) → headerPart k x ≡ partWith t (get_or k 2 0) (selectorOf t (number 4 8 h)) x
+  header-same x = rw (p.partType, selector-same)
 
 -- ---- lists of them ----
 
@@ -109,30 +109,30 @@ FreeAsked t s f g = Unit {0}
 given-long : {queues : ℕ} {l m : List ℕ} → SameGiven queues l m → length m ≡ length l
 given-long sameGiven = refl
 given-long (nextGiven {h} {k} {l} {m} x p n z f a) =
-    rw (length-append k (x ++ m), length-append x m, length-append h (x ++ l), length-append x l, p .long, p .alsoLong, given-long a)
+    rw (length-append k (x ++ m), length-append x m, length-append h (x ++ l), length-append x l, p.long, p.alsoLong, given-long a)
 
-given-alike : {queues : ℕ} {l m : List ℕ} → SameGiven queues l m → Alike (FreeGiven queues) (partsOf Parts l) (partsOf Parts m)
+given-alike : {queues : ℕ} {l m : List ℕ} → SameGiven queues l m → Alike (FreeGiven queues) (parts_of Parts l) (parts_of Parts m)
 given-alike sameGiven = same
 given-alike (nextGiven {h} {k} {l} {m} x p n z f a) =
-    rw (front-part Parts h x l (p .long) z, front-part Parts k x m (p .alsoLong) (z ∙ sym n), header-same h k p x) (next f (given-alike a))
+    rw (front-part Parts h x l p.long z, front-part Parts k x m p.alsoLong (z ∙ sym n), header-same h k p x) (next f (given-alike a))
 
 asked-long : {l m : List ℕ} → SameAsked l m → length m ≡ length l
 asked-long sameAsked = refl
-asked-long (nextAsked {h} {k} {l} {m} p a) = rw (length-append k m, length-append h l, p .long, p .alsoLong, asked-long a)
+asked-long (nextAsked {h} {k} {l} {m} p a) = rw (length-append k m, length-append h l, p.long, p.alsoLong, asked-long a)
 
-asked-alike : {l m : List ℕ} → SameAsked l m → Alike FreeAsked (partsOf Headers l) (partsOf Headers m)
+asked-alike : {l m : List ℕ} → SameAsked l m → Alike FreeAsked (parts_of Headers l) (parts_of Headers m)
 asked-alike sameAsked = same
 asked-alike (nextAsked {h} {k} {l} {m} p a) =
-    rw (front-part Headers h [] l (p .long) refl, front-part Headers k [] m (p .alsoLong) refl, header-same h k p []) (next tt (asked-alike a))
+    rw (front-part Headers h [] l p.long refl, front-part Headers k [] m p.alsoLong refl, header-same h k p []) (next tt (asked-alike a))
 
 -- ---- what is made of them ----
 
 module _ (queues : ℕ) (l m : List ℕ) (a : SameGiven queues l m) where
   skipped-same : (t s f g : ℕ) (v : List ℕ) → FreeGiven queues t s f g → knownOrSkipped queues (partWith t g s v) ≡ knownOrSkipped queues (partWith t f s v)
-  unfolding knownOrSkipped _or_
-  skipped-same t s f g v e = by-cases (known queues t s) (λ y. rw y) (λ y. rw (y, e y))
+  unfolding knownOrSkipped ◌or◌
+  skipped-same t s f g v e = by_cases (known queues t s) (λ y. rw y) (λ y. rw (y, e y))
 
-  cause-same : (features : List ℕ) → causeIn queues features (partsOf Parts m) ≡ causeIn queues features (partsOf Parts l)
+  cause-same : (features : List ℕ) → causeIn queues features (parts_of Parts m) ≡ causeIn queues features (parts_of Parts l)
   unfolding causeIn lengthRight sizeRight featuresSame
   cause-same features =
       let w = given-alike a in
@@ -145,9 +145,9 @@ module _ (queues : ℕ) (l m : List ℕ) (a : SameGiven queues l m) where
         repeated-alike (FreeGiven queues) queues w,
       )
 
-  set-same : (id : ℕ) (y : Member) → y .queues ≡ queues → setPartsOf id m y ≡ setPartsOf id l y
+  set_same : (id : ℕ) (y : Member) → y.queues ≡ queues → setPartsOf id m y ≡ setPartsOf id l y
   unfolding setPartsOf
-  set-same id y q = rw (q, cause-same (featuresIn y), applied-alike (FreeGiven queues) queues (given-alike a) (y .values))
+  set_same id y q = rw (q, cause-same (featuresIn y), applied-alike (FreeGiven queues) queues (given-alike a) y.values)
 
 module _ (l m : List ℕ) (a : SameAsked l m) where
   selected-same : (queues : ℕ) → selectedOf queues m ≡ selectedOf queues l
@@ -158,10 +158,10 @@ module _ (l m : List ℕ) (a : SameAsked l m) where
 
   item-same : (queues : ℕ) (values : List ℕ) (i : ℕ) → partItem Asked queues m values i ≡ partItem Asked queues l values i
   unfolding partItem asks
-  item-same queues values i = rw (among-alike FreeAsked (rowAt i .partType) (rowAt i .selector) (asked-alike a))
+  item-same queues values i = rw (among-alike FreeAsked (row_at i).partType (row_at i).selector (asked-alike a))
 
-  result-same : (queues : ℕ) (values : List ℕ) (b : Body) → resultOf queues m values b ≡ resultOf queues l values b
-  unfolding resultOf partsWritten
+  result-same : (queues : ℕ) (values : List ℕ) (b : Body) → result_of queues m values b ≡ result_of queues l values b
+  unfolding result_of partsWritten
   result-same queues values body.Nothing = refl
   result-same queues values (body.Kind k) = refl
   result-same queues values (body.Number n) = refl
@@ -179,60 +179,60 @@ module _ (c front list other : List ℕ) (lens : length other ≡ length list) w
   s = front ++ other
 
   own-number : (at n : ℕ) → at + n ≤ length front → number at n r ≡ number at n front
-  own-number at n b = number-alike (length front) r front (λ i h. List·getD-append front list 0 i h) n at b
+  own-number at n b = number-alike (length front) r front (λ i h. get_or-append front list 0 i h) n at b
 
-  front-same : (at n : ℕ) → at + n ≤ length front → number at n s ≡ number at n r
-  front-same at n b =
-      number-alike (length front) s r (λ i h. List·getD-append front other 0 i h ∙ sym (List·getD-append front list 0 i h)) n at b
+  front_same : (at n : ℕ) → at + n ≤ length front → number at n s ≡ number at n r
+  front_same at n b =
+      number-alike (length front) s r (λ i h. get_or-append front other 0 i h ∙ sym (get_or-append front list 0 i h)) n at b
 
-  data-same : (at n : ℕ) → 24 + at + n ≤ length front → number at n (dataOf s) ≡ number at n (dataOf r)
-  data-same at n b = data-at n at s ∙ front-same (24 + at) n b ∙ sym (data-at n at r)
+  data-same : (at n : ℕ) → 24 + at + n ≤ length front → number at n (data_of s) ≡ number at n (data_of r)
+  data-same at n b = data-at n at s ∙ front_same (24 + at) n b ∙ sym (data-at n at r)
 
   length-same : length s ≡ length r
   length-same = rw (length-append front other, length-append front list, lens)
 
-  ask-same : 24 ≤ length front → ((ids m : ℕ) → fieldsOf ids m (opcodeOf r) (dataOf s) ≡ fieldsOf ids m (opcodeOf r) (dataOf r)) → askIn c s ≡ askIn c r
+  ask-same : 24 ≤ length front → ((ids m : ℕ) → fields_of ids m (opcode_of r) (data_of s) ≡ fields_of ids m (opcode_of r) (data_of r)) → askIn c s ≡ askIn c r
   unfolding askIn askOf framedOf
   ask-same b f =
-      rw (length-same, front-same 0 2 (omega arith), front-same groupAt 2 (omega arith), front-same memberAt 8 (omega arith), f _ _)
+      rw (length-same, front_same 0 2 (omega arith), front_same groupAt 2 (omega arith), front_same memberAt 8 (omega arith), f _ _)
 
-  set-fields : opcodeOf r ≡ 0x10 → 32 ≤ length front → (ids m : ℕ) → fieldsOf ids m (opcodeOf r) (dataOf s) ≡ fieldsOf ids m (opcodeOf r) (dataOf r)
-  unfolding fieldsOf setIn objectValid if_then_else_
+  set-fields : opcode_of r ≡ 0x10 → 32 ≤ length front → (ids m : ℕ) → fields_of ids m (opcode_of r) (data_of s) ≡ fields_of ids m (opcode_of r) (data_of r)
+  unfolding fields_of setIn objectValid if◌then◌else◌
   set-fields o b ids m = rw (o, data-same 0 2 (omega arith), data-same 4 4 (omega arith))
 
-  type-same : 40 ≤ length front → getD (dataOf s) 8 0 ≡ getD (dataOf r) 8 0
-  type-same b = sym (number-byte 8 (dataOf s)) ∙ data-same 8 1 (omega arith) ∙ number-byte 8 (dataOf r)
+  type-same : 40 ≤ length front → get_or (data_of s) 8 0 ≡ get_or (data_of r) 8 0
+  type-same b = sym (number-byte 8 (data_of s)) ∙ data-same 8 1 (omega arith) ∙ number-byte 8 (data_of r)
 
-  data-long : length (dataOf s) ≡ length (dataOf r)
+  data-long : length (data_of s) ≡ length (data_of r)
   data-long = rw (length-drop 24 s, length-drop 24 r, length-same)
 
-  get-fields : opcodeOf r ≡ 0x0f → 40 ≤ length front → (ids m : ℕ) → fieldsOf ids m (opcodeOf r) (dataOf s) ≡ fieldsOf ids m (opcodeOf r) (dataOf r)
-  unfolding fieldsOf getIn objectValid if_then_else_
+  get-fields : opcode_of r ≡ 0x0f → 40 ≤ length front → (ids m : ℕ) → fields_of ids m (opcode_of r) (data_of s) ≡ fields_of ids m (opcode_of r) (data_of r)
+  unfolding fields_of getIn objectValid if◌then◌else◌
   get-fields o b ids m = rw (o, data-same 0 2 (omega arith), data-same 4 4 (omega arith), type-same b, data-long)
 
-given : (c front list other : List ℕ) (room : ℕ) → length front ≡ 32 → opcodeOf front ≡ 0x10
-    → SameGiven (memberIn c (targetOf front) .queues) list other → respond c (front ++ other) room ≡ respond c (front ++ list) room
+given : (c front list other : List ℕ) (room : ℕ) → length front ≡ 32 → opcode_of front ≡ 0x10
+    → SameGiven (memberIn c (target_of front)).queues list other → respond c (front ++ other) room ≡ respond c (front ++ list) room
 unfolding Same perform
 given c front list other room n o a =
     let e = given-long a in
-    let op : opcodeOf (front ++ list) ≡ 0x10 = own-number c front list other e 0 2 (omega arith) ∙ o in
-    let m : targetOf (front ++ list) ≡ targetOf front = own-number c front list other e memberAt 8 (omega arith) in
-    let d : drop 32 (front ++ list) ≡ list = rw (← n) (drop-append-seam front list) in
-    let d′ : drop 32 (front ++ other) ≡ other = rw (← n) (drop-append-seam front other) in
+    let op : opcode_of (front ++ list) ≡ 0x10 = own-number c front list other e 0 2 (omega arith) ∙ o in
+    let m : target_of (front ++ list) ≡ target_of front = own-number c front list other e memberAt 8 (omega arith) in
+    let d : drop 32 (front ++ list) ≡ list = rw (← n) (drop-append_seam front list) in
+    let d' : drop 32 (front ++ other) ≡ other = rw (← n) (drop-append_seam front other) in
     respond-alike c (front ++ list) (front ++ other) room (λ z id. absurd (omega arith))
-    (λ z id. rw (d, d′, m) (ap (changing c (targetOf front)) (set-same _ list other a id (memberIn c (targetOf front)) refl)))
+    (λ z id. rw (d, d', m) (ap (changing c (target_of front)) (set_same _ list other a id (memberIn c (target_of front)) refl)))
     (ask-same c front list other e (omega arith) (set-fields c front list other e op (omega arith)))
 
-asked : (c front list other : List ℕ) (room : ℕ) → length front ≡ 40 → opcodeOf front ≡ 0x0f → SameAsked list other
+asked : (c front list other : List ℕ) (room : ℕ) → length front ≡ 40 → opcode_of front ≡ 0x0f → SameAsked list other
     → respond c (front ++ other) room ≡ respond c (front ++ list) room
 unfolding Same perform
 asked c front list other room n o a =
     let e = asked-long a in
-    let op : opcodeOf (front ++ list) ≡ 0x0f = own-number c front list other e 0 2 (omega arith) ∙ o in
-    let d : drop 40 (front ++ list) ≡ list = rw (← n) (drop-append-seam front list) in
-    let d′ : drop 40 (front ++ other) ≡ other = rw (← n) (drop-append-seam front other) in
+    let op : opcode_of (front ++ list) ≡ 0x0f = own-number c front list other e 0 2 (omega arith) ∙ o in
+    let d : drop 40 (front ++ list) ≡ list = rw (← n) (drop-append_seam front list) in
+    let d' : drop 40 (front ++ other) ≡ other = rw (← n) (drop-append_seam front other) in
     respond-alike c (front ++ list) (front ++ other) room
-    (λ z id. rw (d, d′, selected-same list other a) (ap (effect _ c) (result-same list other a _ _ _)))
+    (λ z id. rw (d, d', selected-same list other a) (ap (effect _ c) (result-same list other a _ _ _)))
     (λ z id. absurd (omega arith))
     (ask-same c front list other e (omega arith) (get-fields c front list other e op (omega arith)))
 

@@ -1,20 +1,20 @@
 -- The hypotheses of the claim on headers of parts can be met: a queue notify part with other flags, another reserved byte and other
 -- bytes in the last six of its selector, given and asked for. Assumes nothing.
-use mathlib.Core.Path.{_≡_, refl, sym}
-use mathlib.Core.List.{List, [], _∷_, _++_}
+use mathlib.Core.Path.{◌≡◌, refl, sym}
+use mathlib.Core.List.{List, [], ◌∷◌, ◌++◌}
 use Prim.Native.Nat.{ℕ}
 use lib.ListN.{take, replicate}
-use Rattle·theory.specs.Machine.{run}
-use Rattle·theory.proofs.Tests.{never}
-use Rattle·card.specs.Layout.{memberIn}
-use Rattle·host.specs.declared.Command.the-variants as host
-use Rattle·host.specs.Request.{startOf}
-use Rattle·admin.specs.Command.{respond}
-use Rattle·demands·specs.specs.Calls.{step}
-use Rattle·demands·specs.specs.Examples.{exampleCard, setMode, objectsLive}
-use Rattle·demands·specs.specs.PartHeaders.{namedBytes, SamePart, SameGiven, sameGiven, nextGiven, SameAsked, sameAsked, nextAsked}
-use Rattle·demands·proofs.proofs.Model.{model}
-use Rattle·demands·proofs.proofs.PartHeaders.{headers-not-read}
+use Rattle.theory.specs.Machine.{run}
+use Rattle.theory.proofs.Tests.{never}
+use Rattle.card.specs.Layout.{memberIn}
+use Rattle.host.specs.declared.Command.TheVariants as host
+use Rattle.host.specs.Request.{start_of}
+use Rattle.admin.specs.Command.{respond}
+use Rattle.demands.specs.Calls.{step}
+use Rattle.demands.specs.Examples.{exampleCard, setMode, objectsLive}
+use Rattle.demands.specs.PartHeaders.{namedBytes, SamePart, SameGiven, sameGiven, nextGiven, SameAsked, sameAsked, nextAsked}
+use Rattle.demands.proofs.Model.{model}
+use Rattle.demands.proofs.PartHeaders.{headers-not-read}
 
 -- member 1 has get object 0 and set object 1 and is stopped
 card : List ℕ
@@ -37,28 +37,28 @@ same-part f g r x n k = record { long = refl; alsoLong = refl; partType = refl; 
 
 -- ---- given, with its value ----
 
-given-alike : SameGiven (memberIn card 1 .queues) (notify 0 0 0 8 ++ (value ++ [])) (notify 1 7 0xff 8 ++ (value ++ []))
+given-alike : SameGiven (memberIn card 1).queues (notify 0 0 0 8 ++ (value ++ [])) (notify 1 7 0xff 8 ++ (value ++ []))
 unfolding example
 given-alike = nextGiven value (same-part 0 1 7 0xff 8 8) refl refl (λ e. never (sym e)) sameGiven
 
-set-alike : respond card (startOf (host.Set 1 1) ++ (notify 1 7 0xff 8 ++ value)) 8 ≡ respond card (startOf (host.Set 1 1) ++ (notify 0 0 0 8 ++ value)) 8
+set-alike : respond card (start_of (host.Set 1 1) ++ (notify 1 7 0xff 8 ++ value)) 8 ≡ respond card (start_of (host.Set 1 1) ++ (notify 0 0 0 8 ++ value)) 8
 unfolding example
-set-alike = headers-not-read .given card (startOf (host.Set 1 1)) _ _ 8 refl refl given-alike
+set-alike = headers-not-read.given card (start_of (host.Set 1 1)) _ _ 8 refl refl given-alike
 
 -- ---- asked for, with another length too ----
 
 asked-alike : SameAsked (notify 0 0 0 8 ++ []) (notify 1 7 0xff 5 ++ [])
 asked-alike = nextAsked (same-part 0 1 7 0xff 8 5) sameAsked
 
-get-alike : respond card (startOf (host.Get 1 0 0) ++ notify 1 7 0xff 5) 32 ≡ respond card (startOf (host.Get 1 0 0) ++ notify 0 0 0 8) 32
+get_alike : respond card (start_of (host.Get 1 0 0) ++ notify 1 7 0xff 5) 32 ≡ respond card (start_of (host.Get 1 0 0) ++ notify 0 0 0 8) 32
 unfolding example
-get-alike = headers-not-read .asked card (startOf (host.Get 1 0 0)) _ _ 32 refl refl asked-alike
+get_alike = headers-not-read.asked card (start_of (host.Get 1 0 0)) _ _ 32 refl refl asked-alike
 
 -- it is set, and got: no refusal is meant
-takes : take 8 (respond card (startOf (host.Set 1 1) ++ (notify 1 7 0xff 8 ++ value)) 8 .1) ≡ replicate 8 0
+takes : take 8 (respond card (start_of (host.Set 1 1) ++ (notify 1 7 0xff 8 ++ value)) 8).1 ≡ replicate 8 0
 unfolding example
 takes = refl
 
-gives : take 8 (respond card (startOf (host.Get 1 0 0) ++ notify 1 7 0xff 5) 32 .1) ≡ replicate 8 0
+gives : take 8 (respond card (start_of (host.Get 1 0 0) ++ notify 1 7 0xff 5) 32).1 ≡ replicate 8 0
 unfolding example
 gives = refl

@@ -1,27 +1,27 @@
 -- Lists of parts behind other bytes, and lists whose parts differ in their flags alone. Assumes nothing.
-use mathlib.Core.Path.{_≡_, refl, ap, sym, _∙_}
+use mathlib.Core.Path.{◌≡◌, refl, ap, sym, ◌∙◌}
 use mathlib.Core.Bool.{Bool, true, false}
-use mathlib.Core.List.{List, _++_, append-assoc}
-use Prim.Native.Nat.{ℕ, zero, suc, _+_, _-_, _≤_, _<_}
+use mathlib.Core.List.{List, ◌++◌, append_assoc}
+use Prim.Native.Nat.{ℕ, zero, suc, ◌+◌, ◌-◌, ◌≤◌, ◌<◌}
 use native.Mathlib.Omega.{arith}
 use lib.Dec.{leb, ltb, eqb}
-use lib.ListN.{length, getD, take, drop, length-append}
+use lib.ListN.{length, get_or, take, drop, length-append}
 use lib.Seq.{drop-append-add}
 use borrow.Author.Tests.{lt-ltb, le-ltb}
-use Rattle·theory.specs.Logic.{unless_answer_then_, _and_, _or_}
-use Rattle·theory.specs.Bytes.{bytesAt}
-use Rattle·theory.proofs.Tests.{by-cases, tests}
-use Rattle·wire.specs.Le.{number}
-use Rattle·wire.proofs.Le.{number-byte}
-use Rattle·inventory.specs.Header.{selectorAt, flagsAt, lengthAt, headerSize}
-use Rattle·parts.specs.declared.ListForm.{ListForm}
-use Rattle·parts.specs.declared.ListForm.the-variants.{Parts, Headers}
-use Rattle·parts.specs.declared.Step.{Step}
-use Rattle·parts.specs.declared.Step.the-variants as step
-use Rattle·parts.specs.List.{valueSize, headerAt, stepAt, Part, PartList, end, cut, part, partWith, partIn, onStep, partsFrom, partsOf, whole, among}
-use Rattle·parts.proofs.Walk.{step-end, step-part, parts-step, parts-end}
-use Rattle·rules.specs.Rules.{known, every, repeated}
-use Rattle·values.specs.Apply.{applied}
+use Rattle.theory.specs.Logic.{unless◌answer◌then◌, ◌and◌, ◌or◌}
+use Rattle.theory.specs.Bytes.{bytes_at}
+use Rattle.theory.proofs.Tests.{by_cases, tests}
+use Rattle.wire.specs.Le.{number}
+use Rattle.wire.proofs.Le.{number-byte}
+use Rattle.inventory.specs.Header.{selectorAt, flagsAt, length_at, headerSize}
+use Rattle.parts.specs.declared.ListForm.{ListForm}
+use Rattle.parts.specs.declared.ListForm.TheVariants.{Parts, Headers}
+use Rattle.parts.specs.declared.Step.{Step}
+use Rattle.parts.specs.declared.Step.TheVariants as step
+use Rattle.parts.specs.List.{valueSize, header_at, stepAt, Part, PartList, end, cut, part, partWith, partIn, onStep, partsFrom, parts_of, whole, among}
+use Rattle.parts.proofs.Walk.{step_end, step_part, parts-step, parts-end}
+use Rattle.rules.specs.Rules.{known, every, repeated}
+use Rattle.values.specs.Apply.{applied}
 
 -- ---- a list behind other bytes ----
 
@@ -33,38 +33,38 @@ moved n step.End = step.End
 moved-tests : (n : ℕ) (a b c : Bool) (x y : Step) → x ≡ moved n y
     → (unless a answer step.End then unless b answer step.Cut then unless c answer step.Cut then x)
     ≡ moved n (unless a answer step.End then unless b answer step.Cut then unless c answer step.Cut then y)
-unfolding unless_answer_then_ moved
+unfolding unless◌answer◌then◌ moved
 moved-tests n false b c x y e = refl
 moved-tests n true false c x y e = refl
 moved-tests n true true false x y e = refl
 moved-tests n true true true x y e = e
 
 module _ (pre l : List ℕ) where
-  pub number-behind : (at n : ℕ) → number (length pre + at) n (pre ++ l) ≡ number at n l
+  pub number_behind : (at n : ℕ) → number (length pre + at) n (pre ++ l) ≡ number at n l
   unfolding number
-  number-behind at n = rw (drop-append-add pre l at)
+  number_behind at n = rw (drop-append-add pre l at)
 
-  byte-behind : (at : ℕ) → getD (pre ++ l) (length pre + at) 0 ≡ getD l at 0
-  byte-behind at = sym (number-byte (length pre + at) (pre ++ l)) ∙ number-behind at 1 ∙ number-byte at l
+  byte-behind : (at : ℕ) → get_or (pre ++ l) (length pre + at) 0 ≡ get_or l at 0
+  byte-behind at = sym (number-byte (length pre + at) (pre ++ l)) ∙ number_behind at 1 ∙ number-byte at l
 
-  number-past : (at i n : ℕ) → number (length pre + at + i) n (pre ++ l) ≡ number (at + i) n l
-  number-past at i n = let e : length pre + at + i ≡ length pre + (at + i) = omega arith in rw e (number-behind (at + i) n)
+  number_past : (at i n : ℕ) → number (length pre + at + i) n (pre ++ l) ≡ number (at + i) n l
+  number_past at i n = let e : length pre + at + i ≡ length pre + (at + i) = omega arith in rw e (number_behind (at + i) n)
 
   size-behind : (form : ListForm) (at : ℕ) → valueSize form (pre ++ l) (length pre + at) ≡ valueSize form l at
-  size-behind Parts at = number-past at lengthAt 4
+  size-behind Parts at = number_past at length_at 4
   size-behind Headers at = refl
 
-  header-behind : (form : ListForm) (at : ℕ) → headerAt form (pre ++ l) (length pre + at) ≡ moved (length pre) (headerAt form l at)
-  unfolding headerAt moved
+  header-behind : (form : ListForm) (at : ℕ) → header_at form (pre ++ l) (length pre + at) ≡ moved (length pre) (header_at form l at)
+  unfolding header_at moved
   header-behind form at =
       let e : length pre + at + flagsAt ≡ length pre + (at + flagsAt) = omega arith in
       let f : length pre + at + headerSize ≡ length pre + (at + headerSize) = omega arith in
-      rw (number-behind at 2, e, byte-behind (at + flagsAt), number-past at selectorAt 8, f, size-behind form at)
+      rw (number_behind at 2, e, byte-behind (at + flagsAt), number_past at selectorAt 8, f, size-behind form at)
 
   before-end : (at : ℕ) → ltb (length pre + at) (length (pre ++ l)) ≡ ltb at (length l)
   before-end at =
       let n = length-append pre l in
-      by-cases (ltb at (length l)) (λ t. lt-ltb (length pre + at) (length (pre ++ l)) (omega tests) ∙ sym t)
+      by_cases (ltb at (length l)) (λ t. lt-ltb (length pre + at) (length (pre ++ l)) (omega tests) ∙ sym t)
       (λ t. le-ltb (length pre + at) (length (pre ++ l)) (omega tests) ∙ sym t)
 
   step-behind : (form : ListForm) (at : ℕ) → stepAt form (pre ++ l) (length pre + at) ≡ moved (length pre) (stepAt form l at)
@@ -80,8 +80,8 @@ module _ (pre l : List ℕ) where
   unfolding moved
   from-behind form zero at h =
       let n = length-append pre l in
-      parts-end form (pre ++ l) (length pre + at) (step-end form (pre ++ l) (length pre + at) (omega arith))
-      ∙ sym (parts-end form l at (step-end form l at (omega arith)))
+      parts-end form (pre ++ l) (length pre + at) (step_end form (pre ++ l) (length pre + at) (omega arith))
+      ∙ sym (parts-end form l at (step_end form l at (omega arith)))
   from-behind form (suc k) at h =
       parts-step form (pre ++ l) (length pre + at)
       ∙ rw (step-behind form at) (cases (stepAt form l at) refl (from-behind form k))
@@ -91,13 +91,13 @@ module _ (pre l : List ℕ) where
           → onStep (moved (length pre) r) (λ t f s start len. part (partIn (pre ++ l) t f s start len) (partsFrom form (pre ++ l) (start + len))) cut end
           ≡ onStep r (λ t f s start len. part (partIn l t f s start len) (partsFrom form l (start + len))) cut end
       cases (step.Part t f s start len) e ih =
-          let w = step-part form l at e in
+          let w = step_part form l at e in
           let a : length pre + start + len ≡ length pre + (start + len) = omega arith in
           rw (drop-append-add pre l start, a, ih (start + len) (omega arith))
       cases step.Cut e ih = refl
       cases step.End e ih = refl
 
-  pub parts-behind : (form : ListForm) → partsFrom form (pre ++ l) (length pre) ≡ partsOf form l
+  pub parts-behind : (form : ListForm) → partsFrom form (pre ++ l) (length pre) ≡ parts_of form l
   parts-behind form = let e : length pre + 0 ≡ length pre = omega arith in rw e at (from-behind form (length l) 0 (omega arith))
 
 -- ---- parts that differ in their flags alone, as far as Free allows for a type and a selector ----

@@ -1,96 +1,96 @@
 -- The place of a part, of the member's own inventory: specs/Places.antt. What is said of all rows or all parts is one test
 -- that antt computes for each queue count. Assumes nothing.
-use mathlib.Core.Path.{_≡_, refl, ap, sym, _∙_}
+use mathlib.Core.Path.{◌≡◌, refl, ap, sym, ◌∙◌}
 use mathlib.Core.Bool.{Bool, true, not}
-use Prim.Native.Nat.{ℕ, _*_, _≤_, _<_}
+use Prim.Native.Nat.{ℕ, ◌*◌, ◌≤◌, ◌<◌}
 use native.Mathlib.Omega.{arith}
 use borrow.Author.Tests.{eqb-true, ltb-true}
 use lib.Dec.{ltb, eqb}
 use lib.ListN.{length, take}
-use Rattle·theory.specs.Logic.{_and_, _or_}
-use Rattle·theory.specs.Bytes.{bytesAt, same}
-use Rattle·theory.specs.Items.{itemsFrom}
-use Rattle·theory.proofs.Tests.{both, same-true, never}
-use Rattle·theory.proofs.Table.{every, at}
-use Rattle·wire.specs.Le.{bytes}
-use Rattle·inventory.specs.Inventory.{Row, rows, rowAt, rowCount, present, partCount, placeOf}
-use Rattle·inventory.specs.Header.{headerOf, headerSize}
-use Rattle·inventory.specs.declared.Place.{Place}
-use Rattle·inventory.specs.declared.Place.the-variants.{At, Absent}
-use Rattle·inventory.proofs.Rules.{table, every-row, every-count}
-use Rattle·inventory.proofs.Find.{place-found, own-place}
-use Rattle·capture.specs.Capture.{headerItem, headersOf}
-use Rattle·demands·specs.specs.Places.{ownFrom, ownRows, rowOf, Has, PlacesFound}
+use Rattle.theory.specs.Logic.{◌and◌, ◌or◌}
+use Rattle.theory.specs.Bytes.{bytes_at, same}
+use Rattle.theory.specs.Items.{itemsFrom}
+use Rattle.theory.proofs.Tests.{both, same_true, never}
+use Rattle.theory.proofs.Table.{every, at}
+use Rattle.wire.specs.Le.{bytes}
+use Rattle.inventory.specs.Inventory.{Row, rows, row_at, rowCount, present, part_count, place_of}
+use Rattle.inventory.specs.Header.{headerOf, headerSize}
+use Rattle.inventory.specs.declared.Place.{Place}
+use Rattle.inventory.specs.declared.Place.TheVariants.{At, Absent}
+use Rattle.inventory.proofs.Rules.{table, every-row, every-count}
+use Rattle.inventory.proofs.Find.{place_found, own-place}
+use Rattle.capture.specs.Capture.{headerItem, headersOf}
+use Rattle.demands.specs.Places.{ownFrom, ownRows, row_of, Has, PlacesFound}
 
 -- how many of the first i rows are there: the number of row i among the parts
-abbrev numberOf : ℕ → ℕ → ℕ
-numberOf q i = length (ownFrom q (take i rows) 0)
+abbrev number_of : ℕ → ℕ → ℕ
+number_of q i = length (ownFrom q (take i rows) 0)
 
 -- each row that is there is the part of its number
 isNumbered : ℕ → ℕ → Row → Bool
-isNumbered q i r = not (present q r) or (ltb (numberOf q i) (partCount q) and eqb (rowOf q (numberOf q i)) i)
+isNumbered q i r = not (present q r) or (ltb (number_of q i) (part_count q) and eqb (row_of q (number_of q i)) i)
 
 -- the row of a part is one of the table's and there, and its header is the part's
 isPart : ℕ → ℕ → ℕ → Bool
-isPart q p i = ltb i rowCount and present q (rowAt i) and same (bytesAt (headerSize * p) headerSize (headersOf q)) (headerOf (rowAt i))
+isPart q p i = ltb i rowCount and present q (row_at i) and same (bytes_at (headerSize * p) headerSize (headersOf q)) (headerOf (row_at i))
 
 module _ (q : ℕ) (h : q ≤ 4) where
-  count-is : length (ownRows q) ≡ partCount q
+  count-is : length (ownRows q) ≡ part_count q
   unfolding table ownRows ownFrom
-  count-is = eqb-true _ _ (every-count (λ q. eqb (length (ownRows q)) (partCount q)) refl q (omega arith))
+  count-is = eqb-true _ _ (every-count (λ q. eqb (length (ownRows q)) (part_count q)) refl q (omega arith))
 
-  part-is : (p : ℕ) → p < partCount q → isPart q p (rowOf q p) ≡ true
+  part-is : (p : ℕ) → p < part_count q → isPart q p (row_of q p) ≡ true
   unfolding table ownRows ownFrom isPart same headersOf headerItem headerOf itemsFrom bytes
   part-is p l = at (isPart q) rowCount (ownRows q) (every-count (λ q. every (isPart q) 0 (ownRows q)) refl q (omega arith)) p (rw count-is l)
 
-  numbered : (i : ℕ) → i < rowCount → isNumbered q i (rowAt i) ≡ true
+  numbered : (i : ℕ) → i < rowCount → isNumbered q i (row_at i) ≡ true
   unfolding table ownRows ownFrom isNumbered
   numbered i l = every-row (isNumbered q) (every-count (λ q. every (isNumbered q) 0 rows) refl q (omega arith)) i l
 
   -- the row of a part is found
-  module _ (p : ℕ) (l : p < partCount q) where
-    row-found : placeOf q (rowAt (rowOf q p) .partType) (rowAt (rowOf q p) .selector) ≡ At (rowOf q p)
+  module _ (p : ℕ) (l : p < part_count q) where
+    row-found : place_of q (row_at (row_of q p)).partType (row_at (row_of q p)).selector ≡ At (row_of q p)
     unfolding isPart
     row-found =
-        let a = both _ _ (both _ _ (part-is p l) .0) in
-        own-place q (rowOf q p) (omega arith) (ltb-true _ _ (a .0)) (a .1)
+        let a = both _ _ (both _ _ (part-is p l)).0 in
+        own-place q (row_of q p) (omega arith) (ltb-true _ _ a.0) a.1
 
-    header-is : bytesAt (headerSize * p) headerSize (headersOf q) ≡ headerOf (rowAt (rowOf q p))
+    header_is : bytes_at (headerSize * p) headerSize (headersOf q) ≡ headerOf (row_at (row_of q p))
     unfolding isPart
-    header-is = same-true _ _ (both _ _ (part-is p l) .1)
+    header_is = same_true _ _ (both _ _ (part-is p l)).1
 
-    found-has : (t s : ℕ) → placeOf q t s ≡ At (rowOf q p) → Has q t s p
+    found-has : (t s : ℕ) → place_of q t s ≡ At (row_of q p) → Has q t s p
     found-has t s e =
-        let f = place-found q t s (rowOf q p) e in
-        record { type-is = f .type-is; selector-is = f .selector-is }
+        let f = place_found q t s (row_of q p) e in
+        record { type-is = f.type-is; selector-is = f.selector-is }
 
-    has-found : (t s : ℕ) → Has q t s p → placeOf q t s ≡ At (rowOf q p)
-    has-found t s x = rw (← x .type-is, ← x .selector-is) row-found
+    has-found : (t s : ℕ) → Has q t s p → place_of q t s ≡ At (row_of q p)
+    has-found t s x = rw (← x.type-is, ← x.selector-is) row-found
 
-    has-place : (t s : ℕ) → placeOf q t s ≡ Absent → Has q t s p → ⊥
+    has-place : (t s : ℕ) → place_of q t s ≡ Absent → Has q t s p → ⊥
     has-place t s e x =
-        let both-ways : Absent ≡ At (rowOf q p) = sym e ∙ has-found t s x in
+        let both_ways : Absent ≡ At (row_of q p) = sym e ∙ has-found t s x in
         never cc
 
   -- a row that is found is that of a part
-  found-part : (t s i : ℕ) → ((p : ℕ) → p < partCount q → Has q t s p → ⊥) → placeOf q t s ≡ At i → ⊥
-  unfolding isNumbered _or_
-  found-part t s i none e =
-      let f = place-found q t s i e in
-      let n = both _ _ (rw (f .there) at (numbered i (f .below))) in
-      let l = ltb-true _ _ (n .0) in
-      none (numberOf q i) l (found-has (numberOf q i) l t s (e ∙ ap At (sym (eqb-true _ _ (n .1)))))
+  found_part : (t s i : ℕ) → ((p : ℕ) → p < part_count q → Has q t s p → ⊥) → place_of q t s ≡ At i → ⊥
+  unfolding isNumbered ◌or◌
+  found_part t s i none e =
+      let f = place_found q t s i e in
+      let n = both _ _ (rw f.there at (numbered i f.below)) in
+      let l = ltb-true _ _ n.0 in
+      none (number_of q i) l (found-has (number_of q i) l t s (e ∙ ap At (sym (eqb-true _ _ n.1))))
 
-  none-absent : (t s : ℕ) (r : Place) → placeOf q t s ≡ r → ((p : ℕ) → p < partCount q → Has q t s p → ⊥) → r ≡ Absent
-  none-absent t s (At i) e none = absurd (found-part t s i none e)
+  none-absent : (t s : ℕ) (r : Place) → place_of q t s ≡ r → ((p : ℕ) → p < part_count q → Has q t s p → ⊥) → r ≡ Absent
+  none-absent t s (At i) e none = absurd (found_part t s i none e)
   none-absent t s Absent e none = refl
 
 pub places-found : PlacesFound
 places-found q l h = record {
   count = count-is q h;
-  header = header-is q h;
+  header = header_is q h;
   found = λ t s p k. found-has q h p k t s;
   there = λ t s p k. has-found q h p k t s;
   absent = λ t s p k. has-place q h p k t s;
-  lacking = λ t s. none-absent q h t s (placeOf q t s) refl;
+  lacking = λ t s. none-absent q h t s (place_of q t s) refl;
 }

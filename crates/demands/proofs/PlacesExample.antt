@@ -1,16 +1,16 @@
 -- Places of specs/Places.antt: queue notify 0 is the 9th part of a member with one queue and the 12th with four, and with
 -- one queue there is no queue notify 1. Assumes nothing.
-use mathlib.Core.Path.{_≡_, refl}
-use Rattle·inventory.specs.Inventory.{queueNotify, placeOf}
-use Rattle·inventory.specs.declared.Place.the-variants.{At, Absent}
-use Rattle·inventory.proofs.Rules.{table}
-use Rattle·demands·specs.specs.Places.{ownFrom, ownRows, rowOf, Has}
+use mathlib.Core.Path.{◌≡◌, refl}
+use Rattle.inventory.specs.Inventory.{queueNotify, place_of}
+use Rattle.inventory.specs.declared.Place.TheVariants.{At, Absent}
+use Rattle.inventory.proofs.Rules.{table}
+use Rattle.demands.specs.Places.{ownFrom, ownRows, row_of, Has}
 
 one-queue : Has 1 queueNotify 0 8
 unfolding table ownRows ownFrom
 one-queue = record { type-is = refl; selector-is = refl }
 
-one-queue-found : placeOf 1 queueNotify 0 ≡ At (rowOf 1 8)
+one-queue-found : place_of 1 queueNotify 0 ≡ At (row_of 1 8)
 unfolding table ownRows ownFrom
 one-queue-found = refl
 
@@ -18,6 +18,6 @@ four-queues : Has 4 queueNotify 0 11
 unfolding table ownRows ownFrom
 four-queues = record { type-is = refl; selector-is = refl }
 
-no-second : placeOf 1 queueNotify 1 ≡ Absent
+no_second : place_of 1 queueNotify 1 ≡ Absent
 unfolding table
-no-second = refl
+no_second = refl

@@ -1,19 +1,19 @@
 -- A sound card holds no queue size that no ring has, and the worked examples hold, by computation. Assumes nothing.
-use mathlib.Core.Path.{_≡_, refl}
+use mathlib.Core.Path.{◌≡◌, refl}
 use mathlib.Core.Bool.{true}
-use Prim.Native.Nat.{ℕ, zero, suc, _≤_, _<_}
+use Prim.Native.Nat.{ℕ, zero, suc, ◌≤◌, ◌<◌}
 use native.Mathlib.Omega.{arith}
 use borrow.Author.Tests.{eqb-true}
-use Rattle·theory.proofs.Tests.{both, either, within-high, never}
-use Rattle·wire.specs.Le.{number}
-use Rattle·inventory.specs.Queue.{powerBelow, ringSize, queueAllowed, queueValue}
-use Rattle·inventory.proofs.Queue.{each-allowed}
-use Rattle·card.specs.Layout.{isMember, memberIn}
-use Rattle·card.specs.Sound.{isSound}
-use Rattle·card.proofs.SoundLaws.{sound-of, sound-member-in}
-use Rattle·demands·specs.specs.Examples.{exampleCard}
-use Rattle·demands·specs.specs.QueueSizes.{Ring, power, unused, RingsOnly, queueExamples, QueueExamplesHold}
-use Rattle·demands·proofs.proofs.Model.{model}
+use Rattle.theory.proofs.Tests.{both, either, within-high, never}
+use Rattle.wire.specs.Le.{number}
+use Rattle.inventory.specs.Queue.{powerBelow, ringSize, queueAllowed, queueValue}
+use Rattle.inventory.proofs.Queue.{each-allowed}
+use Rattle.card.specs.Layout.{isMember, memberIn}
+use Rattle.card.specs.Sound.{isSound}
+use Rattle.card.proofs.SoundLaws.{sound-of, sound-member-in}
+use Rattle.demands.specs.Examples.{exampleCard}
+use Rattle.demands.specs.QueueSizes.{Ring, power, unused, RingsOnly, queueExamples, QueueExamplesHold}
+use Rattle.demands.proofs.Model.{model}
 
 is-power : (k n e : ℕ) → k ≤ 16 → powerBelow k n ≡ true → Ring n e
 unfolding powerBelow
@@ -23,13 +23,13 @@ is-power (suc k) n e h t = either _ _ t (λ q. power {k = k} (omega arith) (eqb-
 pub is-ring : (n e : ℕ) → ringSize n e ≡ true → Ring n e
 unfolding ringSize
 is-ring n e t =
-    either _ _ t (is-power 16 n e (omega arith)) (λ q. let b = both _ _ q in unused (eqb-true _ _ (b .0)) (eqb-true _ _ (b .1)))
+    either _ _ t (is-power 16 n e (omega arith)) (λ q. let b = both _ _ q in unused (eqb-true _ _ b.0) (eqb-true _ _ b.1))
 
 pub rings-only : RingsOnly
 unfolding queueAllowed
 rings-only c e m h k l =
     let s = sound-of c e in
-    is-ring _ _ (each-allowed _ _ (sound-member-in c s m h .allowed) k l (omega (arith, within-high 1 4 _ (sound-member-in c s m h .count))))
+    is-ring _ _ (each-allowed _ _ (sound-member-in c s m h).allowed k l (omega (arith, within-high 1 4 _ (sound-member-in c s m h).count)))
 
 pub queue-examples-hold : QueueExamplesHold
 unfolding model queueExamples
@@ -45,9 +45,9 @@ member-here : isMember exampleCard 1 ≡ true
 unfolding model
 member-here = refl
 
-one-queue : 0 < memberIn exampleCard 1 .queues
+one-queue : 0 < (memberIn exampleCard 1).queues
 unfolding model
 one-queue = omega arith
 
-fresh-queue : Ring (number 0 2 (queueValue 0 (memberIn exampleCard 1 .values))) (number 4 2 (queueValue 0 (memberIn exampleCard 1 .values)))
+fresh-queue : Ring (number 0 2 (queueValue 0 (memberIn exampleCard 1).values)) (number 4 2 (queueValue 0 (memberIn exampleCard 1).values))
 fresh-queue = rings-only exampleCard sound-card 1 member-here 0 one-queue

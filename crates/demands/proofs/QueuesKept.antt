@@ -1,82 +1,82 @@
 -- REQUEST 9: a packed setup makes the card that setup makes, and no call changes a queue count. Assumes nothing.
-use mathlib.Core.Path.{_≡_, refl, ap, _∙_}
+use mathlib.Core.Path.{◌≡◌, refl, ap, ◌∙◌}
 use mathlib.Core.Bool.{true}
 use mathlib.Core.List.{List}
-use Prim.Native.Nat.{ℕ, _+_, _-_, _≤_}
+use Prim.Native.Nat.{ℕ, ◌+◌, ◌-◌, ◌≤◌}
 use native.Mathlib.Omega.{arith}
 use borrow.Author.Tests.{eqb-true, eq-eqb, eqb-false}
 use lib.Dec.{eqb}
 use lib.ListN.{length}
-use Rattle·theory.specs.Logic.{unless_answer_then_}
-use Rattle·theory.proofs.Tests.{by-cases, unless-cases, within-low, within-high}
-use Rattle·protocol.specs.declared.EventAnswer.{EventAnswer}
-use Rattle·member.specs.declared.Member.{Member}
-use Rattle·member.specs.Record.{holdingSize}
-use Rattle·member.specs.Member.{featuresSize, freshOf}
-use Rattle·member.proofs.Record.{fresh-shaped}
-use Rattle·changes.proofs.Kept.{change-queues}
-use Rattle·setups.specs.Setup.{inNumbers}
-use Rattle·setups.specs.Writing.{written}
-use Rattle·setups.proofs.Ranges.{numbers-in}
-use Rattle·setups.proofs.InRange.{take-sixteen}
-use Rattle·setups.proofs.Claims.{claims}
-use Rattle·card.specs.Layout.{configurationAt, configurationSize, generationSize, holdingAt, setupOf, isMember, HasRecord, memberIn, withMember, withConfiguration, countsOf, withHolding, withFresh, freshCard}
-use Rattle·card.proofs.HeaderLaws.{features-long}
-use Rattle·card.proofs.RecordLaws.{record-other, member-with-record}
-use Rattle·card.proofs.CountLaws.{count-other, count-behind, count-with-use, count-with-member, counts-long, counts-at, count-fresh}
-use Rattle·card.proofs.SoundLaws.{Sound, sound-of, sound-long, sound-has, sound-member-in}
-use Rattle·events.specs.Events.{setUpOf, setUpFrom, withHandedBack, handBack as handBackOf, wipe as wipeOf, resetCard}
-use Rattle·events.proofs.Cases.{on-member-cases}
-use Rattle·frame.specs.declared.Ask.{Ask}
-use Rattle·frame.specs.declared.Ask.the-variants.{Refused, QueryList, UseList, Read, Change}
-use Rattle·admin.specs.Command.{perform, respond}
-use Rattle·admin.proofs.Respond.{FactsIn, asked-of, card-cases}
-use Rattle·admin.proofs.Marks.{named-here}
-use Rattle·staging.proofs.Places.{has}
-use Rattle·message.proofs.Cases.{card-cases as message-cases}
-use Rattle·demands·specs.specs.Calls.{Call, names, command, handBack, wipe, cardReset, cardStore, restoreBegin, restoreFeed, restoreFinish, restoreDrop, message, step}
-use Rattle·demands·specs.specs.QueueCounts.{SetUpFromPacked, QueuesKept, CountsInRange}
-use Rattle·demands·proofs.proofs.Named.{Leaves, unchanged, changed, named-leaves}
+use Rattle.theory.specs.Logic.{unless◌answer◌then◌}
+use Rattle.theory.proofs.Tests.{by_cases, unless-cases, within_low, within-high}
+use Rattle.protocol.specs.declared.EventAnswer.{EventAnswer}
+use Rattle.member.specs.declared.Member.{Member}
+use Rattle.member.specs.Record.{holdingSize}
+use Rattle.member.specs.Member.{featuresSize, fresh_of}
+use Rattle.member.proofs.Record.{fresh-shaped}
+use Rattle.changes.proofs.Kept.{change-queues}
+use Rattle.setups.specs.Setup.{inNumbers}
+use Rattle.setups.specs.Writing.{written}
+use Rattle.setups.proofs.Ranges.{numbers-in}
+use Rattle.setups.proofs.InRange.{take-sixteen}
+use Rattle.setups.proofs.Claims.{claims}
+use Rattle.card.specs.Layout.{configurationAt, configurationSize, generationSize, holdingAt, setupOf, isMember, HasRecord, memberIn, withMember, withConfiguration, countsOf, withHolding, withFresh, freshCard}
+use Rattle.card.proofs.HeaderLaws.{features-long}
+use Rattle.card.proofs.RecordLaws.{record-other, member-with-record}
+use Rattle.card.proofs.CountLaws.{count-other, count-behind, count-with-use, count-with-member, counts-long, counts-at, count-fresh}
+use Rattle.card.proofs.SoundLaws.{Sound, sound-of, sound-long, sound-has, sound-member-in}
+use Rattle.events.specs.Events.{setUpOf, setUpFrom, withHandedBack, handBack as handBackOf, wipe as wipeOf, resetCard}
+use Rattle.events.proofs.Cases.{on-member-cases}
+use Rattle.frame.specs.declared.Ask.{Ask}
+use Rattle.frame.specs.declared.Ask.TheVariants.{Refused, QueryList, UseList, Read, Change}
+use Rattle.admin.specs.Command.{perform, respond}
+use Rattle.admin.proofs.Respond.{FactsIn, asked_of, card-cases}
+use Rattle.admin.proofs.Marks.{named_here}
+use Rattle.staging.proofs.Places.{has}
+use Rattle.message.proofs.Cases.{card-cases as message-cases}
+use Rattle.demands.specs.Calls.{Call, names, command, handBack, wipe, cardReset, cardStore, restoreBegin, restoreFeed, restoreFinish, restoreDrop, message, step}
+use Rattle.demands.specs.QueueCounts.{SetUpFromPacked, QueuesKept, CountsInRange}
+use Rattle.demands.proofs.Named.{Leaves, unchanged, changed, named-leaves}
 
 -- ---- a packed setup ----
 
 -- a setup that was written is a good one
 good-numbers : (buffer : List ℕ) (members : ℕ) (queues : List ℕ) (gets sets : ℕ) (features : List ℕ) (n : ℕ) (b : List ℕ)
-    → _≡_ {A = ℕ × List ℕ} (n, b) (written buffer members queues gets sets features) → (n ≡ 0 → ⊥) → inNumbers members queues gets sets ≡ true
-unfolding written unless_answer_then_
+    → ◌≡◌ {A = ℕ × List ℕ} (n, b) (written buffer members queues gets sets features) → (n ≡ 0 → ⊥) → inNumbers members queues gets sets ≡ true
+unfolding written unless◌answer◌then◌
 good-numbers buffer members queues gets sets features n b e h =
-    by-cases (inNumbers members queues gets sets) (λ t. t) (λ t. absurd (h (ap (λ (x : ℕ × List ℕ). x .0) (rw t at e))))
+    by_cases (inNumbers members queues gets sets) (λ t. t) (λ t. absurd (h (ap (λ (x : ℕ × List ℕ). x.0) (rw t at e))))
 
 pub set-up-from-packed : SetUpFromPacked
-unfolding setUpFrom setUpOf unless_answer_then_
+unfolding setUpFrom setUpOf unless◌answer◌then◌
 set-up-from-packed c buffer members queues gets sets features n b e h =
-    let w = claims .readsBack buffer members queues gets sets features n b e h in
+    let w = claims.readsBack buffer members queues gets sets features n b e h in
     let g = numbers-in members queues gets sets (good-numbers buffer members queues gets sets features n b e h) in
-    rw (w .sameSetup, take-sixteen queues members (g .each) (g .few))
+    rw (w.sameSetup, take-sixteen queues members g.each g.few)
 
 -- ---- queue counts ----
 
 -- member k has as many queues in two cards
 abbrev Same : ℕ → List ℕ → List ℕ → Type 0
-Same k c d = memberIn d k .queues ≡ memberIn c k .queues
+Same k c d = (memberIn d k).queues ≡ (memberIn c k).queues
 
 module _ (k : ℕ) (l : 1 ≤ k) where
   -- another member m with the same count, and other bytes behind it
   module _ (c : List ℕ) (m : ℕ) (r : HasRecord c m) where
-    member-kept : (x : Member) → x .queues ≡ memberIn c m .queues → Same k c (withMember c m x)
+    member-kept : (x : Member) → x.queues ≡ (memberIn c m).queues → Same k c (withMember c m x)
     member-kept x q = count-with-member c m x r q k l
 
-    behind-kept : (x : Member) (y : List ℕ) → x .queues ≡ memberIn c m .queues → Same k c (withHolding (withMember c m x) m y)
+    behind-kept : (x : Member) (y : List ℕ) → x.queues ≡ (memberIn c m).queues → Same k c (withHolding (withMember c m x) m y)
     unfolding withHolding
     behind-kept x y q =
-        count-behind (withMember c m x) m holdingAt holdingSize y (omega arith) (r .low) k l (omega arith) ∙ member-kept x q
+        count-behind (withMember c m x) m holdingAt holdingSize y (omega arith) r.low k l (omega arith) ∙ member-kept x q
 
-    fresh-kept : (f : List ℕ) (g : ℕ) → length f ≡ featuresSize → Same k c (withFresh c m f g)
-    unfolding freshOf
-    fresh-kept f g e =
-        by-cases (eqb k m)
-        (λ q. rw (eqb-true k m q) (ap (λ (x : Member). x .queues) (member-with-record c m _ g (fresh-shaped (memberIn c m .queues) f e) r)))
-        (λ q. ap (λ (x : Member). x .queues) (record-other c m _ g k (r .low) l (eqb-false k m q)))
+    fresh_kept : (f : List ℕ) (g : ℕ) → length f ≡ featuresSize → Same k c (withFresh c m f g)
+    unfolding fresh_of
+    fresh_kept f g e =
+        by_cases (eqb k m)
+        (λ q. rw (eqb-true k m q) (ap (λ (x : Member). x.queues) (member-with-record c m _ g (fresh-shaped (memberIn c m).queues f e) r)))
+        (λ q. ap (λ (x : Member). x.queues) (record-other c m _ g k r.low l (eqb-false k m q)))
 
   configuration-kept : (c : List ℕ) (m : ℕ) → 1 ≤ m → (y : List ℕ) (g : ℕ) → Same k c (withConfiguration c m y g)
   unfolding withConfiguration
@@ -84,58 +84,58 @@ module _ (k : ℕ) (l : 1 ≤ k) where
       count-behind c m configurationAt (configurationSize + generationSize) _ (omega arith) low k l (omega arith)
 
   -- a command
-  perform-kept : (c r : List ℕ) → Sound c → (a : Ask) → FactsIn c r a → Same k c (perform c r a .card)
+  perform_kept : (c r : List ℕ) → Sound c → (a : Ask) → FactsIn c r a → Same k c (perform c r a).card
   unfolding perform
-  perform-kept c r s (Refused a) f = refl
-  perform-kept c r s QueryList f = refl
-  perform-kept c r s (UseList mask) f = count-with-use c mask k
-  perform-kept c r s (Read m op) f = refl
-  perform-kept c r s (Change m op) f =
-      member-kept c m (sound-has c s m (named-here c r m (f .0))) _ (change-queues (setupOf c .gets) (setupOf c .sets) _ op (memberIn c m))
+  perform_kept c r s (Refused a) f = refl
+  perform_kept c r s QueryList f = refl
+  perform_kept c r s (UseList mask) f = count-with-use c mask k
+  perform_kept c r s (Read m op) f = refl
+  perform_kept c r s (Change m op) f =
+      member-kept c m (sound-has c s m (named_here c r m f.0)) _ (change-queues (setupOf c).gets (setupOf c).sets _ op (memberIn c m))
 
-  respond-kept : (c r : List ℕ) (room : ℕ) → Same k c (respond c r room .0)
-  respond-kept c r room = card-cases c r room (Same k c) refl (λ s. perform-kept c r (sound-of c s) _ (asked-of c r))
+  respond-kept : (c r : List ℕ) (room : ℕ) → Same k c (respond c r room).0
+  respond-kept c r room = card-cases c r room (Same k c) refl (λ s. perform_kept c r (sound-of c s) _ (asked_of c r))
 
 -- a call that names m keeps m's count, and touches no other record
-leaves-kept : (k m : ℕ) → 1 ≤ k → (c d : List ℕ) → Leaves m c d → Same k c d
-leaves-kept k m l c _ unchanged = refl
-leaves-kept k m l c _ (changed {d} p h at n x i q) =
-    by-cases (eqb k m) (λ e. rw (eqb-true k m e) (q .count)) (λ e. count-other d m at n x i (within-low _ _ m h) k l (eqb-false k m e))
-    ∙ leaves-kept k m l c d p
+leaves_kept : (k m : ℕ) → 1 ≤ k → (c d : List ℕ) → Leaves m c d → Same k c d
+leaves_kept k m l c _ unchanged = refl
+leaves_kept k m l c _ (changed {d} p h at n x i q) =
+    by_cases (eqb k m) (λ e. rw (eqb-true k m e) q.count) (λ e. count-other d m at n x i (within_low _ _ m h) k l (eqb-false k m e))
+    ∙ leaves_kept k m l c d p
 
-named-kept : (c : List ℕ) (k : ℕ) → isMember c k ≡ true → (m : ℕ) (x : Call) → names m x ≡ true → Same k c (step c x .0)
-named-kept c k h m x n = leaves-kept k m (within-low _ _ k h) c _ (named-leaves m c x n)
+named-kept : (c : List ℕ) (k : ℕ) → isMember c k ≡ true → (m : ℕ) (x : Call) → names m x ≡ true → Same k c (step c x).0
+named-kept c k h m x n = leaves_kept k m (within_low _ _ k h) c _ (named-leaves m c x n)
 
 -- the card after an event
 abbrev EventSame : ℕ → List ℕ → EventAnswer × List ℕ → Type 0
-EventSame k c y = Same k c (y .1)
+EventSame k c y = Same k c y.1
 
 reset-kept : (c : List ℕ) (k g : ℕ) → isMember c k ≡ true → Sound c → Same k c (freshCard (setupOf c) (countsOf c) g)
 unfolding countsOf
 reset-kept c k g h s =
-    let l = within-low _ _ k h in
+    let l = within_low _ _ k h in
     let b = within-high _ _ k h in
-    let n = counts-long c 1 (setupOf c .members) in
+    let n = counts-long c 1 (setupOf c).members in
     let i : 1 + (k - 1) ≡ k = omega arith in
     count-fresh (setupOf c) (countsOf c) g (features-long c (omega (arith, sound-long c s))) k l (omega arith)
-    ∙ counts-at c 1 (setupOf c .members) (k - 1) (omega arith)
-    ∙ ap (λ j. memberIn c j .queues) i
+    ∙ counts-at c 1 (setupOf c).members (k - 1) (omega arith)
+    ∙ ap (λ j. (memberIn c j).queues) i
 
 pub counts-in-range : CountsInRange
 counts-in-range c s m h =
-    let q = sound-member-in c (sound-of c s) m h .count in
-    (within-low 1 4 _ q, within-high 1 4 _ q)
+    let q = (sound-member-in c (sound-of c s) m h).count in
+    (within_low 1 4 _ q, within-high 1 4 _ q)
 
 pub queues-kept : QueuesKept
 unfolding step names handBackOf withHandedBack wipeOf resetCard
-queues-kept c k h (command r room) = respond-kept k (within-low _ _ k h) c r room
+queues-kept c k h (command r room) = respond-kept k (within_low _ _ k h) c r room
 queues-kept c k h (handBack m) =
     on-member-cases c m _ (EventSame k c) (λ a d. refl) λ s i.
-    unless-cases (EventSame k c) _ _ _ (λ t. refl) (λ t. behind-kept k (within-low _ _ k h) c m (has c m s i) _ _ refl)
+    unless-cases (EventSame k c) _ _ _ (λ t. refl) (λ t. behind-kept k (within_low _ _ k h) c m (has c m s i) _ _ refl)
 queues-kept c k h (wipe m g) =
     on-member-cases c m _ (EventSame k c) (λ a d. refl) λ s i.
     unless-cases (EventSame k c) _ _ _ (λ t. refl)
-    (λ t. fresh-kept k (within-low _ _ k h) c m (has c m s i) _ g (features-long c (omega (arith, sound-long c (sound-of c s)))))
+    (λ t. fresh_kept k (within_low _ _ k h) c m (has c m s i) _ g (features-long c (omega (arith, sound-long c (sound-of c s)))))
 queues-kept c k h (cardReset g) = unless-cases (EventSame k c) _ _ _ (λ t. refl) (λ t. reset-kept c k g h (sound-of c t))
 queues-kept c k h (cardStore m t s value) = named-kept c k h m (cardStore m t s value) (eq-eqb m m refl)
 queues-kept c k h (restoreBegin m) = named-kept c k h m (restoreBegin m) (eq-eqb m m refl)
@@ -144,4 +144,4 @@ queues-kept c k h (restoreFinish m id) = named-kept c k h m (restoreFinish m id)
 queues-kept c k h (restoreDrop m) = named-kept c k h m (restoreDrop m) (eq-eqb m m refl)
 queues-kept c k h (message x room) =
     message-cases c x (Same k c) refl room λ m y g s i t.
-    configuration-kept k (within-low _ _ k h) c m (within-low _ _ m i) y g
+    configuration-kept k (within_low _ _ k h) c m (within_low _ _ m i) y g

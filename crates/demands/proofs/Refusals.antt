@@ -1,68 +1,68 @@
 -- A refusal leaves the card as it stood, but for the two drops of request 6: every definition gives the card back where its
 -- answer is not 0. Assumes nothing.
-use mathlib.Core.Path.{_≡_, refl, ap}
+use mathlib.Core.Path.{◌≡◌, refl, ap}
 use mathlib.Core.Bool.{true, false, not}
 use mathlib.Core.List.{List}
 use Prim.Native.Nat.{ℕ}
 use lib.Dec.{eqb}
 use borrow.Author.Tests.{eqb-true}
-use Rattle·theory.specs.Logic.{if_then_else_, unless_answer_then_}
-use Rattle·theory.proofs.Tests.{by-cases, unless-cases, and-false, never}
-use Rattle·wire.specs.Le.{le, bytes, number}
-use Rattle·protocol.specs.declared.Answer.{Answer}
-use Rattle·protocol.specs.declared.Answer.the-variants.{Done, BadLength, BadGroup, BadOpcode, NoMember, Marked, BadField, Exists, NotLive, NoRoom, WrongKind, Running, BadList, ShortReply}
-use Rattle·protocol.specs.declared.EventAnswer.{EventAnswer}
-use Rattle·protocol.specs.Answers.{statusOf, isDone, eventNumber}
-use Rattle·card.specs.Sound.{isSound}
-use Rattle·events.specs.Events.{handBack as handBackOf, wipe as wipeOf, resetCard, storeIn, store}
-use Rattle·events.proofs.Cases.{if-done-cases, on-unsound, on-member-cases}
-use Rattle·reply.specs.Reply.{headOf, replyOf}
-use Rattle·admin.specs.Command.{askIn, perform, respond}
-use Rattle·demands·specs.specs.Calls.{Call, command, handBack, wipe, cardReset, cardStore, restoreBegin, restoreFeed, restoreFinish, restoreDrop, message, Reply, written, answered, ofCommand, refused, step}
-use Rattle·demands·specs.specs.Claims.{afterRefusal, unsoundReply, UnsoundRefused, RefusalsChangeNothing}
-use Rattle·admin.proofs.Respond.{lastAnswer, respond-none, respond-cases}
-use Rattle·staging.specs.Staging.{withoutHeld, beginOf, feedOf, finishOf, dropOf}
-use Rattle·staging.proofs.Refusals.{on-member-cases as restore-cases, on-open-cases, on-open-both, on-member-unsound, on-open-unsound}
-use Rattle·message.proofs.Cases.{answer-unsound, no-data-keeps}
+use Rattle.theory.specs.Logic.{if◌then◌else◌, unless◌answer◌then◌}
+use Rattle.theory.proofs.Tests.{by_cases, unless-cases, and-false, never}
+use Rattle.wire.specs.Le.{le, bytes, number}
+use Rattle.protocol.specs.declared.Answer.{Answer}
+use Rattle.protocol.specs.declared.Answer.TheVariants.{Done, BadLength, BadGroup, BadOpcode, NoMember, Marked, BadField, Exists, NotLive, NoRoom, WrongKind, Running, BadList, ShortReply}
+use Rattle.protocol.specs.declared.EventAnswer.{EventAnswer}
+use Rattle.protocol.specs.Answers.{statusOf, isDone, eventNumber}
+use Rattle.card.specs.Sound.{isSound}
+use Rattle.events.specs.Events.{handBack as handBackOf, wipe as wipeOf, resetCard, storeIn, store}
+use Rattle.events.proofs.Cases.{if-done-cases, on-unsound, on-member-cases}
+use Rattle.reply.specs.Reply.{head_of, replyOf}
+use Rattle.admin.specs.Command.{askIn, perform, respond}
+use Rattle.demands.specs.Calls.{Call, command, handBack, wipe, cardReset, cardStore, restoreBegin, restoreFeed, restoreFinish, restoreDrop, message, Reply, written, answered, ofCommand, refused, step}
+use Rattle.demands.specs.Claims.{afterRefusal, unsoundReply, UnsoundRefused, RefusalsChangeNothing}
+use Rattle.admin.proofs.Respond.{lastAnswer, respond-none, respond-cases}
+use Rattle.staging.specs.Staging.{withoutHeld, beginOf, feedOf, finishOf, dropOf}
+use Rattle.staging.proofs.Refusals.{on-member-cases as restore-cases, on-open-cases, on-open-both, on-member-unsound, on-open-unsound}
+use Rattle.message.proofs.Cases.{answer-unsound, no-data-keeps}
 
 -- a number that is refused picks the card as it was
 kept : (n : ℕ) (next c : List ℕ) → not (eqb n 0) ≡ true → (if eqb n 0 then next else c) ≡ c
-unfolding if_then_else_
-kept n next c e = by-cases (eqb n 0) (λ t. let z = rw t at e in cc) (λ t. rw t)
+unfolding if◌then◌else◌
+kept n next c e = by_cases (eqb n 0) (λ t. let z = rw t at e in cc) (λ t. rw t)
 
 -- the status is what the reply's first two bytes say
 says-refused : (a : Answer) (result : List ℕ) → refused (written (replyOf a result)) ≡ true → not (isDone a) ≡ true
-unfolding refused replyOf headOf bytes number le
+unfolding refused replyOf head_of bytes number le
 says-refused a result e =
-    by-cases (isDone a) (λ t. let z = rw (eqb-true (statusOf a) 0 t) at e in cc) (λ t. rw t)
+    by_cases (isDone a) (λ t. let z = rw (eqb-true (statusOf a) 0 t) at e in cc) (λ t. rw t)
 
 -- what is to be shown of a command and of an event
 Keeps : List ℕ → List ℕ × List ℕ → Type 0
-Keeps c y = refused (written (y .1)) ≡ true → y .0 ≡ c
+Keeps c y = refused (written y.1) ≡ true → y.0 ≡ c
 
 KeepsEvent : List ℕ → EventAnswer × List ℕ → Type 0
-KeepsEvent c y = refused (answered (eventNumber (y .0))) ≡ true → y .1 ≡ c
+KeepsEvent c y = refused (answered (eventNumber y.0)) ≡ true → y.1 ≡ c
 
-pub respond-keeps : (c r : List ℕ) (room : ℕ) → refused (written (respond c r room .1)) ≡ true → respond c r room .0 ≡ c
+pub respond-keeps : (c r : List ℕ) (room : ℕ) → refused (written (respond c r room).1) ≡ true → (respond c r room).0 ≡ c
 unfolding Keeps
 respond-keeps c r room =
     respond-cases c r room (Keeps c) (λ e. refl)
     (λ h s e.
     let x = perform c r (askIn c r) in
-    kept (statusOf (lastAnswer room x)) (x .card) c (says-refused (lastAnswer room x) (x .result) e))
+    kept (statusOf (lastAnswer room x)) x.card c (says-refused (lastAnswer room x) x.result e))
 
 -- ---- a restore in fragments ----
 
 KeepsRestore : List ℕ → ℕ × List ℕ → Type 0
-KeepsRestore c y = refused (answered (y .0)) ≡ true → y .1 ≡ c
+KeepsRestore c y = refused (answered y.0) ≡ true → y.1 ≡ c
 
 -- what is left is what a drop leaves
 DropsAlike : ℕ × List ℕ → ℕ × List ℕ → Type 0
-DropsAlike x y = refused (answered (x .0)) ≡ true → x .1 ≡ y .1
+DropsAlike x y = refused (answered x.0) ≡ true → x.1 ≡ y.1
 
 -- the first four bytes of a success are 0
 done-zero : (a : Answer) (result : List ℕ) → isDone a ≡ true → number 0 4 (replyOf a result) ≡ 0
-unfolding replyOf headOf bytes number le
+unfolding replyOf head_of bytes number le
 done-zero Done result e = refl
 done-zero BadLength result e = never e
 done-zero BadGroup result e = never e
@@ -80,18 +80,18 @@ done-zero ShortReply result e = never e
 
 four-refused : (a : Answer) (result : List ℕ) → refused (answered (number 0 4 (replyOf a result))) ≡ true → not (isDone a) ≡ true
 unfolding refused
-four-refused a result e = by-cases (isDone a) (λ t. let z = rw (done-zero a result t) at e in cc) (λ t. rw t)
+four-refused a result e = by_cases (isDone a) (λ t. let z = rw (done-zero a result t) at e in cc) (λ t. rw t)
 
 FourKeep : List ℕ → List ℕ × List ℕ → Type 0
-FourKeep c y = refused (answered (number 0 4 (y .1))) ≡ true → y .0 ≡ c
+FourKeep c y = refused (answered (number 0 4 y.1)) ≡ true → y.0 ≡ c
 
-respond-four : (c r : List ℕ) (room : ℕ) → refused (answered (number 0 4 (respond c r room .1))) ≡ true → respond c r room .0 ≡ c
+respond-four : (c r : List ℕ) (room : ℕ) → refused (answered (number 0 4 (respond c r room).1)) ≡ true → (respond c r room).0 ≡ c
 unfolding FourKeep
 respond-four c r room =
     respond-cases c r room (FourKeep c) (λ e. refl)
     (λ h s e.
     let x = perform c r (askIn c r) in
-    kept (statusOf (lastAnswer room x)) (x .card) c (four-refused (lastAnswer room x) (x .result) e))
+    kept (statusOf (lastAnswer room x)) x.card c (four-refused (lastAnswer room x) x.result e))
 
 begin-keeps : (c : List ℕ) (m : ℕ) → KeepsRestore c (beginOf c m)
 unfolding KeepsRestore beginOf refused
@@ -109,9 +109,9 @@ unfolding DropsAlike finishOf dropOf
 finish-drops c m id =
     on-open-both c m _ DropsAlike _ (λ a e. refl) (λ p e. ap (λ d. withoutHeld d m) (respond-four c _ _ e))
 
-drop-keeps : (c : List ℕ) (m : ℕ) → KeepsRestore c (dropOf c m)
+drop_keeps : (c : List ℕ) (m : ℕ) → KeepsRestore c (dropOf c m)
 unfolding KeepsRestore dropOf refused
-drop-keeps c m = on-open-cases c m _ (KeepsRestore c) (λ a e. refl) (λ p e. cc)
+drop_keeps c m = on-open-cases c m _ (KeepsRestore c) (λ a e. refl) (λ p e. cc)
 
 -- ---- every call ----
 
@@ -130,12 +130,12 @@ refusals-change-nothing c (cardStore m t s value) =
 refusals-change-nothing c (restoreBegin m) = begin-keeps c m
 refusals-change-nothing c (restoreFeed m x) = feed-drops c m x
 refusals-change-nothing c (restoreFinish m id) = finish-drops c m id
-refusals-change-nothing c (restoreDrop m) = drop-keeps c m
+refusals-change-nothing c (restoreDrop m) = drop_keeps c m
 refusals-change-nothing c (message x room) = λ e. no-data-keeps c x room (eqb-true _ _ e)
 
 -- a card that is not sound stays, and says so
 pub unsound-refused : UnsoundRefused
-unfolding step handBackOf wipeOf resetCard store beginOf feedOf finishOf dropOf unless_answer_then_ unsoundReply
+unfolding step handBackOf wipeOf resetCard store beginOf feedOf finishOf dropOf unless◌answer◌then◌ unsoundReply
 unsound-refused c (command r room) e = ap ofCommand (respond-none c r _ (rw e (and-false _)))
 unsound-refused c (handBack m) e = rw (on-unsound c m _ e)
 unsound-refused c (wipe m g) e = rw (on-unsound c m _ e)
@@ -147,5 +147,5 @@ unsound-refused c (restoreFinish m id) e = rw (on-open-unsound c m _ e)
 unsound-refused c (restoreDrop m) e = rw (on-open-unsound c m _ e)
 unsound-refused c (message x room) e = rw (answer-unsound c x room e)
 
-pub unsound-stays : (c : List ℕ) (x : Call) → isSound c ≡ false → step c x .0 ≡ c
-unsound-stays c x e = ap (λ (y : List ℕ × Reply). y .0) (unsound-refused c x e)
+pub unsound-stays : (c : List ℕ) (x : Call) → isSound c ≡ false → (step c x).0 ≡ c
+unsound-stays c x e = ap (λ (y : List ℕ × Reply). y.0) (unsound-refused c x e)

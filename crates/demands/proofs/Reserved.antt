@@ -1,31 +1,31 @@
 -- DEMAND 2: the reserved bytes of a request are ignored, since no field and no list that is read has one. Assumes nothing.
-use mathlib.Core.Path.{_≡_, refl, ap, sym, _∙_}
+use mathlib.Core.Path.{◌≡◌, refl, ap, sym, ◌∙◌}
 use mathlib.Core.Bool.{Bool, false, not}
 use mathlib.Core.List.{List}
-use Prim.Native.Nat.{ℕ, zero, suc, _+_, _≤_, _<_}
+use Prim.Native.Nat.{ℕ, zero, suc, ◌+◌, ◌≤◌, ◌<◌}
 use native.Mathlib.Omega.{arith}
 use borrow.Author.Tests.{leb-true}
 use lib.Dec.{leb, eqb}
-use lib.ListN.{length, getD, drop, length-drop}
-use lib.Seq.{drop-drop, ext-getD, getD-drop}
-use Rattle·theory.specs.Logic.{if_then_else_, unless_answer_then_, _and_, _or_, within}
-use Rattle·theory.specs.Bytes.{put}
-use Rattle·theory.proofs.Tests.{by-cases, false-and, and-false, or-false, or-true, below, above, outside, tests}
-use Rattle·theory.proofs.Bytes.{length-put, bytesAt-after}
-use Rattle·wire.specs.Le.{le, number}
-use Rattle·wire.proofs.Le.{number-none, number-step, number-byte, number-before}
-use Rattle·card.specs.Layout.{setupOf}
-use Rattle·protocol.specs.declared.Answer.the-variants.{BadLength}
-use Rattle·protocol.specs.Opcodes.{namesMember}
-use Rattle·frame.specs.declared.Ask.{Ask}
-use Rattle·frame.specs.declared.Ask.the-variants.{Refused}
-use Rattle·frame.specs.Frame.{dataAt, longest, groupAt, memberAt, askedAt, givenAt, opcodeOf, groupOf, targetOf, dataOf}
-use Rattle·frame.specs.Fields.{objectValid, flagsValid, kindValid, createIn, modifyIn, queryIn, destroyIn, metadataIn, getIn, setIn, modeIn, useIn, fieldsOf}
-use Rattle·frame.specs.Ask.{reaches, attended, framedOf, askOf}
-use Rattle·admin.specs.Command.{askIn, respond}
-use Rattle·demands·specs.specs.Statuses.{namesObject, hasKind, needsGet}
-use Rattle·demands·specs.specs.Reserved.{isReserved, ReservedIgnored}
-use Rattle·demands·proofs.proofs.SameAsked.{respond-same}
+use lib.ListN.{length, get_or, drop, length-drop}
+use lib.Seq.{drop-drop, ext_get_or, get_or-drop}
+use Rattle.theory.specs.Logic.{if◌then◌else◌, unless◌answer◌then◌, ◌and◌, ◌or◌, within}
+use Rattle.theory.specs.Bytes.{put}
+use Rattle.theory.proofs.Tests.{by_cases, false-and, and-false, or-false, or-true, below, above, outside, tests}
+use Rattle.theory.proofs.Bytes.{length-put, bytesAt-after}
+use Rattle.wire.specs.Le.{le, number}
+use Rattle.wire.proofs.Le.{number-none, number_step, number-byte, number-before}
+use Rattle.card.specs.Layout.{setupOf}
+use Rattle.protocol.specs.declared.Answer.TheVariants.{BadLength}
+use Rattle.protocol.specs.Opcodes.{namesMember}
+use Rattle.frame.specs.declared.Ask.{Ask}
+use Rattle.frame.specs.declared.Ask.TheVariants.{Refused}
+use Rattle.frame.specs.Frame.{dataAt, longest, groupAt, memberAt, askedAt, givenAt, opcode_of, group_of, target_of, data_of}
+use Rattle.frame.specs.Fields.{objectValid, flagsValid, kindValid, createIn, modifyIn, queryIn, destroyIn, metadataIn, getIn, setIn, modeIn, useIn, fields_of}
+use Rattle.frame.specs.Ask.{reaches, attended, framedOf, askOf}
+use Rattle.admin.specs.Command.{askIn, respond}
+use Rattle.demands.specs.Statuses.{namesObject, hasKind, needsGet}
+use Rattle.demands.specs.Reserved.{isReserved, ReservedIgnored}
+use Rattle.demands.proofs.SameAsked.{respond-same}
 
 -- ---- bytes that are not reserved ----
 
@@ -37,14 +37,14 @@ module _ (op i : ℕ) where
   free a m b c d = rw (a, m, b, c, d) (simp (and-false, or-false))
 
   -- outside of the member field
-  no-member : i < 16 → leb op 0x01 and within 16 23 i ≡ false
-  no-member h = rw (below 16 23 i h) (and-false _)
+  no_member : i < 16 → leb op 0x01 and within 16 23 i ≡ false
+  no_member h = rw (below 16 23 i h) (and-false _)
 
   past-member : 24 ≤ i → leb op 0x01 and within 16 23 i ≡ false
   past-member l = rw (above 16 23 i l) (and-false _)
 
   free-low : i < 4 → isReserved op i ≡ false
-  free-low h = free (below 4 15 i h) (no-member (omega arith)) (below 26 27 i (omega arith)) (below 41 47 i (omega arith)) (below 33 39 i (omega arith))
+  free-low h = free (below 4 15 i h) (no_member (omega arith)) (below 26 27 i (omega arith)) (below 41 47 i (omega arith)) (below 33 39 i (omega arith))
 
   free-member : leb op 0x01 ≡ false → 16 ≤ i → i < 24 → isReserved op i ≡ false
   free-member o l h =
@@ -81,130 +81,130 @@ module _ (op i : ℕ) where
       free (above 4 15 i (omega arith)) (past-member (omega arith)) (above 26 27 i (omega arith)) (below 41 47 i (omega arith)) (above 33 39 i (omega arith))
 
 -- a number of the data
-pub data-at : (n at : ℕ) (l : List ℕ) → number at n (dataOf l) ≡ number (24 + at) n l
+pub data-at : (n at : ℕ) (l : List ℕ) → number at n (data_of l) ≡ number (24 + at) n l
 unfolding number
 data-at n at l = rw (drop-drop at 24 l)
 
 -- ---- two requests of one length, with the same bytes where none is reserved ----
 
-module _ (r s : List ℕ) (long : length s ≡ length r) (op : ℕ) (same : (i : ℕ) → isReserved op i ≡ false → getD s i 0 ≡ getD r i 0) where
-  number-same : (n at : ℕ) → ((i : ℕ) → at ≤ i → i < at + n → isReserved op i ≡ false) → number at n s ≡ number at n r
-  number-same zero at f = number-none at s ∙ sym (number-none at r)
-  number-same (suc n) at f =
-      number-step at n s
-      ∙ rw (same at (f at (omega arith) (omega arith)), number-same n (at + 1) (λ i l h. f i (omega arith) (omega arith))) (sym (number-step at n r))
+module _ (r s : List ℕ) (long : length s ≡ length r) (op : ℕ) (same : (i : ℕ) → isReserved op i ≡ false → get_or s i 0 ≡ get_or r i 0) where
+  number_same : (n at : ℕ) → ((i : ℕ) → at ≤ i → i < at + n → isReserved op i ≡ false) → number at n s ≡ number at n r
+  number_same zero at f = number-none at s ∙ sym (number-none at r)
+  number_same (suc n) at f =
+      number_step at n s
+      ∙ rw (same at (f at (omega arith) (omega arith)), number_same n (at + 1) (λ i l h. f i (omega arith) (omega arith))) (sym (number_step at n r))
 
   tail-same : (k : ℕ) → ((i : ℕ) → k ≤ i → isReserved op i ≡ false) → drop k s ≡ drop k r
   tail-same k f =
-      ext-getD 0 (drop k s) (drop k r) (rw (length-drop k s, length-drop k r, long)) λ i h.
-      getD-drop k s i 0 ∙ same (k + i) (f (k + i) (omega arith)) ∙ sym (getD-drop k r i 0)
+      ext_get_or 0 (drop k s) (drop k r) (rw (length-drop k s, length-drop k r, long)) λ i h.
+      get_or-drop k s i 0 ∙ same (k + i) (f (k + i) (omega arith)) ∙ sym (get_or-drop k r i 0)
 
   -- the fields of the frame
-  opcode-same : opcodeOf s ≡ opcodeOf r
-  opcode-same = number-same 2 0 (λ i l h. free-low op i (omega arith))
+  opcode-same : opcode_of s ≡ opcode_of r
+  opcode-same = number_same 2 0 (λ i l h. free-low op i (omega arith))
 
-  group-same : groupOf s ≡ groupOf r
-  group-same = number-same 2 groupAt (λ i l h. free-low op i (omega arith))
+  group-same : group_of s ≡ group_of r
+  group-same = number_same 2 groupAt (λ i l h. free-low op i (omega arith))
 
   -- but for the list commands
-  target-same : leb op 0x01 ≡ false → targetOf s ≡ targetOf r
-  target-same o = number-same 8 memberAt (λ i l h. free-member op i o l (omega arith))
+  target-same : leb op 0x01 ≡ false → target_of s ≡ target_of r
+  target-same o = number_same 8 memberAt (λ i l h. free-member op i o l (omega arith))
 
   -- a number and a byte of the data
-  data-same : (n at : ℕ) → ((i : ℕ) → 24 + at ≤ i → i < 24 + at + n → isReserved op i ≡ false) → number at n (dataOf s) ≡ number at n (dataOf r)
-  data-same n at f = data-at n at s ∙ number-same n (24 + at) f ∙ sym (data-at n at r)
+  data-same : (n at : ℕ) → ((i : ℕ) → 24 + at ≤ i → i < 24 + at + n → isReserved op i ≡ false) → number at n (data_of s) ≡ number at n (data_of r)
+  data-same n at f = data-at n at s ∙ number_same n (24 + at) f ∙ sym (data-at n at r)
 
-  byte-same : (at : ℕ) → isReserved op (24 + at) ≡ false → getD (dataOf s) at 0 ≡ getD (dataOf r) at 0
-  byte-same at f = getD-drop 24 s at 0 ∙ same (24 + at) f ∙ sym (getD-drop 24 r at 0)
+  byte-same : (at : ℕ) → isReserved op (24 + at) ≡ false → get_or (data_of s) at 0 ≡ get_or (data_of r) at 0
+  byte-same at f = get_or-drop 24 s at 0 ∙ same (24 + at) f ∙ sym (get_or-drop 24 r at 0)
 
-  type-same : number 0 2 (dataOf s) ≡ number 0 2 (dataOf r)
+  type-same : number 0 2 (data_of s) ≡ number 0 2 (data_of r)
   type-same = data-same 2 0 (λ i l h. free-type op i (omega arith) (omega arith))
 
-  id-same : number 4 4 (dataOf s) ≡ number 4 4 (dataOf r)
-  id-same = data-same 4 4 (λ i l h. free-high op i (omega arith) (omega arith))
+  id_same : number 4 4 (data_of s) ≡ number 4 4 (data_of r)
+  id_same = data-same 4 4 (λ i l h. free-high op i (omega arith) (omega arith))
 
-  flags-same : op < 0x0e → number 8 8 (dataOf s) ≡ number 8 8 (dataOf r)
+  flags-same : op < 0x0e → number 8 8 (data_of s) ≡ number 8 8 (data_of r)
   unfolding needsGet
   flags-same o = data-same 8 8 (λ i l h. free-flags op i (below 0x0e 0x0f op o) (omega arith) (omega arith))
 
-  kind-same : getD (dataOf s) 16 0 ≡ getD (dataOf r) 16 0
+  kind-same : get_or (data_of s) 16 0 ≡ get_or (data_of r) 16 0
   kind-same = byte-same 16 (free-kind op 40 refl)
 
-  what-same : getD (dataOf s) 8 0 ≡ getD (dataOf r) 8 0
+  what-same : get_or (data_of s) 8 0 ≡ get_or (data_of r) 8 0
   what-same = byte-same 8 (free-high op 32 (omega arith) (omega arith))
 
-  mode-same : getD (dataOf s) 0 0 ≡ getD (dataOf r) 0 0
+  mode-same : get_or (data_of s) 0 0 ≡ get_or (data_of r) 0 0
   mode-same = byte-same 0 (free-type op 24 (omega arith) (omega arith))
 
-  data-long : length (dataOf s) ≡ length (dataOf r)
+  data-long : length (data_of s) ≡ length (data_of r)
   data-long = rw (length-drop 24 s, length-drop 24 r, long)
 
   -- the lists
-  mask-same : op ≤ 0x01 → dataOf s ≡ dataOf r
+  mask-same : op ≤ 0x01 → data_of s ≡ data_of r
   unfolding namesObject hasKind needsGet
   mask-same o = tail-same 24 (λ i l. free-mask op i (below _ _ op (omega arith)) (below _ _ op (omega arith)) (below _ _ op (omega arith)) l)
 
   asked-same : op ≡ 0x0f → drop askedAt s ≡ drop askedAt r
-  unfolding hasKind within _and_
+  unfolding hasKind within ◌and◌
   asked-same o = tail-same askedAt (λ i l. free-list op i (rw o) l)
 
   given-same : op ≡ 0x10 → drop givenAt s ≡ drop givenAt r
-  unfolding hasKind needsGet within _and_
+  unfolding hasKind needsGet within ◌and◌
   given-same o = tail-same givenAt (λ i l. free-parts op i (rw o) (rw o) (omega arith))
 
   -- and so what is asked
-  fields-same : (ids m : ℕ) → fieldsOf ids m op (dataOf s) ≡ fieldsOf ids m op (dataOf r)
-  unfolding fieldsOf createIn modifyIn queryIn destroyIn metadataIn getIn setIn modeIn useIn kindValid objectValid flagsValid if_then_else_
+  fields-same : (ids m : ℕ) → fields_of ids m op (data_of s) ≡ fields_of ids m op (data_of r)
+  unfolding fields_of createIn modifyIn queryIn destroyIn metadataIn getIn setIn modeIn useIn kindValid objectValid flagsValid if◌then◌else◌
   fields-same ids m =
-      by-cases (eqb op 0x00) (λ t. rw t) λ t. rw t (
-      by-cases (eqb op 0x01) (λ t. rw (t, mask-same (omega tests))) λ t. rw t (
-      by-cases (eqb op 0x0a) (λ t. let o : op < 0x0e = omega tests in rw (t, type-same, id-same, flags-same o, kind-same)) λ t. rw t (
-      by-cases (eqb op 0x0b) (λ t. let o : op < 0x0e = omega tests in rw (t, type-same, id-same, flags-same o, kind-same)) λ t. rw t (
-      by-cases (eqb op 0x0c) (λ t. let o : op < 0x0e = omega tests in rw (t, type-same, id-same, flags-same o)) λ t. rw t (
-      by-cases (eqb op 0x0d) (λ t. rw (t, type-same, id-same)) λ t. rw t (
-      by-cases (eqb op 0x0e) (λ t. rw (t, type-same, id-same, what-same)) λ t. rw t (
-      by-cases (eqb op 0x0f) (λ t. rw (t, type-same, id-same, what-same, data-long)) λ t. rw t (
-      by-cases (eqb op 0x10) (λ t. rw (t, type-same, id-same)) (λ t. rw (t, mode-same))))))))))
+      by_cases (eqb op 0x00) (λ t. rw t) λ t. rw t (
+      by_cases (eqb op 0x01) (λ t. rw (t, mask-same (omega tests))) λ t. rw t (
+      by_cases (eqb op 0x0a) (λ t. let o : op < 0x0e = omega tests in rw (t, type-same, id_same, flags-same o, kind-same)) λ t. rw t (
+      by_cases (eqb op 0x0b) (λ t. let o : op < 0x0e = omega tests in rw (t, type-same, id_same, flags-same o, kind-same)) λ t. rw t (
+      by_cases (eqb op 0x0c) (λ t. let o : op < 0x0e = omega tests in rw (t, type-same, id_same, flags-same o)) λ t. rw t (
+      by_cases (eqb op 0x0d) (λ t. rw (t, type-same, id_same)) λ t. rw t (
+      by_cases (eqb op 0x0e) (λ t. rw (t, type-same, id_same, what-same)) λ t. rw t (
+      by_cases (eqb op 0x0f) (λ t. rw (t, type-same, id_same, what-same, data-long)) λ t. rw t (
+      by_cases (eqb op 0x10) (λ t. rw (t, type-same, id_same)) (λ t. rw (t, mode-same))))))))))
 
 -- a list command asks the same of any member
-framed-list : (members ids inUse group op : ℕ) (d : List ℕ) → op ≤ 0x01 → (t t′ : Bool) (m m′ : ℕ)
-    → framedOf members ids inUse t group op m d ≡ framedOf members ids inUse t′ group op m′ d
-unfolding framedOf reaches attended namesMember fieldsOf if_then_else_ _or_
-framed-list members ids inUse group op d h t t′ m m′ =
-    rw (below 0x0a 0x11 op (omega arith), or-true (not t), or-true (not t′))
-    (by-cases (eqb op 0x00) (λ e. rw e) λ e. rw e (by-cases (eqb op 0x01) (λ f. rw f) (λ f. absurd (omega tests))))
+framed-list : (members ids inUse group op : ℕ) (d : List ℕ) → op ≤ 0x01 → (t t' : Bool) (m m' : ℕ)
+    → framedOf members ids inUse t group op m d ≡ framedOf members ids inUse t' group op m' d
+unfolding framedOf reaches attended namesMember fields_of if◌then◌else◌ ◌or◌
+framed-list members ids inUse group op d h t t' m m' =
+    rw (below 0x0a 0x11 op (omega arith), or-true (not t), or-true (not t'))
+    (by_cases (eqb op 0x00) (λ e. rw e) λ e. rw e (by_cases (eqb op 0x01) (λ f. rw f) (λ f. absurd (omega tests))))
 
-module _ (c r s : List ℕ) (n : length s ≡ length r) (f : (i : ℕ) → isReserved (opcodeOf r) i ≡ false → getD s i 0 ≡ getD r i 0) where
-  asked-of-list : opcodeOf r ≤ 0x01 → askIn c s ≡ askIn c r
+module _ (c r s : List ℕ) (n : length s ≡ length r) (f : (i : ℕ) → isReserved (opcode_of r) i ≡ false → get_or s i 0 ≡ get_or r i 0) where
+  asked-of-list : opcode_of r ≤ 0x01 → askIn c s ≡ askIn c r
   unfolding askIn askOf
   asked-of-list o =
-      rw (n, opcode-same r s n (opcodeOf r) f, group-same r s n (opcodeOf r) f, mask-same r s n (opcodeOf r) f o)
+      rw (n, opcode-same r s n (opcode_of r) f, group-same r s n (opcode_of r) f, mask-same r s n (opcode_of r) f o)
       (ap (λ (x : Ask). unless within dataAt longest (length r) answer Refused BadLength then x) (framed-list _ _ _ _ _ _ o _ _ _ _))
 
-  asked-of-member : leb (opcodeOf r) 0x01 ≡ false → askIn c s ≡ askIn c r
+  asked-of-member : leb (opcode_of r) 0x01 ≡ false → askIn c s ≡ askIn c r
   unfolding askIn askOf framedOf
   asked-of-member o =
       rw (
         n,
-        opcode-same r s n (opcodeOf r) f,
-        group-same r s n (opcodeOf r) f,
-        target-same r s n (opcodeOf r) f o,
-        fields-same r s n (opcodeOf r) f (setupOf c .gets + setupOf c .sets) (targetOf r),
+        opcode-same r s n (opcode_of r) f,
+        group-same r s n (opcode_of r) f,
+        target-same r s n (opcode_of r) f o,
+        fields-same r s n (opcode_of r) f ((setupOf c).gets + (setupOf c).sets) (target_of r),
       )
 
 pub reserved-ignored : ReservedIgnored
 reserved-ignored c r s room n f =
-    respond-same c r s room (asked-same r s n (opcodeOf r) f) (given-same r s n (opcodeOf r) f)
-    (by-cases (leb (opcodeOf r) 0x01) (λ t. asked-of-list c r s n f (leb-true _ _ t)) (asked-of-member c r s n f))
+    respond-same c r s room (asked-same r s n (opcode_of r) f) (given-same r s n (opcode_of r) f)
+    (by_cases (leb (opcode_of r) 0x01) (λ t. asked-of-list c r s n f (leb-true _ _ t)) (asked-of-member c r s n f))
 
 -- ---- the hypotheses can be met: any bytes in the reserved field of the frame ----
 
 module _ (r x : List ℕ) (n : length x ≡ 12) where
   outside-frame : (op i : ℕ) → isReserved op i ≡ false → within 4 15 i ≡ false
-  unfolding isReserved _or_
-  outside-frame op i e = by-cases (within 4 15 i) (λ t. t ∙ rw t at e) (λ t. t)
+  unfolding isReserved ◌or◌
+  outside-frame op i e = by_cases (within 4 15 i) (λ t. t ∙ rw t at e) (λ t. t)
 
-  other-bytes : (op i : ℕ) → isReserved op i ≡ false → getD (put 4 x r) i 0 ≡ getD r i 0
+  other-bytes : (op i : ℕ) → isReserved op i ≡ false → get_or (put 4 x r) i 0 ≡ get_or r i 0
   unfolding number
   other-bytes op i e =
       sym (number-byte i (put 4 x r))
@@ -212,4 +212,4 @@ module _ (r x : List ℕ) (n : length x ≡ 12) where
       ∙ number-byte i r
 
   frame-ignored : (c : List ℕ) (room : ℕ) → respond c (put 4 x r) room ≡ respond c r room
-  frame-ignored c room = reserved-ignored c r (put 4 x r) room (length-put 4 x r) (other-bytes (opcodeOf r))
+  frame-ignored c room = reserved-ignored c r (put 4 x r) room (length-put 4 x r) (other-bytes (opcode_of r))

@@ -1,57 +1,57 @@
 -- What a built request asks has a result of the form that the host reads by. Assumes nothing.
-use mathlib.Core.Path.{_≡_, refl}
+use mathlib.Core.Path.{◌≡◌, refl}
 use mathlib.Core.Bool.{true, false}
-use mathlib.Core.List.{List, [], _++_}
-use Prim.Native.Nat.{ℕ, zero, suc, _+_, _*_, _%_, _^_, _<_}
+use mathlib.Core.List.{List, [], ◌++◌}
+use Prim.Native.Nat.{ℕ, zero, suc, ◌+◌, ◌*◌, ◌%◌, ◌^◌, ◌<◌}
 use native.Mathlib.Omega.{arith}
 use borrow.Author.Tests.{eq-eqb, leb-true}
 use lib.Dec.{leb, eqb}
-use lib.ListN.{length, getD, length-append}
-use Rattle·theory.specs.Logic.{if_then_else_, unless_answer_then_}
-use Rattle·theory.proofs.Tests.{if-cases, unless-cases, both, inside, within-high}
-use Rattle·wire.specs.Le.{bytes, number}
-use Rattle·wire.proofs.Le.{le-bytes}
-use Rattle·protocol.specs.declared.Answer.{Answer}
-use Rattle·protocol.specs.declared.Answer.the-variants.{NotLive, WrongKind, BadList}
-use Rattle·protocol.specs.declared.Body.{Body}
-use Rattle·protocol.specs.declared.Body.the-variants as body
-use Rattle·protocol.specs.declared.Metadata.{Metadata}
-use Rattle·protocol.specs.declared.Metadata.the-variants.{Size, Count, HeaderList}
-use Rattle·protocol.specs.declared.ObjectKind.{ObjectKind}
-use Rattle·protocol.specs.declared.ReadOp.{ReadOp}
-use Rattle·protocol.specs.declared.ReadOp.the-variants.{QueryObject, GetMetadata, GetSelected, GetAll}
-use Rattle·protocol.specs.Answers.{isDone, isGet}
-use Rattle·inventory.specs.Inventory.{valuesSize, partCount, partsSize}
-use Rattle·inventory.specs.Header.{headerSize}
-use Rattle·capture.specs.Capture.{All, Asked, headersOf}
-use Rattle·capture.proofs.Sizes.{headers-length}
-use Rattle·restore.proofs.WholeParts.{written-whole}
-use Rattle·objects.specs.declared.Found.{Found}
-use Rattle·objects.specs.declared.Found.the-variants.{Live, Nothing}
-use Rattle·objects.specs.Objects.{onFound}
-use Rattle·member.specs.declared.Member.{Member}
-use Rattle·member.specs.Objects.{lookupOf}
-use Rattle·reads.specs.declared.Reading.{Reading}
-use Rattle·reads.specs.Reads.{refuseRead, succeedRead, queryOf, throughGet, selectedOf, readOf}
-use Rattle·card.specs.Layout.{isMember, memberIn}
-use Rattle·card.proofs.SoundLaws.{Sound, sound-member-in}
-use Rattle·frame.specs.declared.Ask.{Ask}
-use Rattle·frame.specs.declared.Ask.the-variants.{Refused, QueryList, UseList, Read, Change}
-use Rattle·frame.specs.Frame.{typeAt}
-use Rattle·frame.specs.Fields.{metadataIs, createIn, modifyIn, queryIn, destroyIn, metadataIn, getIn, setIn, modeIn, useIn, fieldsOf}
-use Rattle·frame.specs.Ask.{framedOf, askOf}
-use Rattle·reply.specs.Result.{numberBytes, resultOf}
-use Rattle·reply.proofs.Result.{number-long}
-use Rattle·admin.specs.Command.{askIn, perform}
-use Rattle·host.specs.declared.Command.{Command}
-use Rattle·host.specs.declared.Command.the-variants as host
-use Rattle·host.specs.declared.ResultForm.{ResultForm}
-use Rattle·host.specs.declared.ResultForm.the-variants.{Exactly, Counted, WholeParts}
-use Rattle·host.specs.Request.{sentOf, requestOf}
-use Rattle·host.specs.Reply.{formOf, countFits, resultFits}
-use Rattle·host.proofs.Request.{opcode-small, opcode-request, data-request}
-use Rattle·admin.proofs.Respond.{FactsIn}
-use Rattle·host.proofs.Asked.{dataFor, laid, request-is}
+use lib.ListN.{length, get_or, length-append}
+use Rattle.theory.specs.Logic.{if◌then◌else◌, unless◌answer◌then◌}
+use Rattle.theory.proofs.Tests.{if-cases, unless-cases, both, inside, within-high}
+use Rattle.wire.specs.Le.{bytes, number}
+use Rattle.wire.proofs.Le.{le_bytes}
+use Rattle.protocol.specs.declared.Answer.{Answer}
+use Rattle.protocol.specs.declared.Answer.TheVariants.{NotLive, WrongKind, BadList}
+use Rattle.protocol.specs.declared.Body.{Body}
+use Rattle.protocol.specs.declared.Body.TheVariants as body
+use Rattle.protocol.specs.declared.Metadata.{Metadata}
+use Rattle.protocol.specs.declared.Metadata.TheVariants.{Size, Count, HeaderList}
+use Rattle.protocol.specs.declared.ObjectKind.{ObjectKind}
+use Rattle.protocol.specs.declared.ReadOp.{ReadOp}
+use Rattle.protocol.specs.declared.ReadOp.TheVariants.{QueryObject, GetMetadata, GetSelected, GetAll}
+use Rattle.protocol.specs.Answers.{isDone, isGet}
+use Rattle.inventory.specs.Inventory.{valuesSize, part_count, partsSize}
+use Rattle.inventory.specs.Header.{headerSize}
+use Rattle.capture.specs.Capture.{All, Asked, headersOf}
+use Rattle.capture.proofs.Sizes.{headers-length}
+use Rattle.restore.proofs.WholeParts.{written-whole}
+use Rattle.objects.specs.declared.Found.{Found}
+use Rattle.objects.specs.declared.Found.TheVariants.{Live, Nothing}
+use Rattle.objects.specs.Objects.{onFound}
+use Rattle.member.specs.declared.Member.{Member}
+use Rattle.member.specs.Objects.{lookupOf}
+use Rattle.reads.specs.declared.Reading.{Reading}
+use Rattle.reads.specs.Reads.{refuseRead, succeedRead, queryOf, throughGet, selectedOf, read_of}
+use Rattle.card.specs.Layout.{isMember, memberIn}
+use Rattle.card.proofs.SoundLaws.{Sound, sound-member-in}
+use Rattle.frame.specs.declared.Ask.{Ask}
+use Rattle.frame.specs.declared.Ask.TheVariants.{Refused, QueryList, UseList, Read, Change}
+use Rattle.frame.specs.Frame.{type_at}
+use Rattle.frame.specs.Fields.{metadataIs, createIn, modifyIn, queryIn, destroyIn, metadataIn, getIn, setIn, modeIn, useIn, fields_of}
+use Rattle.frame.specs.Ask.{framedOf, askOf}
+use Rattle.reply.specs.Result.{numberBytes, result_of}
+use Rattle.reply.proofs.Result.{number-long}
+use Rattle.admin.specs.Command.{askIn, perform}
+use Rattle.host.specs.declared.Command.{Command}
+use Rattle.host.specs.declared.Command.TheVariants as host
+use Rattle.host.specs.declared.ResultForm.{ResultForm}
+use Rattle.host.specs.declared.ResultForm.TheVariants.{Exactly, Counted, WholeParts}
+use Rattle.host.specs.Request.{sentOf, requestOf}
+use Rattle.host.specs.Reply.{form_of, countFits, resultFits}
+use Rattle.host.proofs.Request.{opcode-small, opcode-request, data-request}
+use Rattle.admin.proofs.Respond.{FactsIn}
+use Rattle.host.proofs.Asked.{dataFor, laid, request-is}
 
 -- ---- what is asked fixes the form of the result ----
 
@@ -76,15 +76,15 @@ Asks form (Change m op) = form ≡ Exactly 0
 
 -- a type that step 7 takes: 2 is the list
 metadata-form : (t : ℕ) → leb t 2 ≡ true → (if eqb t 2 then Counted else Exactly 8) ≡ metadataForm (metadataIs t)
-unfolding if_then_else_
+unfolding if◌then◌else◌
 metadata-form zero h = refl
 metadata-form (suc zero) h = refl
 metadata-form (suc (suc zero)) h = refl
 metadata-form (suc (suc (suc t))) h = absurd (omega (arith, leb-true (suc (suc (suc t))) 2 h))
 
-metadata-asks : (ids m t : ℕ) (d : List ℕ) → getD d typeAt 0 ≡ t → Asks (formOf 0x0e t) (metadataIn ids m d)
-unfolding metadataIn formOf if_then_else_
-metadata-asks ids m t d e = rw (← e) (unless-cases (Asks (formOf 0x0e (getD d typeAt 0))) _ _ _ (λ f. refl) (λ f. metadata-form (getD d typeAt 0) (both _ _ f .1)))
+metadata-asks : (ids m t : ℕ) (d : List ℕ) → get_or d type_at 0 ≡ t → Asks (form_of 0x0e t) (metadataIn ids m d)
+unfolding metadataIn form_of if◌then◌else◌
+metadata-asks ids m t d e = rw (← e) (unless-cases (Asks (form_of 0x0e (get_or d type_at 0))) _ _ _ (λ f. refl) (λ f. metadata-form (get_or d type_at 0) (both _ _ f).1))
 
 get-asks : (ids m : ℕ) (d : List ℕ) → Asks WholeParts (getIn ids m d)
 unfolding getIn
@@ -98,8 +98,8 @@ abbrev pub TypeOf : Command → ℕ → Type 0
 TypeOf x what = (m id type : ℕ) → x ≡ host.Metadata m id type → type ≡ what
 
 fields-ask : (ids m : ℕ) (x : Command) (list : List ℕ) (what : ℕ) → what < 256 → TypeOf x what
-    → Asks (formOf (sentOf x .opcode) what) (fieldsOf ids m (sentOf x .opcode) (dataFor x list))
-unfolding fieldsOf createIn modifyIn queryIn destroyIn setIn modeIn useIn if_then_else_ formOf laid
+    → Asks (form_of (sentOf x).opcode what) (fields_of ids m (sentOf x).opcode (dataFor x list))
+unfolding fields_of createIn modifyIn queryIn destroyIn setIn modeIn useIn if◌then◌else◌ form_of laid
 fields-ask ids m host.ListQuery list what w t = refl
 fields-ask ids m (host.ListUse mask) list what w t = unless-cases (Asks (Exactly 0)) _ _ _ (λ e. refl) (λ e. refl)
 fields-ask ids m (host.Create k id kind) list what w t = unless-cases (Asks (Exactly 0)) _ _ _ (λ e. refl) (λ e. refl)
@@ -116,29 +116,29 @@ fields-ask ids m (host.SetMode k mode) list what w t = unless-cases (Asks (Exact
 
 -- steps 2 to 7
 pub request-asks : (c : List ℕ) (x : Command) (list : List ℕ) (what : ℕ) → what < 256 → TypeOf x what
-    → Asks (formOf (sentOf x .opcode) what) (askIn c (requestOf x list))
+    → Asks (form_of (sentOf x).opcode what) (askIn c (requestOf x list))
 unfolding askIn askOf framedOf
 request-asks c x list what w t =
-    let P = Asks (formOf (sentOf x .opcode) what) in
+    let P = Asks (form_of (sentOf x).opcode what) in
     unless-cases P _ _ _ (λ e. refl) (λ e.
     unless-cases P _ _ _ (λ e. refl) (λ e.
     unless-cases P _ _ _ (λ e. refl) (λ e.
     unless-cases P _ _ _ (λ e. refl) (λ e.
     unless-cases P _ _ _ (λ e. refl) (λ e.
-    rw (request-is x list, opcode-request (sentOf x .opcode) 1 (sentOf x .member) (dataFor x list) (opcode-small x), data-request)
+    rw (request-is x list, opcode-request (sentOf x).opcode 1 (sentOf x).member (dataFor x list) (opcode-small x), data-request)
     (fields-ask _ _ x list what w t))))))
 
 -- ---- the result has the form of what is asked ----
 
-module _ (list : List ℕ) (m : Member) (few : m .queues < 5) (long : length (m .values) ≡ valuesSize) where
+module _ (list : List ℕ) (m : Member) (few : m.queues < 5) (long : length m.values ≡ valuesSize) where
   -- a success has a result of this form
   record Fits (form : ResultForm) (x : Reading) : Type 0 where
-    fits : isDone (x .answer) ≡ true → resultFits form (resultOf (m .queues) list (m .values) (x .body)) ≡ true
+    fits : isDone x.answer ≡ true → resultFits form (result_of m.queues list m.values x.body) ≡ true
 
   refused-fits : (form : ResultForm) (a : Answer) → isDone a ≡ false → Fits form (refuseRead a)
   refused-fits form a n = record { fits = λ d. cc }
 
-  success-fits : (form : ResultForm) (b : Body) → resultFits form (resultOf (m .queues) list (m .values) b) ≡ true → Fits form (succeedRead b)
+  success-fits : (form : ResultForm) (b : Body) → resultFits form (result_of m.queues list m.values b) ≡ true → Fits form (succeedRead b)
   success-fits form b e = record { fits = λ d. e }
 
   on-found : (form : ResultForm) (x : Found) (f : ObjectKind → Reading) → ((k : ObjectKind) → Fits form (f k))
@@ -155,37 +155,37 @@ module _ (list : List ℕ) (m : Member) (few : m .queues < 5) (long : length (m 
   -- the count of a metadata list is that of its headers
   count-read : (n : ℕ) (x : List ℕ) → n < 256 ^ 4 → number 0 4 (numberBytes n ++ x) ≡ n
   unfolding numberBytes bytes number
-  count-read n x h = le-bytes 4 n h
+  count-read n x h = le_bytes 4 n h
 
-  list-fits : resultFits Counted (numberBytes (partCount (m .queues)) ++ headersOf (m .queues)) ≡ true
+  list-fits : resultFits Counted (numberBytes (part_count m.queues) ++ headersOf m.queues) ≡ true
   unfolding resultFits countFits
   list-fits =
-      rw (count-read (partCount (m .queues)) (headersOf (m .queues)) (omega arith), length-append, number-long, headers-length (m .queues) few)
-      (eq-eqb (8 + headerSize * partCount (m .queues)) (8 + headerSize * partCount (m .queues)) refl)
+      rw (count-read (part_count m.queues) (headersOf m.queues) (omega arith), length-append, number-long, headers-length m.queues few)
+      (eq-eqb (8 + headerSize * part_count m.queues) (8 + headerSize * part_count m.queues) refl)
 
-  reading-fits : (op : ReadOp) → Fits (readForm op) (readOf list op m)
-  unfolding queryOf selectedOf resultOf resultFits
+  reading-fits : (op : ReadOp) → Fits (readForm op) (read_of list op m)
+  unfolding queryOf selectedOf result_of resultFits
   reading-fits (QueryObject id) =
       on-found (Exactly 8) (lookupOf m id) (λ k. succeedRead (body.Kind k)) (λ k. success-fits (Exactly 8) (body.Kind k) refl)
   reading-fits (GetMetadata id Size) =
-      through-get (Exactly 8) id _ (success-fits (Exactly 8) (body.Number (partsSize (m .queues))) (rw number-long))
+      through-get (Exactly 8) id _ (success-fits (Exactly 8) (body.Number (partsSize m.queues)) (rw number-long))
   reading-fits (GetMetadata id Count) =
-      through-get (Exactly 8) id _ (success-fits (Exactly 8) (body.Number (partCount (m .queues))) (rw number-long))
+      through-get (Exactly 8) id _ (success-fits (Exactly 8) (body.Number (part_count m.queues)) (rw number-long))
   reading-fits (GetMetadata id HeaderList) = through-get Counted id _ (success-fits Counted body.Headers list-fits)
   reading-fits (GetSelected id) =
       through-get WholeParts id _
       (unless-cases (Fits WholeParts) _ _ _ (λ e. refused-fits WholeParts BadList refl)
-      (λ e. success-fits WholeParts body.Selected (written-whole Asked (m .queues) list (m .values) long)))
-  reading-fits (GetAll id) = through-get WholeParts id _ (success-fits WholeParts body.All (written-whole All (m .queues) [] (m .values) long))
+      (λ e. success-fits WholeParts body.Selected (written-whole Asked m.queues list m.values long)))
+  reading-fits (GetAll id) = through-get WholeParts id _ (success-fits WholeParts body.All (written-whole All m.queues [] m.values long))
 
 pub effect-fits : (c r : List ℕ) → Sound c → (form : ResultForm) (a : Ask) → FactsIn c r a
-    → Asks form a → isDone (perform c r a .outcome) ≡ true → resultFits form (perform c r a .result) ≡ true
+    → Asks form a → isDone (perform c r a).outcome ≡ true → resultFits form (perform c r a).result ≡ true
 unfolding perform resultFits bytes
 effect-fits c r x form (Refused a) f h d = cc
 effect-fits c r x form QueryList f h d = rw h
 effect-fits c r x form (UseList mask) f h d = rw h
 effect-fits c r x form (Read m op) f h d =
-    let here : isMember c m ≡ true = inside _ _ _ (f .0 .low) (f .0 .high) in
+    let here : isMember c m ≡ true = inside _ _ _ f.0.low f.0.high in
     let y = sound-member-in c x m here in
-    rw h (reading-fits _ (memberIn c m) (omega (arith, within-high 1 4 _ (y .count))) (y .shaped .long) op .fits d)
+    rw h ((reading-fits _ (memberIn c m) (omega (arith, within-high 1 4 _ y.count)) y.shaped.long op).fits d)
 effect-fits c r x form (Change m op) f h d = rw h

@@ -1,35 +1,35 @@
 -- The hypotheses of the round trip can be met, and the target differs from the source before it. Assumes nothing.
-use mathlib.Core.Path.{_≡_, refl, sym, _∙_}
-use mathlib.Core.Logic.{_≢_}
+use mathlib.Core.Path.{◌≡◌, refl, sym, ◌∙◌}
+use mathlib.Core.Logic.{◌≢◌}
 use mathlib.Core.Bool.{true}
-use mathlib.Core.List.{List, _∷_}
+use mathlib.Core.List.{List, ◌∷◌}
 use Prim.Native.Nat.{ℕ}
 use native.Mathlib.Omega.{arith}
-use lib.ListN.{getD, replicate}
-use Rattle·protocol.specs.declared.Mode.the-variants.{Stopped}
-use Rattle·protocol.specs.declared.ObjectKind.the-variants.{Get, Set}
-use Rattle·protocol.specs.Opcodes.{bit}
-use Rattle·objects.specs.declared.Found.the-variants.{Live}
-use Rattle·member.specs.Objects.{lookupOf}
-use Rattle·card.specs.declared.Setup.{Setup}
-use Rattle·card.specs.Layout.{setupOf, inUseOf, isMember, memberIn}
-use Rattle·card.specs.Sound.{isSound}
-use Rattle·demands·specs.specs.Calls.{cardStore, step}
-use Rattle·demands·specs.specs.RoundTrip.{capture, restore, Restorable, RestoredSame}
-use Rattle·demands·specs.specs.Examples.{exampleCard, useList, create, setMode}
-use Rattle·demands·proofs.proofs.Model.{model}
-use Rattle·demands·proofs.proofs.RoundTrip.{round-trip}
+use lib.ListN.{get_or, replicate}
+use Rattle.protocol.specs.declared.Mode.TheVariants.{Stopped}
+use Rattle.protocol.specs.declared.ObjectKind.TheVariants.{Get, Set}
+use Rattle.protocol.specs.Opcodes.{bit}
+use Rattle.objects.specs.declared.Found.TheVariants.{Live}
+use Rattle.member.specs.Objects.{lookupOf}
+use Rattle.card.specs.declared.Setup.{Setup}
+use Rattle.card.specs.Layout.{setupOf, inUseOf, isMember, memberIn}
+use Rattle.card.specs.Sound.{isSound}
+use Rattle.demands.specs.Calls.{cardStore, step}
+use Rattle.demands.specs.RoundTrip.{capture, restore, Restorable, RestoredSame}
+use Rattle.demands.specs.Examples.{exampleCard, useList, create, setMode}
+use Rattle.demands.proofs.Model.{model}
+use Rattle.demands.proofs.RoundTrip.{round_trip}
 
 -- all commands are in use, and member 1 has a get object
 reading : List ℕ
-reading = step (step exampleCard (useList 0x3fc03) .0) (create 0 0) .0
+reading = (step (step exampleCard (useList 0x3fc03)).0 (create 0 0)).0
 
 -- the source has a queue of 256 with its addresses; the target has a set object too and is stopped
 source : List ℕ
-source = step reading (cardStore 1 0x104 0 (0 ∷ 1 ∷ replicate 30 0xaa)) .0
+source = (step reading (cardStore 1 0x104 0 (0 ∷ 1 ∷ replicate 30 0xaa))).0
 
 pub target : List ℕ
-target = step (step reading (create 1 1) .0) (setMode 1 1) .0
+target = (step (step reading (create 1 1)).0 (setMode 1 1)).0
 
 example : Unit {0}
 unfolding model reading source target
@@ -57,11 +57,11 @@ pub setup-target : setupOf target ≡ setup
 unfolding example
 setup-target = refl
 
-same-queues : memberIn source 1 .queues ≡ memberIn target 1 .queues
+same-queues : (memberIn source 1).queues ≡ (memberIn target 1).queues
 unfolding example
 same-queues = refl
 
-pub target-queues : memberIn target 1 .queues ≡ 1
+pub target-queues : (memberIn target 1).queues ≡ 1
 unfolding example
 target-queues = refl
 
@@ -85,7 +85,7 @@ pub target-get : lookupOf (memberIn target 1) 0 ≡ Live Get
 unfolding example
 target-get = refl
 
-pub target-stopped : memberIn target 1 .mode ≡ Stopped
+pub target-stopped : (memberIn target 1).mode ≡ Stopped
 unfolding example
 target-stopped = refl
 
@@ -118,14 +118,14 @@ restorable = record {
 
 -- ---- the claim at them ----
 
-captures-differ : getD (capture source 1 0 237) 190 0 ≢ getD (capture target 1 0 237) 190 0
+captures-differ : get_or (capture source 1 0 237) 190 0 ≢ get_or (capture target 1 0 237) 190 0
 unfolding example
 captures-differ = omega arith
 
 restored : RestoredSame source 1 0 target 1 1 237 8
 unfolding example
-restored = round-trip source 1 0 target 1 1 restorable 237 8 (omega arith) (omega arith)
+restored = round_trip source 1 0 target 1 1 restorable 237 8 (omega arith) (omega arith)
 
-captured-same : capture (restore target 1 1 (capture source 1 0 237) 8 .0) 1 0 237 ≡ capture source 1 0 237
+captured-same : capture (restore target 1 1 (capture source 1 0 237) 8).0 1 0 237 ≡ capture source 1 0 237
 unfolding example
-captured-same = restored .same 0 237 target-get recapture-in-use (omega arith)
+captured-same = restored.same 0 237 target-get recapture-in-use (omega arith)

@@ -1,64 +1,64 @@
 -- Two requests that ask the same of a card are answered alike: the list of a request counts with parts get, selected, and with
 -- parts set alone. Assumes nothing.
-use mathlib.Core.Path.{_≡_, refl, ap}
+use mathlib.Core.Path.{◌≡◌, refl, ap}
 use mathlib.Core.Bool.{Bool}
 use mathlib.Core.List.{List}
 use Prim.Native.Nat.{ℕ}
 use borrow.Author.Tests.{eqb-true}
 use lib.Dec.{eqb}
-use lib.ListN.{getD}
-use Rattle·theory.specs.Logic.{if_then_else_, unless_answer_then_}
-use Rattle·theory.proofs.Tests.{if-cases, unless-cases}
-use Rattle·protocol.specs.declared.Body.{Body}
-use Rattle·protocol.specs.declared.Body.the-variants as body
-use Rattle·protocol.specs.declared.Metadata.{Metadata}
-use Rattle·protocol.specs.declared.Metadata.the-variants.{Size, Count, HeaderList}
-use Rattle·protocol.specs.declared.Answer.{Answer}
-use Rattle·protocol.specs.declared.Answer.the-variants.{NotLive, WrongKind}
-use Rattle·protocol.specs.declared.ObjectKind.the-variants.{Get, Set}
-use Rattle·protocol.specs.declared.ReadOp.the-variants.{QueryObject, GetMetadata, GetSelected, GetAll}
-use Rattle·protocol.specs.declared.ChangeOp.the-variants.{SetParts}
-use Rattle·protocol.specs.Answers.{isGet}
-use Rattle·objects.specs.declared.Found.{Found}
-use Rattle·objects.specs.declared.Found.the-variants.{Live, Nothing}
-use Rattle·objects.specs.Objects.{onFound}
-use Rattle·member.specs.Objects.{lookupOf}
-use Rattle·card.specs.Layout.{memberIn}
-use Rattle·reads.specs.Reads.{refuseRead, succeedRead, queryOf, metadataOf, throughGet}
-use Rattle·frame.specs.declared.Ask.{Ask}
-use Rattle·frame.specs.declared.Ask.the-variants.{Refused, Read, Change}
-use Rattle·frame.specs.Frame.{opcodeOf, targetOf, dataOf, typeAt, askedList, givenList}
-use Rattle·frame.specs.Fields.{metadataIs, createIn, modifyIn, queryIn, destroyIn, metadataIn, getIn, setIn, modeIn, useIn, fieldsOf}
-use Rattle·frame.specs.Ask.{framedOf, askOf}
-use Rattle·reply.specs.Result.{resultOf}
-use Rattle·admin.specs.Command.{askIn, effect, perform, respond}
+use lib.ListN.{get_or}
+use Rattle.theory.specs.Logic.{if◌then◌else◌, unless◌answer◌then◌}
+use Rattle.theory.proofs.Tests.{if-cases, unless-cases}
+use Rattle.protocol.specs.declared.Body.{Body}
+use Rattle.protocol.specs.declared.Body.TheVariants as body
+use Rattle.protocol.specs.declared.Metadata.{Metadata}
+use Rattle.protocol.specs.declared.Metadata.TheVariants.{Size, Count, HeaderList}
+use Rattle.protocol.specs.declared.Answer.{Answer}
+use Rattle.protocol.specs.declared.Answer.TheVariants.{NotLive, WrongKind}
+use Rattle.protocol.specs.declared.ObjectKind.TheVariants.{Get, Set}
+use Rattle.protocol.specs.declared.ReadOp.TheVariants.{QueryObject, GetMetadata, GetSelected, GetAll}
+use Rattle.protocol.specs.declared.ChangeOp.TheVariants.{SetParts}
+use Rattle.protocol.specs.Answers.{isGet}
+use Rattle.objects.specs.declared.Found.{Found}
+use Rattle.objects.specs.declared.Found.TheVariants.{Live, Nothing}
+use Rattle.objects.specs.Objects.{onFound}
+use Rattle.member.specs.Objects.{lookupOf}
+use Rattle.card.specs.Layout.{memberIn}
+use Rattle.reads.specs.Reads.{refuseRead, succeedRead, queryOf, metadataOf, throughGet}
+use Rattle.frame.specs.declared.Ask.{Ask}
+use Rattle.frame.specs.declared.Ask.TheVariants.{Refused, Read, Change}
+use Rattle.frame.specs.Frame.{opcode_of, target_of, data_of, type_at, askedList, givenList}
+use Rattle.frame.specs.Fields.{metadataIs, createIn, modifyIn, queryIn, destroyIn, metadataIn, getIn, setIn, modeIn, useIn, fields_of}
+use Rattle.frame.specs.Ask.{framedOf, askOf}
+use Rattle.reply.specs.Result.{result_of}
+use Rattle.admin.specs.Command.{askIn, effect, perform, respond}
 
 -- a result that is no selection
-module _ (q : ℕ) (l l′ v : List ℕ) where
+module _ (q : ℕ) (l l' v : List ℕ) where
   abbrev SameResult : Body → Type 0
-  SameResult b = resultOf q l′ v b ≡ resultOf q l v b
+  SameResult b = result_of q l' v b ≡ result_of q l v b
 
-  query-same : (x : Found) → SameResult (onFound x (λ k. succeedRead (body.Kind k)) (refuseRead NotLive) .body)
-  unfolding resultOf
+  query-same : (x : Found) → SameResult (onFound x (λ k. succeedRead (body.Kind k)) (refuseRead NotLive)).body
+  unfolding result_of
   query-same Nothing = refl
   query-same (Live k) = refl
 
-  through-same : (x : Found) (b : Body) → SameResult b
-      → SameResult (onFound x (λ k. unless isGet k answer refuseRead WrongKind then succeedRead b) (refuseRead NotLive) .body)
-  unfolding resultOf unless_answer_then_
-  through-same Nothing b e = refl
-  through-same (Live Get) b e = e
-  through-same (Live Set) b e = refl
+  through_same : (x : Found) (b : Body) → SameResult b
+      → SameResult (onFound x (λ k. unless isGet k answer refuseRead WrongKind then succeedRead b) (refuseRead NotLive)).body
+  unfolding result_of unless◌answer◌then◌
+  through_same Nothing b e = refl
+  through_same (Live Get) b e = e
+  through_same (Live Set) b e = refl
 
   metadata-same : (what : Metadata) → SameResult (metadataOf q what)
-  unfolding resultOf
+  unfolding result_of
   metadata-same Size = refl
   metadata-same Count = refl
   metadata-same HeaderList = refl
 
-  all-same : SameResult body.All
-  unfolding resultOf
-  all-same = refl
+  all_same : SameResult body.All
+  unfolding result_of
+  all_same = refl
 
 -- two requests, and what is asked of a card: it comes to the same with both
 module _ (c r s : List ℕ) where
@@ -76,19 +76,19 @@ module _ (c r s : List ℕ) where
     query-read : Same (Read m (QueryObject id))
     unfolding Same perform queryOf
     query-read =
-        ap (effect _ c) (query-same (memberIn c m .queues) (askedList r) (askedList s) (memberIn c m .values) (lookupOf (memberIn c m) id))
+        ap (effect _ c) (query-same (memberIn c m).queues (askedList r) (askedList s) (memberIn c m).values (lookupOf (memberIn c m) id))
 
     metadata-read : (what : Metadata) → Same (Read m (GetMetadata id what))
     unfolding Same perform throughGet
     metadata-read what =
-        ap (effect _ c) (through-same (memberIn c m .queues) (askedList r) (askedList s) (memberIn c m .values) (lookupOf (memberIn c m) id)
-        (metadataOf (memberIn c m .queues) what) (metadata-same (memberIn c m .queues) (askedList r) (askedList s) (memberIn c m .values) what))
+        ap (effect _ c) (through_same (memberIn c m).queues (askedList r) (askedList s) (memberIn c m).values (lookupOf (memberIn c m) id)
+        (metadataOf (memberIn c m).queues what) (metadata-same (memberIn c m).queues (askedList r) (askedList s) (memberIn c m).values what))
 
-    all-read : Same (Read m (GetAll id))
+    all_read : Same (Read m (GetAll id))
     unfolding Same perform throughGet
-    all-read =
-        ap (effect _ c) (through-same (memberIn c m .queues) (askedList r) (askedList s) (memberIn c m .values) (lookupOf (memberIn c m) id)
-        body.All (all-same (memberIn c m .queues) (askedList r) (askedList s) (memberIn c m .values)))
+    all_read =
+        ap (effect _ c) (through_same (memberIn c m).queues (askedList r) (askedList s) (memberIn c m).values (lookupOf (memberIn c m) id)
+        body.All (all_same (memberIn c m).queues (askedList r) (askedList s) (memberIn c m).values))
 
     selected-read : askedList s ≡ askedList r → Same (Read m (GetSelected id))
     unfolding Same perform
@@ -103,28 +103,28 @@ module _ (c r s : List ℕ) where
     get-same : (ids : ℕ) (d : List ℕ) → op ≡ 0x0f → Same (getIn ids m d)
     unfolding getIn
     get-same ids d o =
-        guarded _ _ _ (if-cases Same _ _ _ (λ e. asked o _) (λ e. guarded _ _ _ (all-read m _)))
+        guarded _ _ _ (if-cases Same _ _ _ (λ e. asked o _) (λ e. guarded _ _ _ (all_read m _)))
 
     -- the other changes and list use read no list
-    fields-same : (ids : ℕ) (d : List ℕ) → Same (fieldsOf ids m op d)
-    unfolding fieldsOf createIn modifyIn queryIn destroyIn metadataIn setIn modeIn useIn Same perform
+    fields-same : (ids : ℕ) (d : List ℕ) → Same (fields_of ids m op d)
+    unfolding fields_of createIn modifyIn queryIn destroyIn metadataIn setIn modeIn useIn Same perform
     fields-same ids d =
         branch op 0x00 _ _ (λ o. refl) (branch op 0x01 _ _ (λ o. guarded _ _ _ refl)
         (branch op 0x0a _ _ (λ o. guarded _ _ _ refl) (branch op 0x0b _ _ (λ o. guarded _ _ _ refl)
         (branch op 0x0c _ _ (λ o. guarded _ _ _ (query-read m _)) (branch op 0x0d _ _ (λ o. guarded _ _ _ refl)
-        (branch op 0x0e _ _ (λ o. guarded _ _ _ (metadata-read m _ (metadataIs (getD d typeAt 0)))) (branch op 0x0f _ _ (get-same ids d)
+        (branch op 0x0e _ _ (λ o. guarded _ _ _ (metadata-read m _ (metadataIs (get_or d type_at 0)))) (branch op 0x0f _ _ (get-same ids d)
         (branch op 0x10 _ _ (λ o. guarded _ _ _ (given o _)) (guarded _ _ _ refl)))))))))
 
 -- two requests that ask the same, with lists that come to the same where these count
 module _ (c r s : List ℕ) (room : ℕ)
-    (asked : opcodeOf r ≡ 0x0f → (id : ℕ) → Same c r s (Read (targetOf r) (GetSelected id)))
-    (given : opcodeOf r ≡ 0x10 → (id : ℕ) → Same c r s (Change (targetOf r) (SetParts id)))
+    (asked : opcode_of r ≡ 0x0f → (id : ℕ) → Same c r s (Read (target_of r) (GetSelected id)))
+    (given : opcode_of r ≡ 0x10 → (id : ℕ) → Same c r s (Change (target_of r) (SetParts id)))
     (ask : askIn c s ≡ askIn c r) where
   done-same : Same c r s (askIn c r)
   unfolding askIn askOf framedOf
   done-same =
       guarded c r s _ _ _ (guarded c r s _ _ _ (guarded c r s _ _ _ (guarded c r s _ _ _ (guarded c r s _ _ _
-      (fields-same c r s (targetOf r) (opcodeOf r) asked given _ (dataOf r))))))
+      (fields-same c r s (target_of r) (opcode_of r) asked given _ (data_of r))))))
 
   pub respond-alike : respond c s room ≡ respond c r room
   unfolding respond Same
@@ -132,7 +132,7 @@ module _ (c r s : List ℕ) (room : ℕ)
 
 -- with the same list
 pub respond-same : (c r s : List ℕ) (room : ℕ)
-    → (opcodeOf r ≡ 0x0f → askedList s ≡ askedList r) → (opcodeOf r ≡ 0x10 → givenList s ≡ givenList r) → askIn c s ≡ askIn c r
+    → (opcode_of r ≡ 0x0f → askedList s ≡ askedList r) → (opcode_of r ≡ 0x10 → givenList s ≡ givenList r) → askIn c s ≡ askIn c r
     → respond c s room ≡ respond c r room
 respond-same c r s room asked given =
-    respond-alike c r s room (λ o id. selected-read c r s (targetOf r) id (asked o)) (λ o id. parts-set c r s (targetOf r) id (given o))
+    respond-alike c r s room (λ o id. selected-read c r s (target_of r) id (asked o)) (λ o id. parts-set c r s (target_of r) id (given o))

@@ -1,60 +1,60 @@
 -- Every call on a sound card leaves a sound card. Assumes nothing.
-use mathlib.Core.Path.{_≡_}
+use mathlib.Core.Path.{◌≡◌}
 use mathlib.Core.Bool.{true}
 use mathlib.Core.List.{List}
 use Prim.Native.Nat.{ℕ}
 use native.Mathlib.Omega.{arith}
-use Rattle·theory.proofs.Tests.{within-low, unless-cases}
-use Rattle·protocol.specs.declared.EventAnswer.{EventAnswer}
-use Rattle·values.proofs.Kept.{done-allowed}
-use Rattle·member.proofs.Sound.{sound-part, sound-handed-back}
-use Rattle·changes.proofs.Kept.{change-sound}
-use Rattle·card.specs.Layout.{setupOf, isMember, memberIn, countsOf, noBytes}
-use Rattle·events.specs.Events.{withHandedBack, handBack as handBackOf, wipe as wipeOf, resetCard, storeIn, store}
-use Rattle·events.proofs.Cases.{if-done-cases, on-member-cases}
-use Rattle·card.proofs.HeaderLaws.{features-long}
-use Rattle·card.proofs.SoundLaws.{Sound, sound-of, is-sound, sound-long, sound-member-in, sound-with-member, sound-with-fresh, sound-with-configuration, sound-with-holding, sound-with-use, sound-fresh-card}
-use Rattle·card.proofs.CountLaws.{counts-numbers}
-use Rattle·frame.specs.declared.Ask.{Ask}
-use Rattle·frame.specs.declared.Ask.the-variants.{Refused, QueryList, UseList, Read, Change}
-use Rattle·admin.specs.Command.{perform, respond}
-use Rattle·demands·specs.specs.Calls.{Call, command, handBack, wipe, cardReset, cardStore, restoreBegin, restoreFeed, restoreFinish, restoreDrop, message, step}
-use Rattle·demands·specs.specs.Claims.{StaysSound}
-use Rattle·admin.proofs.Respond.{FactsIn, asked-of, card-cases}
-use Rattle·admin.proofs.Marks.{named-here, named-unmarked}
-use Rattle·message.proofs.Cases.{card-cases as message-cases}
-use Rattle·staging.proofs.Kept.{begin-sound, feed-sound, finish-sound, drop-sound}
+use Rattle.theory.proofs.Tests.{within_low, unless-cases}
+use Rattle.protocol.specs.declared.EventAnswer.{EventAnswer}
+use Rattle.values.proofs.Kept.{done-allowed}
+use Rattle.member.proofs.Sound.{sound-part, sound-handed-back}
+use Rattle.changes.proofs.Kept.{change-sound}
+use Rattle.card.specs.Layout.{setupOf, isMember, memberIn, countsOf, noBytes}
+use Rattle.events.specs.Events.{withHandedBack, handBack as handBackOf, wipe as wipeOf, resetCard, storeIn, store}
+use Rattle.events.proofs.Cases.{if-done-cases, on-member-cases}
+use Rattle.card.proofs.HeaderLaws.{features-long}
+use Rattle.card.proofs.SoundLaws.{Sound, sound-of, is-sound, sound-long, sound-member-in, sound-with-member, sound-with-fresh, sound-with-configuration, sound-with-holding, sound-with-use, sound-fresh-card}
+use Rattle.card.proofs.CountLaws.{counts-numbers}
+use Rattle.frame.specs.declared.Ask.{Ask}
+use Rattle.frame.specs.declared.Ask.TheVariants.{Refused, QueryList, UseList, Read, Change}
+use Rattle.admin.specs.Command.{perform, respond}
+use Rattle.demands.specs.Calls.{Call, command, handBack, wipe, cardReset, cardStore, restoreBegin, restoreFeed, restoreFinish, restoreDrop, message, step}
+use Rattle.demands.specs.Claims.{StaysSound}
+use Rattle.admin.proofs.Respond.{FactsIn, asked_of, card-cases}
+use Rattle.admin.proofs.Marks.{named_here, named-unmarked}
+use Rattle.message.proofs.Cases.{card-cases as message-cases}
+use Rattle.staging.proofs.Kept.{begin-sound, feed-sound, finish-sound, drop-sound}
 
 module _ (c : List ℕ) (s : Sound c) where
-  perform-sound : (r : List ℕ) (a : Ask) → FactsIn c r a → Sound (perform c r a .card)
+  perform-sound : (r : List ℕ) (a : Ask) → FactsIn c r a → Sound (perform c r a).card
   unfolding perform
   perform-sound r (Refused a) f = s
   perform-sound r QueryList f = s
-  perform-sound r (UseList mask) f = sound-with-use c mask s (f .1)
+  perform-sound r (UseList mask) f = sound-with-use c mask s f.1
   perform-sound r (Read m op) f = s
   perform-sound r (Change m op) f =
-      let x = sound-member-in c s m (named-here c r m (f .0)) in
-      sound-with-member c m _ s (f .0 .low) (change-sound _ _ _ op (memberIn c m) _ (f .1) (named-unmarked c r m (f .0)) x)
+      let x = sound-member-in c s m (named_here c r m f.0) in
+      sound-with-member c m _ s f.0.low (change-sound _ _ _ op (memberIn c m) _ f.1 (named-unmarked c r m f.0) x)
 
-  pub respond-sound : (r : List ℕ) (room : ℕ) → Sound (respond c r room .0)
-  respond-sound r room = card-cases c r room Sound s (λ e. perform-sound r _ (asked-of c r))
+  pub respond-sound : (r : List ℕ) (room : ℕ) → Sound (respond c r room).0
+  respond-sound r room = card-cases c r room Sound s (λ e. perform-sound r _ (asked_of c r))
 
-  store-sound : (m t k : ℕ) (value : List ℕ) → isMember c m ≡ true → Sound (storeIn c m t k value .1)
+  store-sound : (m t k : ℕ) (value : List ℕ) → isMember c m ≡ true → Sound (storeIn c m t k value).1
   unfolding storeIn
   store-sound m t k value h =
-      if-done-cases (λ (y : EventAnswer × List ℕ). Sound (y .1)) _ _ c (λ d. s)
-      (λ d. sound-with-member c m _ s (within-low _ _ m h) (sound-part _ _ _ _ (sound-member-in c s m h) t k value (done-allowed _ t k value d)))
+      if-done-cases (λ (y : EventAnswer × List ℕ). Sound y.1) _ _ c (λ d. s)
+      (λ d. sound-with-member c m _ s (within_low _ _ m h) (sound-part _ _ _ _ (sound-member-in c s m h) t k value (done-allowed _ t k value d)))
 
 -- the card after an event is sound
 abbrev Leaves : EventAnswer × List ℕ → Type 0
-Leaves y = Sound (y .1)
+Leaves y = Sound y.1
 
-step-sound : (c : List ℕ) (x : Call) → Sound c → Sound (step c x .0)
+step-sound : (c : List ℕ) (x : Call) → Sound c → Sound (step c x).0
 unfolding step handBackOf withHandedBack wipeOf resetCard store
 step-sound c (command r room) s = respond-sound c s r _
 step-sound c (handBack m) s =
     on-member-cases c m _ Leaves (λ a d. s) λ e h.
-    let l = within-low _ _ m h in
+    let l = within_low _ _ m h in
     unless-cases Leaves _ _ _ (λ t. s) λ t.
     sound-with-holding _ m noBytes (sound-with-member c m _ s l (sound-handed-back _ _ _ (memberIn c m) (sound-member-in c s m h))) l
 step-sound c (wipe m g) s =
@@ -68,7 +68,7 @@ step-sound c (restoreBegin m) s = sound-of _ (begin-sound c m (is-sound c s))
 step-sound c (restoreFeed m x) s = sound-of _ (feed-sound c m (is-sound c s) x)
 step-sound c (restoreFinish m id) s = sound-of _ (finish-sound c m (is-sound c s) id (is-sound _ (respond-sound c s _ _)))
 step-sound c (restoreDrop m) s = sound-of _ (drop-sound c m (is-sound c s))
-step-sound c (message x room) s = message-cases c x Sound s room (λ m y g e h t. sound-with-configuration c m y g s (within-low _ _ m h))
+step-sound c (message x room) s = message-cases c x Sound s room (λ m y g e h t. sound-with-configuration c m y g s (within_low _ _ m h))
 
 pub stays-sound : StaysSound
 stays-sound c x e = is-sound _ (step-sound c x (sound-of c e))

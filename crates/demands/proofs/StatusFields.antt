@@ -1,17 +1,17 @@
 -- Step 7 of the status table: at each opcode the tests of the fields, one by one, are the decoder's test of all. Assumes
 -- nothing.
-use mathlib.Core.Path.{_≡_}
+use mathlib.Core.Path.{◌≡◌}
 use mathlib.Core.Bool.{true, false, not}
 use mathlib.Core.List.{List}
 use Prim.Native.Nat.{ℕ}
 use lib.Dec.{leb}
-use lib.ListN.{length, getD}
-use Rattle·theory.specs.Logic.{_and_, _or_, within}
-use Rattle·theory.proofs.Tests.{true-and, and-true, false-and, and-false, true-or, false-or, or-false, not-and}
-use Rattle·wire.specs.Le.{le}
-use Rattle·protocol.specs.Opcodes.{supportedOnly}
-use Rattle·frame.specs.Fields.{objectValid, flagsValid, kindValid}
-use Rattle·demands·specs.specs.Statuses.{namesObject, hasFlags, hasKind, typeByte, badField}
+use lib.ListN.{length, get_or}
+use Rattle.theory.specs.Logic.{◌and◌, ◌or◌, within}
+use Rattle.theory.proofs.Tests.{true-and, and-true, false-and, and-false, true-or, false-or, or-false, not-and}
+use Rattle.wire.specs.Le.{le}
+use Rattle.protocol.specs.Opcodes.{supportedOnly}
+use Rattle.frame.specs.Fields.{objectValid, flagsValid, kindValid}
+use Rattle.demands.specs.Statuses.{namesObject, hasFlags, hasKind, typeByte, badField}
 
 -- at an opcode that is a numeral the tests of other commands go
 unfoldable fields : Unit {0}
@@ -61,6 +61,6 @@ module _ (ids : ℕ) (d : List ℕ) where
   unfolding fields
   bad-set = simp tested
 
-  pub bad-mode : badField ids 0x11 d ≡ not (leb (getD d 0 0) 1)
+  pub bad-mode : badField ids 0x11 d ≡ not (leb (get_or d 0 0) 1)
   unfolding fields
   bad-mode = simp tested

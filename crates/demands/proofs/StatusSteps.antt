@@ -1,47 +1,47 @@
 -- Steps 7 to 12 of the status table: at each opcode the definitions and the rows are ladders of the same tests. Assumes
 -- nothing.
-use mathlib.Core.Path.{_≡_, refl, sym, _∙_}
+use mathlib.Core.Path.{◌≡◌, refl, sym, ◌∙◌}
 use mathlib.Core.Bool.{Bool, true, false, not}
-use mathlib.Core.List.{List, [], _∷_, _++_}
-use Prim.Native.Nat.{ℕ, zero, suc, _+_, _*_, _≤_, _<_}
+use mathlib.Core.List.{List, [], ◌∷◌, ◌++◌}
+use Prim.Native.Nat.{ℕ, zero, suc, ◌+◌, ◌*◌, ◌≤◌, ◌<◌}
 use native.Mathlib.Omega.{arith}
 use borrow.Author.Tests.{eqb-true, not-false}
 use lib.Dec.{leb, ltb, eqb}
-use lib.ListN.{length, getD, drop, replicate, length-append}
-use Rattle·theory.specs.Logic.{if_then_else_, unless_answer_then_, _and_, _or_, within}
-use Rattle·theory.proofs.Tests.{by-cases, both, either, true-and, within-low, within-high, tests}
-use Rattle·theory.proofs.Sums.{sumFrom}
-use Rattle·wire.specs.Le.{le, bytes}
-use Rattle·protocol.specs.declared.Answer.{Answer}
-use Rattle·protocol.specs.declared.Answer.the-variants.{Done}
-use Rattle·protocol.specs.declared.Mode.{Mode}
-use Rattle·protocol.specs.declared.Mode.the-variants.{Running, Stopped}
-use Rattle·protocol.specs.declared.ObjectKind.{ObjectKind}
-use Rattle·protocol.specs.Answers.{isGet, isSet, kindNumber, statusOf, qualifierOf, isDone}
-use Rattle·protocol.specs.Opcodes.{supported, namesMember, supportedMask, supportedOnly}
-use Rattle·protocol.proofs.Rows.{supported-is}
-use Rattle·inventory.specs.Inventory.{valuesSize, partCount, partsSize}
-use Rattle·inventory.proofs.Rules.{table}
-use Rattle·rules.specs.Rules.{causeOf, isAccepted, askedOf}
-use Rattle·capture.specs.Capture.{Asked, headersOf, partsWritten, captureOf}
-use Rattle·capture.proofs.Sizes.{parts-length, capture-length, headers-length}
-use Rattle·objects.specs.declared.Found.{Found}
-use Rattle·objects.specs.declared.Found.the-variants.{Live, Nothing}
-use Rattle·member.specs.Objects.{roomIn}
-use Rattle·member.specs.Member.{featuresIn}
-use Rattle·changes.specs.Changes.{limited, createOf, modifyOf, destroyOf, setPartsOf}
-use Rattle·reads.specs.Reads.{queryOf, throughGet, selectedOf}
-use Rattle·card.specs.Layout.{setupOf, isMember}
-use Rattle·card.proofs.SoundLaws.{Sound, sound-member-in}
-use Rattle·frame.specs.Frame.{targetOf, dataOf, askedList, givenList}
-use Rattle·frame.specs.Fields.{objectValid, flagsValid, kindValid, createIn, modifyIn, queryIn, destroyIn, metadataIn, getIn, setIn, modeIn, useIn, fieldsOf}
-use Rattle·reply.specs.Result.{numberBytes, resultOf}
-use Rattle·reply.specs.Reply.{finalOf}
-use Rattle·reply.proofs.Result.{number-long}
-use Rattle·admin.specs.Command.{Effect, perform}
-use Rattle·demands·specs.specs.Statuses.{Row, row, firstOf, namesObject, hasFlags, hasKind, typeByte, needsGet, memberNamed, objectNamed, memberMade, badField, badList, askedSize, resultSize, rowsAt}
-use Rattle·admin.proofs.Respond.{lastAnswer}
-use Rattle·demands·proofs.proofs.StatusFields.{bad-use, bad-create, bad-modify, bad-query, bad-destroy, bad-metadata, bad-selected, bad-all, bad-type, bad-set, bad-mode}
+use lib.ListN.{length, get_or, drop, replicate, length-append}
+use Rattle.theory.specs.Logic.{if◌then◌else◌, unless◌answer◌then◌, ◌and◌, ◌or◌, within}
+use Rattle.theory.proofs.Tests.{by_cases, both, either, true-and, within_low, within-high, tests}
+use Rattle.theory.proofs.Sums.{sumFrom}
+use Rattle.wire.specs.Le.{le, bytes}
+use Rattle.protocol.specs.declared.Answer.{Answer}
+use Rattle.protocol.specs.declared.Answer.TheVariants.{Done}
+use Rattle.protocol.specs.declared.Mode.{Mode}
+use Rattle.protocol.specs.declared.Mode.TheVariants.{Running, Stopped}
+use Rattle.protocol.specs.declared.ObjectKind.{ObjectKind}
+use Rattle.protocol.specs.Answers.{isGet, is_set, kindNumber, statusOf, qualifierOf, isDone}
+use Rattle.protocol.specs.Opcodes.{supported, namesMember, supportedMask, supportedOnly}
+use Rattle.protocol.proofs.Rows.{supported-is}
+use Rattle.inventory.specs.Inventory.{valuesSize, part_count, partsSize}
+use Rattle.inventory.proofs.Rules.{table}
+use Rattle.rules.specs.Rules.{causeOf, isAccepted, asked_of}
+use Rattle.capture.specs.Capture.{Asked, headersOf, partsWritten, captureOf}
+use Rattle.capture.proofs.Sizes.{parts-length, capture-length, headers-length}
+use Rattle.objects.specs.declared.Found.{Found}
+use Rattle.objects.specs.declared.Found.TheVariants.{Live, Nothing}
+use Rattle.member.specs.Objects.{roomIn}
+use Rattle.member.specs.Member.{featuresIn}
+use Rattle.changes.specs.Changes.{limited, createOf, modifyOf, destroyOf, setPartsOf}
+use Rattle.reads.specs.Reads.{queryOf, throughGet, selectedOf}
+use Rattle.card.specs.Layout.{setupOf, isMember}
+use Rattle.card.proofs.SoundLaws.{Sound, sound-member-in}
+use Rattle.frame.specs.Frame.{target_of, data_of, askedList, givenList}
+use Rattle.frame.specs.Fields.{objectValid, flagsValid, kindValid, createIn, modifyIn, queryIn, destroyIn, metadataIn, getIn, setIn, modeIn, useIn, fields_of}
+use Rattle.reply.specs.Result.{numberBytes, result_of}
+use Rattle.reply.specs.Reply.{finalOf}
+use Rattle.reply.proofs.Result.{number-long}
+use Rattle.admin.specs.Command.{Effect, perform}
+use Rattle.demands.specs.Statuses.{Row, row, first_of, namesObject, hasFlags, hasKind, typeByte, needsGet, memberNamed, objectNamed, memberMade, badField, badList, askedSize, resultSize, rows_at}
+use Rattle.admin.proofs.Respond.{lastAnswer}
+use Rattle.demands.proofs.StatusFields.{bad-use, bad-create, bad-modify, bad-query, bad-destroy, bad-metadata, bad-selected, bad-all, bad-type, bad-set, bad-mode}
 
 -- ---- what is compared ----
 
@@ -53,21 +53,21 @@ abbrev pub answered : Answer → List ℕ → Told
 answered a x = (statusOf a, (qualifierOf a, length (if isDone a then x else [])))
 
 abbrev pub ends : ℕ → Effect → Told
-ends room e = answered (lastAnswer room e) (e .result)
+ends room e = answered (lastAnswer room e) e.result
 
 abbrev pub says : List Row → ℕ → Told
-says xs n = (firstOf xs .0, (firstOf xs .1, if eqb (firstOf xs .0) 0 then n else 0))
+says xs n = ((first_of xs).0, ((first_of xs).1, if eqb (first_of xs).0 0 then n else 0))
 
 -- steps 7 to 12 at an opcode
 abbrev Agree : List ℕ → List ℕ → ℕ → ℕ → Type 0
 Agree c r room op =
-    ends room (perform c r (fieldsOf (setupOf c .gets + setupOf c .sets) (targetOf r) op (dataOf r)))
-    ≡ says (drop 5 (rowsAt c r room op)) (resultSize c r op)
+    ends room (perform c r (fields_of ((setupOf c).gets + (setupOf c).sets) (target_of r) op (data_of r)))
+    ≡ says (drop 5 (rows_at c r room op)) (resultSize c r op)
 
 -- ---- cases: first where a step stops, then what is below it ----
 
 pub test : {P : Type 0} (t : Bool) → (t ≡ false → P) → (t ≡ true → P) → P
-test t f g = by-cases t g f
+test t f g = by_cases t g f
 
 object : {P : Type 0} (x : Found) → (x ≡ Nothing → P) → ((k : ObjectKind) → x ≡ Live k → P) → P
 object Nothing f g = f refl
@@ -85,7 +85,7 @@ Run P k (suc n) = P k × Run P (suc k) n
 among : (P : ℕ → Type 0) (k n : ℕ) → Run P k n → (x : ℕ) → k ≤ x → x < k + n → P x
 among P k zero ps x l h = absurd (omega arith)
 among P k (suc n) ps x l h =
-    by-cases (eqb x k) (λ e. rw (eqb-true x k e) (ps .0)) (λ e. among P (suc k) n (ps .1) x (omega tests) (omega tests))
+    by_cases (eqb x k) (λ e. rw (eqb-true x k e) ps.0) (λ e. among P (suc k) n ps.1 x (omega tests) (omega tests))
 
 type-up-to-1 : {P : Type 0} (b : ℕ) → leb b 1 ≡ true → (b ≡ 0 → P) → (b ≡ 1 → P) → P
 type-up-to-1 {P} b l f g = among (λ n. b ≡ n → P) 0 2 (f, (g, tt)) b (omega arith) (omega tests) refl
@@ -97,10 +97,10 @@ type-up-to-2 {P} b l f g h = among (λ n. b ≡ n → P) 0 3 (f, (g, (h, tt))) b
 
 -- the rows and the definitions are ladders of the same tests
 unfoldable ladders : Unit {0}
-unfolding if_then_else_ unless_answer_then_ _and_ _or_ within bytes
-    fieldsOf createIn modifyIn queryIn destroyIn metadataIn getIn setIn modeIn useIn
-    createOf modifyOf destroyOf setPartsOf limited queryOf throughGet selectedOf resultOf finalOf perform
-    firstOf hasKind needsGet badList resultSize rowsAt
+unfolding if◌then◌else◌ unless◌answer◌then◌ ◌and◌ ◌or◌ within bytes
+    fields_of createIn modifyIn queryIn destroyIn metadataIn getIn setIn modeIn useIn
+    createOf modifyOf destroyOf setPartsOf limited queryOf throughGet selectedOf result_of finalOf perform
+    first_of hasKind needsGet badList resultSize rows_at
 ladders = tt
 
 -- the length of the parts asked for
@@ -110,13 +110,13 @@ asked-length queues list v h = parts-length Asked queues list v h
 
 module _ (c r : List ℕ) (room : ℕ) where
   abbrev d : List ℕ
-  d = dataOf r
+  d = data_of r
 
   abbrev q : ℕ
-  q = memberNamed c r .queues
+  q = (memberNamed c r).queues
 
   abbrev ids : ℕ
-  ids = setupOf c .gets + setupOf c .sets
+  ids = (setupOf c).gets + (setupOf c).sets
 
   -- step 11, with the result x; and with none
   result : (x : List ℕ) (n : ℕ) → length x ≡ n
@@ -140,7 +140,7 @@ module _ (c r : List ℕ) (room : ℕ) where
   create =
       rw bad-create (test (kindValid ids d) (λ e. rw e) λ e. rw e (
       object (objectNamed c r) (λ e. rw e (
-      test (roomIn (setupOf c .gets) (setupOf c .sets) (memberMade c r)) (λ e. rw e) λ e. rw e none))
+      test (roomIn (setupOf c).gets (setupOf c).sets (memberMade c r)) (λ e. rw e) λ e. rw e none))
       (λ k e. rw e)))
 
   modify : Agree c r room 0x0b
@@ -148,7 +148,7 @@ module _ (c r : List ℕ) (room : ℕ) where
   modify =
       rw bad-modify (test (kindValid ids d) (λ e. rw e) λ e. rw e (
       object (objectNamed c r) (λ e. rw e) λ k e. rw e (
-      test (roomIn (setupOf c .gets) (setupOf c .sets) (memberMade c r)) (λ e. rw e) λ e. rw e none)))
+      test (roomIn (setupOf c).gets (setupOf c).sets (memberMade c r)) (λ e. rw e) λ e. rw e none)))
 
   query : Agree c r room 0x0c
   unfolding ladders
@@ -167,13 +167,13 @@ module _ (c r : List ℕ) (room : ℕ) where
   parts-set =
       rw bad-set (test (objectValid ids d) (λ e. rw e) λ e. rw e (
       object (objectNamed c r) (λ e. rw e) λ k e. rw e (
-      test (isSet k) (λ e. rw e) λ e. rw e (
-      mode (memberNamed c r .mode) (λ e. rw e) λ e. rw e (
+      test (is_set k) (λ e. rw e) λ e. rw e (
+      mode (memberNamed c r).mode (λ e. rw e) λ e. rw e (
       test (isAccepted (causeOf q (featuresIn (memberNamed c r)) (givenList r))) (λ e. rw e) λ e. rw e none)))))
 
   mode-set : Agree c r room 0x11
   unfolding ladders
-  mode-set = rw bad-mode (test (leb (getD d 0 0) 1) (λ e. rw e) λ e. rw e none)
+  mode-set = rw bad-mode (test (leb (get_or d 0 0) 1) (λ e. rw e) λ e. rw e none)
 
   -- through a live get object
   through-get : {P : Type 0} → (objectNamed c r ≡ Nothing → P)
@@ -188,21 +188,21 @@ module _ (c r : List ℕ) (room : ℕ) where
     metadata =
         rw bad-metadata (test (objectValid ids d and leb (typeByte d) 2) (λ e. rw e) λ v. rw v (
         through-get (λ e. rw e) (λ k e f. rw (e, f)) λ k e f. rw (e, f) (
-        type-up-to-2 (typeByte d) (both (objectValid ids d) _ v .1)
+        type-up-to-2 (typeByte d) (both (objectValid ids d) _ v).1
         (λ e. rw e (result (numberBytes (partsSize q)) 8 (number-long _)))
-        (λ e. rw e (result (numberBytes (partCount q)) 8 (number-long _)))
-        (λ e. rw e (result (numberBytes (partCount q) ++ headersOf q) (8 + 16 * partCount q)
+        (λ e. rw e (result (numberBytes (part_count q)) 8 (number-long _)))
+        (λ e. rw e (result (numberBytes (part_count q) ++ headersOf q) (8 + 16 * part_count q)
         (rw (length-append, number-long, headers-length q few)))))))
 
     -- parts get, by its type: selected, all, and any other
-    module _ (long : length (memberNamed c r .values) ≡ valuesSize) where
+    module _ (long : length (memberNamed c r).values ≡ valuesSize) where
       selected : typeByte d ≡ 0 → Agree c r room 0x0f
       unfolding ladders
       selected y =
           rw (bad-selected ids d y, y) (test (objectValid ids d) (λ e. rw e) λ e. rw e (
           through-get (λ e. rw e) (λ k e f. rw (e, f)) λ k e f. rw (e, f) (
-          test (askedOf q (askedList r)) (λ e. rw e) λ e. rw e (
-          result (partsWritten Asked q (askedList r) (memberNamed c r .values)) _ (asked-length q (askedList r) _ long)))))
+          test (asked_of q (askedList r)) (λ e. rw e) λ e. rw e (
+          result (partsWritten Asked q (askedList r) (memberNamed c r).values) _ (asked-length q (askedList r) _ long)))))
 
       get-all : typeByte d ≡ 1 → Agree c r room 0x0f
       unfolding ladders
@@ -210,7 +210,7 @@ module _ (c r : List ℕ) (room : ℕ) where
           rw (bad-all ids d y, y) (test (objectValid ids d) (λ e. rw e) λ e. rw e (
           test (leb (length d) 16) (λ e. rw e) λ e. rw e (
           through-get (λ e. rw e) (λ k e f. rw (e, f)) λ k e f. rw (e, f) (
-          result (captureOf q (memberNamed c r .values)) _ (capture-length q _ few long)))))
+          result (captureOf q (memberNamed c r).values) _ (capture-length q _ few long)))))
 
       other-type : leb (typeByte d) 1 ≡ false → eqb (typeByte d) 0 ≡ false → eqb (typeByte d) 1 ≡ false → Agree c r room 0x0f
       unfolding ladders
@@ -221,14 +221,14 @@ module _ (c r : List ℕ) (room : ℕ) where
           test (leb (typeByte d) 1) (λ e. other-type e (omega tests) (omega tests)) λ e.
           type-up-to-1 (typeByte d) e selected get-all
 
-  pub by-opcode : Sound c → (op : ℕ) → supported op ≡ true → namesMember op and not (isMember c (targetOf r)) ≡ false → Agree c r room op
+  pub by-opcode : Sound c → (op : ℕ) → supported op ≡ true → namesMember op and not (isMember c (target_of r)) ≡ false → Agree c r room op
   unfolding namesMember
   by-opcode s op u n =
       either (ltb op 2) (namesMember op) (sym (supported-is op) ∙ u)
       (λ e. among (Agree c r room) 0x00 2 (query-list, (list-use, tt)) op (omega arith) (omega tests))
       (λ e.
       let y = sound-member-in c s _ (not-false _ (sym (true-and _) ∙ rw e at n)) in
-      let few : q < 5 = omega (arith, within-high 1 4 _ (y .count)) in
+      let few : q < 5 = omega (arith, within-high 1 4 _ y.count) in
       among (Agree c r room) 0x0a 8
-      (create, (modify, (query, (destroy, (metadata few, (parts-get few (y .shaped .long), (parts-set, (mode-set, tt)))))))) op
-      (within-low _ _ _ e) (omega (tests, within-high _ _ _ e)))
+      (create, (modify, (query, (destroy, (metadata few, (parts-get few y.shaped.long, (parts-set, (mode-set, tt)))))))) op
+      (within_low _ _ _ e) (omega (tests, within-high _ _ _ e)))

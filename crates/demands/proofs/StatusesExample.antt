@@ -1,19 +1,19 @@
 -- The hypotheses of the status table can be met, and each of its rows is the first that applies to some command.
 -- Assumes nothing.
-use mathlib.Core.Path.{_≡_, refl}
+use mathlib.Core.Path.{◌≡◌, refl}
 use mathlib.Core.Bool.{true}
-use mathlib.Core.List.{List, [], _∷_, _++_, map}
+use mathlib.Core.List.{List, [], ◌∷◌, ◌++◌, map}
 use Prim.Native.Nat.{ℕ, suc}
 use native.Mathlib.Omega.{arith}
-use Rattle·theory.specs.Logic.{if_then_else_}
-use Rattle·theory.specs.Machine.{run}
-use Rattle·card.specs.Sound.{isSound}
-use Rattle·demands·specs.specs.Calls.{Call, command, handBack, wipe, cardReset, cardStore, restoreBegin, restoreFeed, restoreFinish, restoreDrop, message, step}
-use Rattle·host.specs.Request.{request, getAll, setParts}
-use Rattle·demands·specs.specs.Examples.{exampleCard, send, useList, setMode, create, destroy, metadata, allUsed, objectsLive}
-use Rattle·demands·specs.specs.Statuses.{Row, firstOf, rows, FirstRowAnswers}
-use Rattle·demands·proofs.proofs.Model.{model}
-use Rattle·demands·proofs.proofs.Statuses.{statuses}
+use Rattle.theory.specs.Logic.{if◌then◌else◌}
+use Rattle.theory.specs.Machine.{run}
+use Rattle.card.specs.Sound.{isSound}
+use Rattle.demands.specs.Calls.{Call, command, handBack, wipe, cardReset, cardStore, restoreBegin, restoreFeed, restoreFinish, restoreDrop, message, step}
+use Rattle.host.specs.Request.{request, getAll, setParts}
+use Rattle.demands.specs.Examples.{exampleCard, send, useList, setMode, create, destroy, metadata, allUsed, objectsLive}
+use Rattle.demands.specs.Statuses.{Row, first_of, rows, FirstRowAnswers}
+use Rattle.demands.proofs.Model.{model}
+use Rattle.demands.proofs.Statuses.{statuses}
 
 sound : isSound exampleCard ≡ true
 unfolding model
@@ -23,14 +23,14 @@ sound = refl
 answers : FirstRowAnswers exampleCard (request 0x0a 1 0 []) 8
 answers = statuses exampleCard (request 0x0a 1 0 []) 8 sound (omega arith)
 
-first-row : firstOf (rows exampleCard (request 0x0a 1 0 []) 8) ≡ (22, 2)
+first-row : first_of (rows exampleCard (request 0x0a 1 0 []) 8) ≡ (22, 2)
 unfolding model
 first-row = refl
 
 -- the place of the first row that applies
 place : List Row → ℕ
 place [] = 0
-place (x ∷ xs) = if x .applies then 0 else suc (place xs)
+place (x ∷ xs) = if x.applies then 0 else suc (place xs)
 
 placeFor : List ℕ → Call → ℕ
 placeFor c (command r room) = place (rows c r room)
@@ -66,7 +66,7 @@ cases =
     ∷ (objectsLive, send (getAll 1 0))  -- 12
     ∷ []
 
-every-row-applies : map (λ (x : Case). placeFor (run step exampleCard (x .0)) (x .1)) cases
+every-row-applies : map (λ (x : Case). placeFor (run step exampleCard x.0) x.1) cases
     ≡ 0 ∷ 1 ∷ 2 ∷ 3 ∷ 4 ∷ 5 ∷ 6 ∷ 7 ∷ 8 ∷ 9 ∷ 10 ∷ 11 ∷ 12 ∷ 13 ∷ []
 unfolding model place placeFor cases
 every-row-applies = refl

@@ -1,30 +1,30 @@
 -- A built request is taken by the card as the command that it is. Assumes nothing.
-use mathlib.Core.Path.{_≡_, refl, _∙_}
+use mathlib.Core.Path.{◌≡◌, refl, ◌∙◌}
 use mathlib.Core.Bool.{true, not}
-use mathlib.Core.List.{List, [], _++_}
-use Prim.Native.Nat.{ℕ, _+_, _%_, _^_, _≤_, _<_}
+use mathlib.Core.List.{List, [], ◌++◌}
+use Prim.Native.Nat.{ℕ, ◌+◌, ◌%◌, ◌^◌, ◌≤◌, ◌<◌}
 use native.Mathlib.Omega.{arith}
 use borrow.Author.Tests.{ltb-true, leb-true, eqb-true}
 use lib.Dec.{leb, ltb, eqb}
 use lib.ListN.{length, replicate}
-use Rattle·theory.specs.Logic.{if_then_else_, unless_answer_then_, _and_, _or_, within}
-use Rattle·theory.proofs.Tests.{both, either, and-i, within-high, never}
-use Rattle·theory.proofs.Lists.{length-zero}
-use Rattle·wire.specs.Le.{le, bytes, number}
-use Rattle·wire.proofs.Le.{le-bytes}
-use Rattle·protocol.specs.Opcodes.{namesMember, supportedOnly}
-use Rattle·protocol.proofs.Masks.{mask-fits}
-use Rattle·card.specs.Layout.{setupOf, inUseOf}
-use Rattle·card.proofs.SoundLaws.{sound-of}
-use Rattle·frame.specs.Fields.{flagsValid, fieldsOf}
-use Rattle·frame.specs.Ask.{usable, reaches, framedOf}
-use Rattle·admin.specs.Command.{askIn}
-use Rattle·host.specs.declared.Command.{Command}
-use Rattle·host.specs.declared.Command.the-variants as host
-use Rattle·host.specs.Request.{sentOf}
-use Rattle·host.proofs.Request.{command-supported}
-use Rattle·demands·specs.specs.Host.{askFor, inside, Taken}
-use Rattle·host.proofs.Asked.{dataFor, laid, sent-target, asked-frame, headers-given, parts-given, create-read, modify-read, query-read, destroy-read, metadata-read, get-read, set-read, use-read, mode-read}
+use Rattle.theory.specs.Logic.{if◌then◌else◌, unless◌answer◌then◌, ◌and◌, ◌or◌, within}
+use Rattle.theory.proofs.Tests.{both, either, and_i, within-high, never}
+use Rattle.theory.proofs.Lists.{length-zero}
+use Rattle.wire.specs.Le.{le, bytes, number}
+use Rattle.wire.proofs.Le.{le_bytes}
+use Rattle.protocol.specs.Opcodes.{namesMember, supportedOnly}
+use Rattle.protocol.proofs.Masks.{mask_fits}
+use Rattle.card.specs.Layout.{setupOf, inUseOf}
+use Rattle.card.proofs.SoundLaws.{sound-of}
+use Rattle.frame.specs.Fields.{flagsValid, fields_of}
+use Rattle.frame.specs.Ask.{usable, reaches, framedOf}
+use Rattle.admin.specs.Command.{askIn}
+use Rattle.host.specs.declared.Command.{Command}
+use Rattle.host.specs.declared.Command.TheVariants as host
+use Rattle.host.specs.Request.{sentOf}
+use Rattle.host.proofs.Request.{command-supported}
+use Rattle.demands.specs.Host.{askFor, inside, Taken}
+use Rattle.host.proofs.Asked.{dataFor, laid, sent-target, asked-frame, headers-given, parts-given, create-read, modify-read, query-read, destroy-read, metadata-read, get-read, set-read, use-read, mode-read}
 
 -- ---- the member ----
 
@@ -35,9 +35,9 @@ reached-small members op m few n r =
     let h : m ≤ members = either (not (namesMember op)) (within 1 members m) r (λ e. never cc) (within-high 1 members m) in
     omega arith
 
-member-small : (members : ℕ) (x : Command) → members ≤ 16 → reaches members (sentOf x .opcode) (sentOf x .member) ≡ true
-    → sentOf x .member < 256 ^ 8
-unfolding sentOf namesMember within _and_
+member-small : (members : ℕ) (x : Command) → members ≤ 16 → reaches members (sentOf x).opcode (sentOf x).member ≡ true
+    → (sentOf x).member < 256 ^ 8
+unfolding sentOf namesMember within ◌and◌
 member-small members host.ListQuery h r = omega arith
 member-small members (host.ListUse mask) h r = omega arith
 member-small members (host.Create m id kind) h r = reached-small members 0x0a m h refl r
@@ -55,8 +55,8 @@ member-small members (host.SetMode m mode) h r = reached-small members 0x11 m h 
 id-small : (ids id : ℕ) → ids ≤ 16 → ltb id ids ≡ true → id < 256 ^ 4
 id-small ids id h v = omega (arith, ltb-true id ids v)
 
-byte-small : (b k : ℕ) → k < 256 → leb b k ≡ true → b % 256 ≡ b
-byte-small b k h e = omega (arith, leb-true b k e)
+byte_small : (b k : ℕ) → k < 256 → leb b k ≡ true → b % 256 ≡ b
+byte_small b k h e = omega (arith, leb-true b k e)
 
 -- what `inside` says of a parts get
 record GetFields (ids id which : ℕ) (list : List ℕ) : Type 0 where
@@ -68,51 +68,51 @@ get-fields : (ids m id which : ℕ) (list : List ℕ) → inside ids (host.Get m
 unfolding inside
 get-fields ids m id which list h =
     let p = both _ _ h in
-    let q = both _ _ (both _ _ (p .0) .0) in
-    record { valid = q .0; typed = q .1; alone = p .1 }
+    let q = both _ _ (both _ _ p.0).0 in
+    record { valid = q.0; typed = q.1; alone = p.1 }
 
 mask-read : (mask : ℕ) (list : List ℕ) → supportedOnly mask ≡ true → list ≡ [] → le (dataFor (host.ListUse mask) list) ≡ mask
 unfolding laid
-mask-read mask list h e = rw e (le-bytes 8 mask (mask-fits mask h))
+mask-read mask list h e = rw e (le_bytes 8 mask (mask_fits mask h))
 
-fields-read : (ids : ℕ) (x : Command) (list : List ℕ) → ids ≤ 16 → inside ids x list ≡ true
-    → fieldsOf ids (sentOf x .member) (sentOf x .opcode) (dataFor x list) ≡ askFor x
-unfolding inside fieldsOf if_then_else_ unless_answer_then_ flagsValid number le laid
-fields-read ids host.ListQuery list n h = refl
-fields-read ids (host.ListUse mask) list n h =
+fields_read : (ids : ℕ) (x : Command) (list : List ℕ) → ids ≤ 16 → inside ids x list ≡ true
+    → fields_of ids (sentOf x).member (sentOf x).opcode (dataFor x list) ≡ askFor x
+unfolding inside fields_of if◌then◌else◌ unless◌answer◌then◌ flagsValid number le laid
+fields_read ids host.ListQuery list n h = refl
+fields_read ids (host.ListUse mask) list n h =
     let p = both _ _ h in
-    use-read mask (dataFor (host.ListUse mask) list) (mask-read mask list (p .0) (length-zero list (eqb-true _ 0 (p .1)))) (p .0)
-fields-read ids (host.Create m id kind) list n h =
+    use-read mask (dataFor (host.ListUse mask) list) (mask-read mask list p.0 (length-zero list (eqb-true _ 0 p.1))) p.0
+fields_read ids (host.Create m id kind) list n h =
     let p = both _ _ h in
-    create-read id (replicate 8 0 ++ (bytes 8 kind ++ [])) (id-small ids id n (p .0)) ids m (p .0) kind refl (byte-small kind 1 (omega arith) (p .1)) (p .1)
-fields-read ids (host.Modify m id kind) list n h =
+    create-read id (replicate 8 0 ++ (bytes 8 kind ++ [])) (id-small ids id n p.0) ids m p.0 kind refl (byte_small kind 1 (omega arith) p.1) p.1
+fields_read ids (host.Modify m id kind) list n h =
     let p = both _ _ h in
-    modify-read id (replicate 8 0 ++ (bytes 8 kind ++ [])) (id-small ids id n (p .0)) ids m (p .0) kind refl (byte-small kind 1 (omega arith) (p .1)) (p .1)
-fields-read ids (host.Query m id) list n h = query-read id (replicate 8 0) (id-small ids id n h) ids m h refl
-fields-read ids (host.Destroy m id) list n h = destroy-read id [] (id-small ids id n h) ids m h
-fields-read ids (host.Metadata m id what) list n h =
+    modify-read id (replicate 8 0 ++ (bytes 8 kind ++ [])) (id-small ids id n p.0) ids m p.0 kind refl (byte_small kind 1 (omega arith) p.1) p.1
+fields_read ids (host.Query m id) list n h = query-read id (replicate 8 0) (id-small ids id n h) ids m h refl
+fields_read ids (host.Destroy m id) list n h = destroy-read id [] (id-small ids id n h) ids m h
+fields_read ids (host.Metadata m id what) list n h =
     let p = both _ _ h in
-    metadata-read id (bytes 8 what) (id-small ids id n (p .0)) ids m (p .0) what (byte-small what 2 (omega arith) (p .1)) (p .1)
-fields-read ids (host.Get m id which) list n h =
+    metadata-read id (bytes 8 what) (id-small ids id n p.0) ids m p.0 what (byte_small what 2 (omega arith) p.1) p.1
+fields_read ids (host.Get m id which) list n h =
     let g = get-fields ids m id which list h in
-    get-read id (bytes 8 which ++ list) (id-small ids id n (g .valid)) ids m (g .valid) which list
-    (byte-small which 1 (omega arith) (g .typed)) (g .typed) (omega arith) (g .alone)
-fields-read ids (host.Set m id) list n h = set-read id list (id-small ids id n h) ids m ∙ rw h
-fields-read ids (host.SetMode m mode) list n h = mode-read m mode (dataFor (host.SetMode m mode) list) (byte-small mode 1 (omega arith) h) h
+    get-read id (bytes 8 which ++ list) (id-small ids id n g.valid) ids m g.valid which list
+    (byte_small which 1 (omega arith) g.typed) g.typed (omega arith) g.alone
+fields_read ids (host.Set m id) list n h = set-read id list (id-small ids id n h) ids m ∙ rw h
+fields_read ids (host.SetMode m mode) list n h = mode-read m mode (dataFor (host.SetMode m mode) list) (byte_small mode 1 (omega arith) h) h
 
 -- ---- the claim ----
 
 pub taken : Taken
-unfolding askIn framedOf usable unless_answer_then_
+unfolding askIn framedOf usable unless◌answer◌then◌
 taken c x list t =
-    let n = sound-of c (t .sound) .numbers in
-    let ids = setupOf c .gets + setupOf c .sets in
-    let small = member-small (setupOf c .members) x (n .fewMembers) (t .member) in
+    let n = (sound-of c t.sound).numbers in
+    let ids = (setupOf c).gets + (setupOf c).sets in
+    let small = member-small (setupOf c).members x n.fewMembers t.member in
     record {
       asked =
-          asked-frame x list (setupOf c .members) ids (inUseOf c) _ small (t .short)
-          ∙ rw (sent-target x list small, and-i _ _ (command-supported x) (t .inUse), t .member, t .unmarked)
-          (fields-read ids x list (omega arith) (t .fields));
+          asked-frame x list (setupOf c).members ids (inUseOf c) _ small t.short
+          ∙ rw (sent-target x list small, and_i _ _ (command-supported x) t.inUse, t.member, t.unmarked)
+          (fields_read ids x list (omega arith) t.fields);
       headers = λ m id which e. rw e (headers-given m id which list);
       parts = λ m id e. rw e (parts-given m id list);
     }

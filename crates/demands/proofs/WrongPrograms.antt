@@ -1,15 +1,15 @@
 -- The wrong programs fail the worked examples: what the table expects contradicts what each kind of machine replies.
 -- Assumes nothing.
-use mathlib.Core.Path.{_≡_, refl, ap, sym, _∙_}
+use mathlib.Core.Path.{◌≡◌, refl, ap, sym, ◌∙◌}
 use mathlib.Core.Bool.{true, false}
 use Prim.Native.Nat.{ℕ}
 use native.Mathlib.Omega.{arith}
-use lib.ListN.{getD}
-use Rattle·theory.proofs.Tests.{never}
-use Rattle·demands·specs.specs.Calls.{Call, Reply, answered, refused}
-use Rattle·demands·specs.specs.Examples.{create, repliesTo, sizeOf}
-use Rattle·demands·specs.specs.WrongPrograms.{exampleB, Passes, Rejected, WrongProgramsRejected}
-use Rattle·demands·proofs.proofs.Model.{model}
+use lib.ListN.{get_or}
+use Rattle.theory.proofs.Tests.{never}
+use Rattle.demands.specs.Calls.{Call, Reply, answered, refused}
+use Rattle.demands.specs.Examples.{create, repliesTo, size_of}
+use Rattle.demands.specs.WrongPrograms.{exampleB, Passes, Rejected, WrongProgramsRejected}
+use Rattle.demands.proofs.Model.{model}
 
 -- a success is no refusal
 pub obeyed : {x y : Reply} → refused x ≡ true → x ≡ y → refused y ≡ false → ⊥
@@ -18,21 +18,21 @@ obeyed h e n = never cc
 module _ {State : Type 0} (machine : State → Call → State × Reply) (start : State) where
   -- the reply to call j of example k
   pub reply : (k j : ℕ) → Passes machine start k
-      → getD (repliesTo machine start (exampleB k)) j (answered 0) ≡ getD (exampleB k .expected) j (answered 0)
-  reply k j p = ap (λ l. getD l j (answered 0)) p
+      → get_or (repliesTo machine start (exampleB k)) j (answered 0) ≡ get_or (exampleB k).expected j (answered 0)
+  reply k j p = ap (λ l. get_or l j (answered 0)) p
 
   rejected : Rejected machine start
   unfolding model
   rejected = record {
     refusesEach = λ h. (λ p. obeyed (h _ _ _) (reply 1 0 p) refl, λ p. obeyed (h _ _ _) (reply 7 0 p) refl);
     fixedReply = λ x h p q.
-        let e : _≡_ {A = ℕ} 16 8 = ap sizeOf (sym (reply 1 0 p) ∙ h _ _ _ ∙ sym (h _ _ _) ∙ reply 2 0 q) in omega arith;
+        let e : ◌≡◌ {A = ℕ} 16 8 = ap size_of (sym (reply 1 0 p) ∙ h _ _ _ ∙ sym (h _ _ _) ∙ reply 2 0 q) in omega arith;
     neverChanges = λ h p.
-        obeyed refl (sym (reply 5 1 p) ∙ ap (λ s. machine s (create 0 0) .1) (h _ _ _) ∙ reply 5 0 p) refl;
+        obeyed refl (sym (reply 5 1 p) ∙ ap (λ s. (machine s (create 0 0)).1) (h _ _ _) ∙ reply 5 0 p) refl;
     firstOnly = λ h p. obeyed (h _ _ _ _ _) (reply 7 0 p) refl;
     madeUpCount = λ h p. h _ (reply 9 0 p);
     madeUpSize = λ h p. h _ (reply 9 1 p);
-    madeUpBytes = λ h p. h _ _ (ap sizeOf (reply 10 2 p));
+    madeUpBytes = λ h p. h _ _ (ap size_of (reply 10 2 p));
   }
 
 pub wrong-programs-rejected : WrongProgramsRejected

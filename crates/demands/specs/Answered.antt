@@ -1,23 +1,19 @@
 -- REQUEST 3, SPEC 13.3: which messages are answered, and what they do. The numbers are those of the papers, apart from the
 -- definitions. Examples: ../proofs/AnsweredExample.antt. Assumes nothing.
-use mathlib.Core.Path.{_≡_}
-use mathlib.Core.Bool.{true, false}
-use mathlib.Core.List.{List, [], _++_}
-use Prim.Native.Nat.{ℕ, _+_, _%_, _≤_, _<_}
-use lib.ListN.{length, getD, take, drop}
-use Rattle·wire.specs.Le.{number}
-use Rattle·card.specs.Layout.{setupOf, memberIn, configurationIn, generationIn}
-use Rattle·card.specs.Sound.{isSound}
-use Rattle·message.specs.Format.{responseOf}
-use Rattle·message.specs.Message.{messageOf}
-use Rattle·demands·specs.specs.Calls.{Reply, message, responded, step}
+use Rattle.std.specs.Prelude.{◌≡◌, true, false, List, [], ◌++◌, ℕ, ◌+◌, ◌%◌, ◌≤◌, ◌<◌, length, get_or, take, drop}
+use Rattle.wire.specs.Le.{number}
+use Rattle.card.specs.Layout.{setupOf, memberIn, configurationIn, generationIn}
+use Rattle.card.specs.Sound.{isSound}
+use Rattle.message.specs.Format.{responseOf}
+use Rattle.message.specs.Message.{messageOf}
+use Rattle.demands.specs.Calls.{Reply, message, responded, step}
 
 -- ---- the two requests ----
 
 -- the header of a request to device number d: the two low bits of its type are clear, its size is the number of bytes handed over
 pub record Header (x : List ℕ) (id d : ℕ) : Type 0 where
-  pub request : getD x 0 0 % 4 ≡ 0
-  pub kind : getD x 1 0 ≡ id
+  pub request : get_or x 0 0 % 4 ≡ 0
+  pub kind : get_or x 1 0 ≡ id
   pub device : number 2 2 x ≡ d
   pub size : number 6 2 x ≡ length x
 
@@ -42,8 +38,8 @@ pub record WriteRequest (x : List ℕ) (d sent offset : ℕ) (bs : List ℕ) : T
 -- device number d speaks for member d + 1 of a sound card, which is not marked
 pub record Reaches (c : List ℕ) (d : ℕ) : Type 0 where
   pub sound : isSound c ≡ true
-  pub here : d < setupOf c .members
-  pub unmarked : memberIn c (d + 1) .marked ≡ false
+  pub here : d < (setupOf c).members
+  pub unmarked : (memberIn c (d + 1)).marked ≡ false
 
 -- the bytes stand in the configuration, the generation has moved by one, and the response has both
 pub record Applied (c x : List ℕ) (m offset : ℕ) (bs d : List ℕ) (r : Reply) : Type 0 where
@@ -62,7 +58,7 @@ pub record Answered (c : List ℕ) (d : ℕ) (x : List ℕ) (room : ℕ) : Type 
       → step c (message x room) ≡ (c, responded (responseOf x (generationIn c (d + 1)) offset []))
   pub writes : (offset : ℕ) (bs : List ℕ) → WriteRequest x d (generationIn c (d + 1)) offset bs → 1 ≤ length bs
       → offset + length bs ≤ 12 → 20 + length bs ≤ room
-      → Applied c x (d + 1) offset bs (step c (message x room) .0) (step c (message x room) .1)
+      → Applied c x (d + 1) offset bs (step c (message x room)).0 (step c (message x room)).1
   pub notApplied : (sent offset : ℕ) (bs : List ℕ) → WriteRequest x d sent offset bs
       → (1 ≤ length bs → sent ≡ generationIn c (d + 1) → offset + length bs ≤ 12 → ⊥) → 20 ≤ room
       → step c (message x room) ≡ (c, responded (responseOf x (generationIn c (d + 1)) offset []))

@@ -1,21 +1,17 @@
 -- The calls of a sequence and one step of the card: SPEC 8. Assumes nothing.
-use mathlib.Core.Bool.{Bool, true, false, not}
-use mathlib.Core.List.{List, [], _∷_}
-use Prim.Native.Nat.{ℕ}
-use lib.Dec.{eqb}
-use lib.ListN.{length}
-use Rattle·theory.specs.Logic.{_and_, within}
-use Rattle·wire.specs.Le.{number}
-use Rattle·protocol.specs.declared.EventAnswer.{EventAnswer}
-use Rattle·protocol.specs.Answers.{eventNumber}
-use Rattle·protocol.specs.Opcodes.{namesMember}
-use Rattle·events.specs.Events.{handBack as handBackOf, wipe as wipeOf, resetCard, store}
-use Rattle·frame.specs.Frame.{opcodeOf, groupOf, targetOf}
-use Rattle·admin.specs.Command.{respond}
-use Rattle·staging.specs.Staging.{beginOf, feedOf, finishOf, dropOf}
-use Rattle·message.specs.Format.{lengthOf}
-use Rattle·message.specs.Access.{wholeOf, speaksFor}
-use Rattle·message.specs.Message.{answerOf}
+use Rattle.std.specs.Prelude.{Bool, true, false, not, List, [], ◌∷◌, ℕ, eqb, length}
+use Rattle.theory.specs.Logic.{◌and◌, within}
+use Rattle.wire.specs.Le.{number}
+use Rattle.protocol.specs.declared.EventAnswer.{EventAnswer}
+use Rattle.protocol.specs.Answers.{eventNumber}
+use Rattle.protocol.specs.Opcodes.{namesMember}
+use Rattle.events.specs.Events.{handBack as handBackOf, wipe as wipeOf, resetCard, store}
+use Rattle.frame.specs.Frame.{opcode_of, group_of, target_of}
+use Rattle.admin.specs.Command.{respond}
+use Rattle.staging.specs.Staging.{beginOf, feedOf, finishOf, dropOf}
+use Rattle.message.specs.Format.{length_of}
+use Rattle.message.specs.Access.{whole_of, speaksFor}
+use Rattle.message.specs.Message.{answer_of}
 
 -- SPEC 8.1: commands, hand backs, wipes, resets of the whole card and card stores, with any arguments. A command is the
 -- bytes of its request and the length of its reply buffer, whose bytes do not count
@@ -47,20 +43,20 @@ unfoldable pub refused : Reply → Bool
 refused (written []) = true
 refused (written (b ∷ bs)) = not (eqb (number 0 2 (b ∷ bs)) 0)
 refused (answered n) = not (eqb n 0)
-refused (responded bs) = eqb (lengthOf bs) 0
+refused (responded bs) = eqb (length_of bs) 0
 
 -- the card after a call and the reply to it, of what a command gives, an event, a restore in fragments and a message
 abbrev pub ofCommand : List ℕ × List ℕ → List ℕ × Reply
-ofCommand x = (x .0, written (x .1))
+ofCommand x = (x.0, written x.1)
 
 abbrev pub ofEvent : EventAnswer × List ℕ → List ℕ × Reply
-ofEvent x = (x .1, answered (eventNumber (x .0)))
+ofEvent x = (x.1, answered (eventNumber x.0))
 
 abbrev pub ofRestore : ℕ × List ℕ → List ℕ × Reply
-ofRestore x = (x .1, answered (x .0))
+ofRestore x = (x.1, answered x.0)
 
 abbrev pub ofMessage : List ℕ × List ℕ → List ℕ × Reply
-ofMessage x = (x .0, responded (x .1))
+ofMessage x = (x.0, responded x.1)
 
 -- one call on a card
 unfoldable pub step : List ℕ → Call → List ℕ × Reply
@@ -73,14 +69,14 @@ step c (restoreBegin m) = ofRestore (beginOf c m)
 step c (restoreFeed m x) = ofRestore (feedOf c m x)
 step c (restoreFinish m id) = ofRestore (finishOf c m id)
 step c (restoreDrop m) = ofRestore (dropOf c m)
-step c (message x room) = ofMessage (answerOf c x room)
+step c (message x room) = ofMessage (answer_of c x room)
 
 -- a call names m (01's term), SPEC 8.2: a command whose request is whole, of the group type 1 and for member m; a card
 -- store for m; a call of SPEC 13.6 that is for m; a whole read or write request to device number m - 1, in a buffer of any
 -- length. Whether it is refused does not matter
 unfoldable pub names : ℕ → Call → Bool
 names m (command r room) =
-    within 24 4096 (length r) and eqb (groupOf r) 1 and namesMember (opcodeOf r) and eqb (targetOf r) m
+    within 24 4096 (length r) and eqb (group_of r) 1 and namesMember (opcode_of r) and eqb (target_of r) m
 names m (handBack k) = false
 names m (wipe k generation) = false
 names m (cardReset generation) = false
@@ -89,7 +85,7 @@ names m (restoreBegin k) = eqb k m
 names m (restoreFeed k x) = eqb k m
 names m (restoreFinish k id) = eqb k m
 names m (restoreDrop k) = eqb k m
-names m (message x room) = speaksFor m (wholeOf x)
+names m (message x room) = speaksFor m (whole_of x)
 
 -- a reset of m, SPEC 8.3, by the call and its reply: a wipe of m that answers 0, or a reset of the whole card
 pub data Resets (m : ℕ) : Call → Reply → Type 0 where

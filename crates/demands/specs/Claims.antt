@@ -3,56 +3,51 @@
 -- that the contracts of the exported functions cite, or over the same without a lent buffer: respond for commandOf, answerOf
 -- for messageOf. A claim with hypotheses says which example meets them; where no file is named it is in
 -- ../proofs/ClaimsExample.antt. Assumes nothing.
-use mathlib.Core.Path.{_≡_}
-use mathlib.Core.Logic.{_≢_}
-use mathlib.Core.Bool.{true, false}
-use mathlib.Core.List.{List, [], _∷_, _++_}
-use Prim.Native.Nat.{ℕ, _+_, _≤_, _<_}
-use lib.ListN.{length, take, drop, replicate}
-use Rattle·theory.specs.Machine.{trace, run, seen, visible}
-use Rattle·protocol.specs.declared.EventAnswer.the-variants.{Done}
-use Rattle·frame.specs.Frame.{opcodeOf, targetOf}
-use Rattle·setups.specs.Claims.{Claims as PackedSetups}
-use Rattle·setups.specs.Examples.{SetupsWritten, SetupsRead, MembersAsked}
-use Rattle·card.specs.Layout.{inUseAt, recordSize, setupOf, isMember, recordAt, memberIn, countsOf, isMarked}
-use Rattle·card.specs.Sound.{isSound}
-use Rattle·events.specs.Events.{setupWith, setUp}
-use Rattle·admin.specs.Command.{respond, commandOf}
-use Rattle·host.specs.Examples.{RequestsBuilt, RepliesRead}
-use Rattle·staging.specs.Staging.{dropOf}
-use Rattle·staging.specs.Claims.{FinishIsPartsSet, HoldsJoined, CutAnywhere}
-use Rattle·difference.specs.Claims.{Claims as MergedLists}
-use Rattle·salvage.specs.Claims.{Claims as SalvagedLists}
-use Rattle·figures.specs.Claims.{HoweverCut, AddsUp, ExactNumbers, Sheets}
-use Rattle·figures.specs.Encoding.{SheetOfCaptures}
-use Rattle·demands·specs.specs.Calls.{Call, command, handBack, wipe, cardReset, cardStore, restoreBegin, restoreFeed, restoreFinish, restoreDrop, message, Reply, written, answered, responded, refused, step, names, Resets}
-use Rattle·demands·specs.specs.Exports.{ExportsStep}
-use Rattle·demands·specs.specs.Fresh.{SetupsDone, ResetsDone}
-use Rattle·demands·specs.specs.Stores.{StoresDone}
-use Rattle·demands·specs.specs.Statuses.{Statuses}
-use Rattle·demands·specs.specs.Reserved.{ReservedIgnored}
-use Rattle·demands·specs.specs.PartHeaders.{HeadersNotRead}
-use Rattle·demands·specs.specs.Examples.{ExamplesHold}
-use Rattle·demands·specs.specs.Numbers.{NumbersHold}
-use Rattle·demands·specs.specs.Lengths.{MissingIsZero, RestIsIgnored, NothingInUse, LengthExamplesHold}
-use Rattle·demands·specs.specs.QueueSizes.{RingsOnly, QueueExamplesHold}
-use Rattle·demands·specs.specs.QueueCounts.{SetUpFromPacked, QueuesKept, CountsInRange, CountExamplesHold}
-use Rattle·demands·specs.specs.Halves.{TwoHalves, MarkedRefused, StoresWork, MarkedIdle, HalvesExamplesHold}
-use Rattle·demands·specs.specs.WrongPrograms.{WrongProgramsRejected}
-use Rattle·demands·specs.specs.RoundTrip.{RoundTrip}
-use Rattle·demands·specs.specs.Lists.{MembersKnown, MergedSets, FoundCaptured, SalvagedAccepted}
-use Rattle·demands·specs.specs.Host.{Taken, ReadBack}
-use Rattle·demands·specs.specs.Places.{PlacesFound}
-use Rattle·demands·specs.specs.Answered.{MessagesAnswered}
-use Rattle·demands·specs.specs.Messages.{Responded, NothingApplied, OnlyConfiguration, ConfigurationKept, MessageExamplesHold}
-use Rattle·demands·specs.specs.Holding.{OnlyHolding, HoldingKept, HoldingEnded}
-use Rattle·demands·specs.specs.Restores.{RestoreExamplesHold}
-use Rattle·demands·specs.specs.Commutation.{Commutation, CommandsCommute}
-use Rattle·demands·specs.specs.Loads.{AnsweredExactly, RefusedUnwritten, LoadIsLent, LoadStored, LoadSet, LoadWiped, SetupAgain, ReadAlike, LoadExamplesHold}
+use Rattle.std.specs.Prelude.{◌≡◌, ◌≢◌, true, false, List, [], ◌∷◌, ◌++◌, ℕ, ◌+◌, ◌≤◌, ◌<◌, length, take, drop, replicate}
+use Rattle.theory.specs.Machine.{trace, run, seen, visible}
+use Rattle.protocol.specs.declared.EventAnswer.TheVariants.{Done}
+use Rattle.frame.specs.Frame.{opcode_of, target_of}
+use Rattle.setups.specs.Claims.{Claims as PackedSetups}
+use Rattle.setups.specs.Examples.{SetupsWritten, SetupsRead, MembersAsked}
+use Rattle.card.specs.Layout.{inUseAt, recordSize, setupOf, isMember, recordAt, memberIn, countsOf, isMarked}
+use Rattle.card.specs.Sound.{isSound}
+use Rattle.events.specs.Events.{setupWith, setUp}
+use Rattle.admin.specs.Command.{respond, commandOf}
+use Rattle.host.specs.Examples.{RequestsBuilt, RepliesRead}
+use Rattle.staging.specs.Staging.{dropOf}
+use Rattle.staging.specs.Claims.{FinishIsPartsSet, HoldsJoined, CutAnywhere}
+use Rattle.difference.specs.Claims.{Claims as MergedLists}
+use Rattle.salvage.specs.Claims.{Claims as SalvagedLists}
+use Rattle.figures.specs.Claims.{HoweverCut, AddsUp, ExactNumbers, Sheets}
+use Rattle.figures.specs.Encoding.{SheetOfCaptures}
+use Rattle.demands.specs.Calls.{Call, command, handBack, wipe, cardReset, cardStore, restoreBegin, restoreFeed, restoreFinish, restoreDrop, message, Reply, written, answered, responded, refused, step, names, Resets}
+use Rattle.demands.specs.Exports.{ExportsStep}
+use Rattle.demands.specs.Fresh.{SetupsDone, ResetsDone}
+use Rattle.demands.specs.Stores.{StoresDone}
+use Rattle.demands.specs.Statuses.{Statuses}
+use Rattle.demands.specs.Reserved.{ReservedIgnored}
+use Rattle.demands.specs.PartHeaders.{HeadersNotRead}
+use Rattle.demands.specs.Examples.{ExamplesHold}
+use Rattle.demands.specs.Numbers.{NumbersHold}
+use Rattle.demands.specs.Lengths.{MissingIsZero, RestIsIgnored, NothingInUse, LengthExamplesHold}
+use Rattle.demands.specs.QueueSizes.{RingsOnly, QueueExamplesHold}
+use Rattle.demands.specs.QueueCounts.{SetUpFromPacked, QueuesKept, CountsInRange, CountExamplesHold}
+use Rattle.demands.specs.Halves.{TwoHalves, MarkedRefused, StoresWork, MarkedIdle, HalvesExamplesHold}
+use Rattle.demands.specs.WrongPrograms.{WrongProgramsRejected}
+use Rattle.demands.specs.RoundTrip.{RoundTrip}
+use Rattle.demands.specs.Lists.{MembersKnown, MergedSets, FoundCaptured, SalvagedAccepted}
+use Rattle.demands.specs.Host.{Taken, ReadBack}
+use Rattle.demands.specs.Places.{PlacesFound}
+use Rattle.demands.specs.Answered.{MessagesAnswered}
+use Rattle.demands.specs.Messages.{Responded, NothingApplied, OnlyConfiguration, ConfigurationKept, MessageExamplesHold}
+use Rattle.demands.specs.Holding.{OnlyHolding, HoldingKept, HoldingEnded}
+use Rattle.demands.specs.Restores.{RestoreExamplesHold}
+use Rattle.demands.specs.Commutation.{Commutation, CommandsCommute}
+use Rattle.demands.specs.Loads.{AnsweredExactly, RefusedUnwritten, LoadIsLent, LoadStored, LoadSet, LoadWiped, SetupAgain, ReadAlike, LoadExamplesHold}
 
 -- No call makes a sound card unsound: SPEC 2.4. Example: sound-card
 abbrev pub StaysSound : Type 0
-StaysSound = (c : List ℕ) (x : Call) → isSound c ≡ true → isSound (step c x .0) ≡ true
+StaysSound = (c : List ℕ) (x : Call) → isSound c ≡ true → isSound (step c x).0 ≡ true
 
 -- ---- DEMAND 1, SPEC 9.1: every call is safe, whatever bytes it is given, and one that is refused changes nothing. ----
 
@@ -84,10 +79,10 @@ UnsoundRefused = (c : List ℕ) (x : Call) → isSound c ≡ false → step c x 
 -- What a command leaves is the card and the reply that `respond` gives for the buffer's length: the reply lies within
 -- the buffer, as many bytes as are reported, and the rest of the buffer is left as it was: SPEC 3.3
 pub record Delivers (c r b : List ℕ) : Type 0 where
-  pub card : commandOf c r b .1 .0 ≡ respond c r (length b) .0
-  pub reported : commandOf c r b .0 ≡ length (respond c r (length b) .1)
-  pub within : commandOf c r b .0 ≤ length b
-  pub buffer : commandOf c r b .1 .1 ≡ respond c r (length b) .1 ++ drop (commandOf c r b .0) b
+  pub card : (commandOf c r b).1.0 ≡ (respond c r (length b)).0
+  pub reported : (commandOf c r b).0 ≡ length (respond c r (length b)).1
+  pub within : (commandOf c r b).0 ≤ length b
+  pub buffer : (commandOf c r b).1.1 ≡ (respond c r (length b)).1 ++ drop (commandOf c r b).0 b
 
 abbrev pub Delivered : Type 0
 Delivered = (c r b : List ℕ) → Delivers c r b
@@ -103,23 +98,23 @@ afterRefusal c (wipe m generation) = c
 afterRefusal c (cardReset generation) = c
 afterRefusal c (cardStore m t s value) = c
 afterRefusal c (restoreBegin m) = c
-afterRefusal c (restoreFeed m x) = dropOf c m .1
-afterRefusal c (restoreFinish m id) = dropOf c m .1
+afterRefusal c (restoreFeed m x) = (dropOf c m).1
+afterRefusal c (restoreFinish m id) = (dropOf c m).1
 afterRefusal c (restoreDrop m) = c
 afterRefusal c (message x room) = c
 
 abbrev pub RefusalsChangeNothing : Type 0
-RefusalsChangeNothing = (c : List ℕ) (x : Call) → refused (step c x .1) ≡ true → step c x .0 ≡ afterRefusal c x
+RefusalsChangeNothing = (c : List ℕ) (x : Call) → refused (step c x).1 ≡ true → (step c x).0 ≡ afterRefusal c x
 
 -- Setup, done, gives a sound card of this setup, with this queue count for each member; refused, it makes every byte of
 -- the buffer zero, and zeros are not sound: SPEC 7.2. Examples: setup-done, setup-refused
 pub record SetsUp : Type 0 where
-  pub done : (b : List ℕ) (n : ℕ) (q : List ℕ) (g s : ℕ) (f : List ℕ) → setUp b n q g s f .0 ≡ Done
-      → (isSound (setUp b n q g s f .1) ≡ true)
-      × (setupOf (setUp b n q g s f .1) ≡ setupWith n g s f)
-      × (countsOf (setUp b n q g s f .1) ≡ q)
-  pub refused : (b : List ℕ) (n : ℕ) (q : List ℕ) (g s : ℕ) (f : List ℕ) → setUp b n q g s f .0 ≢ Done
-      → setUp b n q g s f .1 ≡ replicate (length b) 0
+  pub done : (b : List ℕ) (n : ℕ) (q : List ℕ) (g s : ℕ) (f : List ℕ) → (setUp b n q g s f).0 ≡ Done
+      → (isSound (setUp b n q g s f).1 ≡ true)
+      × (setupOf (setUp b n q g s f).1 ≡ setupWith n g s f)
+      × (countsOf (setUp b n q g s f).1 ≡ q)
+  pub refused : (b : List ℕ) (n : ℕ) (q : List ℕ) (g s : ℕ) (f : List ℕ) → (setUp b n q g s f).0 ≢ Done
+      → (setUp b n q g s f).1 ≡ replicate (length b) 0
   pub zeros : (n : ℕ) → isSound (replicate n 0) ≡ false
 
 -- ---- DEMAND 3, SPEC 9.3: after a reset of member m nothing of its former guest can be observed. ----
@@ -143,9 +138,9 @@ abbrev pub Isolation : Type 0
 Isolation =
     (c₁ c₂ : List ℕ) → isSound c₁ ≡ true → isSound c₂ ≡ true
     → (m : ℕ) → isMember c₁ m ≡ true → DifferAtMost m c₁ c₂
-    → isMarked c₁ m ≡ isMarked c₂ m → memberIn c₁ m .queues ≡ memberIn c₂ m .queues
+    → isMarked c₁ m ≡ isMarked c₂ m → (memberIn c₁ m).queues ≡ (memberIn c₂ m).queues
     → (p₁ p₂ : List Call) → visible (names m) p₁ ≡ visible (names m) p₂
-    → (r : Call) → Resets m r (step (run step c₁ p₁) r .1) → (t : List Call)
+    → (r : Call) → Resets m r (step (run step c₁ p₁) r).1 → (t : List Call)
     → seen (names m) (length p₁) (trace step c₁ (p₁ ++ r ∷ t)) ≡ seen (names m) (length p₂) (trace step c₂ (p₂ ++ r ∷ t))
 
 -- The calls that only read, SPEC 14, are no calls of a sequence. Under the same hypotheses all of them tell the same of both
@@ -154,9 +149,9 @@ abbrev pub LoadsIsolated : Type 0
 LoadsIsolated =
     (c₁ c₂ : List ℕ) → isSound c₁ ≡ true → isSound c₂ ≡ true
     → (m : ℕ) → isMember c₁ m ≡ true → DifferAtMost m c₁ c₂
-    → isMarked c₁ m ≡ isMarked c₂ m → memberIn c₁ m .queues ≡ memberIn c₂ m .queues
+    → isMarked c₁ m ≡ isMarked c₂ m → (memberIn c₁ m).queues ≡ (memberIn c₂ m).queues
     → (p₁ p₂ : List Call) → visible (names m) p₁ ≡ visible (names m) p₂
-    → (r : Call) → Resets m r (step (run step c₁ p₁) r .1) → (t : List Call)
+    → (r : Call) → Resets m r (step (run step c₁ p₁) r).1 → (t : List Call)
     → ReadAlike (run step c₁ (p₁ ++ r ∷ t)) (run step c₂ (p₂ ++ r ∷ t))
 
 -- Integrity, SPEC 9.4, beside isolation, on any card: what a call leaves alone. Examples: names-member, uses-list,
@@ -164,15 +159,15 @@ LoadsIsolated =
 pub record Integrity : Type 0 where
   -- one that names m, a hand back of m and a wipe of m changes m's record at most: the setup, the list in use and every
   -- other record stay
-  pub named : (c : List ℕ) (m : ℕ) (x : Call) → names m x ≡ true → DifferAtMost m (step c x .0) c
-  pub handedBack : (c : List ℕ) (m : ℕ) → DifferAtMost m (step c (handBack m) .0) c
-  pub wiped : (c : List ℕ) (m generation : ℕ) → DifferAtMost m (step c (wipe m generation) .0) c
+  pub named : (c : List ℕ) (m : ℕ) (x : Call) → names m x ≡ true → DifferAtMost m (step c x).0 c
+  pub handedBack : (c : List ℕ) (m : ℕ) → DifferAtMost m (step c (handBack m)).0 c
+  pub wiped : (c : List ℕ) (m generation : ℕ) → DifferAtMost m (step c (wipe m generation)).0 c
   -- list use changes the list in use alone
-  pub listUse : (c r : List ℕ) (room : ℕ) → opcodeOf r ≡ 0x01 → SameOutside inUseAt 8 (step c (command r room) .0) c
+  pub listUse : (c r : List ℕ) (room : ℕ) → opcode_of r ≡ 0x01 → SameOutside inUseAt 8 (step c (command r room)).0 c
   -- parts set keeps the member's mode and objects
-  pub partsSet : (c r : List ℕ) (room : ℕ) → opcodeOf r ≡ 0x10
-      → (memberIn (step c (command r room) .0) (targetOf r) .mode ≡ memberIn c (targetOf r) .mode)
-      × (memberIn (step c (command r room) .0) (targetOf r) .objects ≡ memberIn c (targetOf r) .objects)
+  pub partsSet : (c r : List ℕ) (room : ℕ) → opcode_of r ≡ 0x10
+      → ((memberIn (step c (command r room)).0 (target_of r)).mode ≡ (memberIn c (target_of r)).mode)
+      × ((memberIn (step c (command r room)).0 (target_of r)).objects ≡ (memberIn c (target_of r)).objects)
 
 -- ---- all claims ----
 

@@ -1,11 +1,7 @@
 -- REQUEST 12, SPEC 13.12: calls for different members, in any order. Assumes nothing.
-use mathlib.Core.Path.{_≡_}
-use mathlib.Core.Logic.{_≢_}
-use mathlib.Core.Bool.{true}
-use mathlib.Core.List.{List}
-use Prim.Native.Nat.{ℕ}
-use Rattle·theory.specs.Machine.{Swappable}
-use Rattle·demands·specs.specs.Calls.{Call, command, step, names}
+use Rattle.std.specs.Prelude.{◌≡◌, ◌≢◌, true, List, ℕ}
+use Rattle.theory.specs.Machine.{Swappable}
+use Rattle.demands.specs.Calls.{Call, command, step, names}
 
 -- In any sequence of calls on any card, p, then x and y, then t, where x and y name different members: x and y can
 -- change places. Each keeps its own reply, all other replies are the same one by one, and so is the card at the end,

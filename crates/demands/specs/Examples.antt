@@ -1,21 +1,18 @@
 -- THE WORKED EXAMPLES B1 to B12 and the metadata list, SPEC 10, in its order, as one table. Each has the calls that lead to it,
 -- the calls that it is about, and their replies. Assumes nothing.
-use mathlib.Core.Path.{_≡_}
-use mathlib.Core.List.{List, [], _∷_, _++_, map}
-use Prim.Native.Nat.{ℕ}
-use lib.ListN.{length, drop, replicate}
-use Rattle·theory.specs.Machine.{replies}
-use Rattle·wire.specs.Le.{bytes}
-use Rattle·card.specs.Layout.{cardSize}
-use Rattle·events.specs.Events.{setUp}
-use Rattle·demands·specs.specs.Calls.{Call, command, cardStore, Reply, written, answered, responded, step}
-use Rattle·host.specs.declared.Command.{Command}
-use Rattle·host.specs.declared.Command.the-variants as host
-use Rattle·host.specs.Request.{request, requestOf, getAll, setParts}
+use Rattle.std.specs.Prelude.{◌≡◌, List, [], ◌∷◌, ◌++◌, map, ℕ, length, drop, replicate}
+use Rattle.theory.specs.Machine.{replies}
+use Rattle.wire.specs.Le.{bytes}
+use Rattle.card.specs.Layout.{cardSize}
+use Rattle.events.specs.Events.{setUp}
+use Rattle.demands.specs.Calls.{Call, command, cardStore, Reply, written, answered, responded, step}
+use Rattle.host.specs.declared.Command.{Command}
+use Rattle.host.specs.declared.Command.TheVariants as host
+use Rattle.host.specs.Request.{request, requestOf, getAll, setParts}
 
 -- two members; one queue, one get object and one set object for each; features all zero
 unfoldable pub exampleCard : List ℕ
-exampleCard = setUp (replicate (cardSize 2) 0) 2 (1 ∷ 1 ∷ []) 1 1 (replicate 16 0) .1
+exampleCard = (setUp (replicate (cardSize 2) 0) 2 (1 ∷ 1 ∷ []) 1 1 (replicate 16 0)).1
 
 -- ---- calls ----
 
@@ -69,8 +66,8 @@ abbrev pub succeeds : Reply
 succeeds = gives []
 
 -- a number in 4 bytes, and four zero bytes
-abbrev pub aNumber : ℕ → List ℕ
-aNumber n = bytes 4 n ++ replicate 4 0
+abbrev pub a_number : ℕ → List ℕ
+a_number n = bytes 4 n ++ replicate 4 0
 
 -- ---- parts ----
 
@@ -85,7 +82,7 @@ abbrev pub header : ℕ → ℕ → ℕ → ℕ → Header
 header t f s n = record { partType = t; flags = f; selector = s; size = n }
 
 abbrev pub headerBytes : Header → List ℕ
-headerBytes h = bytes 2 (h .partType) ++ (h .flags ∷ 0 ∷ (bytes 8 (h .selector) ++ bytes 4 (h .size)))
+headerBytes h = bytes 2 h.partType ++ (h.flags ∷ 0 ∷ (bytes 8 h.selector ++ bytes 4 h.size))
 
 -- the metadata list of a member with one queue: SPEC 10.13
 unfoldable pub headersListed : List Header
@@ -107,7 +104,7 @@ unfoldable pub nineHeaders : List ℕ
 nineHeaders = joined headerBytes headersListed
 
 unfoldable pub nineParts : List ℕ
-nineParts = joined (λ h. headerBytes h ++ replicate (h .size) 0) headersListed
+nineParts = joined (λ h. headerBytes h ++ replicate h.size 0) headersListed
 
 -- device status 5; queue notify 1 to 8; driver features, all bytes b
 abbrev pub statusPart : List ℕ
@@ -149,7 +146,7 @@ workedExamples =
     -- B8 parts set, member running: 11/7
     ∷ example objectsLive (send (setParts 1 1 (driverPart 7)) ∷ []) (refuses 11 7 ∷ [])
     -- B9 count 9, size 229
-    ∷ example objectsLive (metadata 0 1 ∷ metadata 0 0 ∷ []) (gives (aNumber 9) ∷ gives (aNumber 229) ∷ [])
+    ∷ example objectsLive (metadata 0 1 ∷ metadata 0 0 ∷ []) (gives (a_number 9) ∷ gives (a_number 229) ∷ [])
     -- B10 selected: queue notify, then device status. The status comes first
     ∷ example objectsLive
     (cardStore 1 0x103 0 (5 ∷ []) ∷ cardStore 1 0x105 0 (1 ∷ 2 ∷ 3 ∷ 4 ∷ 5 ∷ 6 ∷ 7 ∷ 8 ∷ [])
@@ -162,27 +159,27 @@ workedExamples =
     -- B12 get-all: a buffer of 236 gives 12/6, of 237 succeeds
     ∷ example objectsLive (command (getAll 1 0) 236 ∷ command (getAll 1 0) 237 ∷ []) (refuses 12 6 ∷ gives nineParts ∷ [])
     -- the metadata list
-    ∷ example objectsLive (metadata 0 2 ∷ []) (gives (aNumber 9 ++ nineHeaders) ∷ [])
+    ∷ example objectsLive (metadata 0 2 ∷ []) (gives (a_number 9 ++ nineHeaders) ∷ [])
     ∷ []
 
 -- ---- the claim ----
 
 -- what a machine replies to the calls of an example
 unfoldable pub repliesTo : {State : Type 0} → (State → Call → State × Reply) → State → Example → List Reply
-repliesTo machine s e = drop (length (e .before)) (replies machine s (e .before ++ e .calls))
+repliesTo machine s e = drop (length e.before) (replies machine s (e.before ++ e.calls))
 
 -- bytes written in the last reply
-abbrev pub sizeOf : Reply → ℕ
-sizeOf (written bs) = length bs
-sizeOf (answered n) = 0
-sizeOf (responded bs) = length bs
+abbrev pub size_of : Reply → ℕ
+size_of (written bs) = length bs
+size_of (answered n) = 0
+size_of (responded bs) = length bs
 
 unfoldable pub lastSize : ℕ → List Reply → ℕ
 lastSize n [] = n
-lastSize n (r ∷ rs) = lastSize (sizeOf r) rs
+lastSize n (r ∷ rs) = lastSize (size_of r) rs
 
 -- the whole table, and the bytes written: B1 16 .. B10 49, B11 and B12 237, the list 160
 pub record ExamplesHold : Type 0 where
-  pub replies : map (repliesTo step exampleCard) workedExamples ≡ map (λ (e : Example). e .expected) workedExamples
+  pub replies : map (repliesTo step exampleCard) workedExamples ≡ map (λ (e : Example). e.expected) workedExamples
   pub sizes : map (λ (e : Example). lastSize 0 (repliesTo step exampleCard e)) workedExamples
       ≡ 16 ∷ 8 ∷ 8 ∷ 8 ∷ 8 ∷ 8 ∷ 8 ∷ 8 ∷ 16 ∷ 49 ∷ 237 ∷ 237 ∷ 160 ∷ []

@@ -1,33 +1,29 @@
 -- SETUP AND RESETS, SPEC 7.2 to 7.4: when setup is done, and what is fresh (01's term) after it, after a wipe and after a card
 -- reset. The numbers are those of the papers, apart from the definitions. Examples: ../proofs/FreshExample.antt. Assumes nothing.
-use mathlib.Core.Path.{_≡_}
-use mathlib.Core.Bool.{true, false}
-use mathlib.Core.List.{List, _++_}
-use Prim.Native.Nat.{ℕ, _+_, _-_, _*_, _≤_, _<_}
-use lib.ListN.{length, getD, replicate}
-use Rattle·protocol.specs.declared.Mode.the-variants.{Running}
-use Rattle·objects.specs.declared.Found.the-variants.{Nothing}
-use Rattle·member.specs.Objects.{lookupOf}
-use Rattle·setups.specs.declared.Setup as setups
-use Rattle·setups.specs.Reading.{readNumber, readAs, readSetup}
-use Rattle·setups.specs.Accepted.{GoodSetup}
-use Rattle·setups.specs.Claims.{countsRead}
-use Rattle·card.specs.Layout.{setupOf, inUseOf, memberIn, countsOf, isMarked, configurationIn, generationIn, holdingIn}
-use Rattle·card.specs.Sound.{isSound}
-use Rattle·events.specs.Events.{setupWith, setUp, setUpFrom, numbered}
-use Rattle·demands·specs.specs.Calls.{wipe, cardReset, answered, step}
+use Rattle.std.specs.Prelude.{◌≡◌, true, false, List, ◌++◌, ℕ, ◌+◌, ◌-◌, ◌*◌, ◌≤◌, ◌<◌, length, get_or, replicate}
+use Rattle.protocol.specs.declared.Mode.TheVariants.{Running}
+use Rattle.objects.specs.declared.Found.TheVariants.{Nothing}
+use Rattle.member.specs.Objects.{lookupOf}
+use Rattle.setups.specs.declared.Setup as setups
+use Rattle.setups.specs.Reading.{readNumber, readAs, readSetup}
+use Rattle.setups.specs.Accepted.{GoodSetup}
+use Rattle.setups.specs.Claims.{countsRead}
+use Rattle.card.specs.Layout.{setupOf, inUseOf, memberIn, countsOf, isMarked, configurationIn, generationIn, holdingIn}
+use Rattle.card.specs.Sound.{isSound}
+use Rattle.events.specs.Events.{setupWith, setUp, setUpFrom, numbered}
+use Rattle.demands.specs.Calls.{wipe, cardReset, answered, step}
 
 -- ---- fresh ----
 
 -- It runs and is not marked, has this queue count, no object and no holding place, the setup's device features and zeros for
 -- every other value, a configuration of zeros, and this generation
 pub record FreshMember (c : List ℕ) (m queues : ℕ) (features : List ℕ) (generation : ℕ) : Type 0 where
-  pub runs : memberIn c m .mode ≡ Running
-  pub unmarked : memberIn c m .marked ≡ false
-  pub count : memberIn c m .queues ≡ queues
+  pub runs : (memberIn c m).mode ≡ Running
+  pub unmarked : (memberIn c m).marked ≡ false
+  pub count : (memberIn c m).queues ≡ queues
   pub noObject : (id : ℕ) → lookupOf (memberIn c m) id ≡ Nothing
-  pub noPlace : memberIn c m .held ≡ 0
-  pub values : memberIn c m .values ≡ features ++ replicate 189 0
+  pub noPlace : (memberIn c m).held ≡ 0
+  pub values : (memberIn c m).values ≡ features ++ replicate 189 0
   pub configuration : configurationIn c m ≡ replicate 12 0
   pub generationIs : generationIn c m ≡ generation
   pub holding : holdingIn c m ≡ replicate 1024 0
@@ -38,7 +34,7 @@ pub record FreshCard (c : List ℕ) (members : ℕ) (queues : List ℕ) (gets se
   pub long : length c ≡ 27 + 1266 * members
   pub setup : setupOf c ≡ setupWith members gets sets features
   pub inUse : inUseOf c ≡ 3
-  pub member : (m : ℕ) → 1 ≤ m → m ≤ members → FreshMember c m (getD queues (m - 1) 0) features generation
+  pub member : (m : ℕ) → 1 ≤ m → m ≤ members → FreshMember c m (get_or queues (m - 1) 0) features generation
 
 -- ---- setup ----
 
@@ -46,8 +42,8 @@ pub record FreshCard (c : List ℕ) (members : ℕ) (queues : List ℕ) (gets se
 -- generation 0; else 4, and every byte of the buffer becomes zero
 pub record SetupDone (b : List ℕ) (members : ℕ) (queues : List ℕ) (gets sets : ℕ) (features : List ℕ) : Type 0 where
   pub done : GoodSetup members queues gets sets features → length b ≡ 27 + 1266 * members
-      → (numbered (setUp b members queues gets sets features) .0 ≡ 0)
-      × FreshCard (setUp b members queues gets sets features .1) members queues gets sets features 0
+      → ((numbered (setUp b members queues gets sets features)).0 ≡ 0)
+      × FreshCard (setUp b members queues gets sets features).1 members queues gets sets features 0
   pub bad : (GoodSetup members queues gets sets features → ⊥)
       → numbered (setUp b members queues gets sets features) ≡ (4, replicate (length b) 0)
   pub otherLength : (length b ≡ 27 + 1266 * members → ⊥)
@@ -55,11 +51,11 @@ pub record SetupDone (b : List ℕ) (members : ℕ) (queues : List ℕ) (gets se
 
 -- The same of the bytes of a packed setup, which is one that is read
 pub record SetupFromDone (b l : List ℕ) : Type 0 where
-  pub done : (s : setups.Setup) → readSetup l ≡ readAs s → length b ≡ 27 + 1266 * s .members
-      → (numbered (setUpFrom b l) .0 ≡ 0)
-      × FreshCard (setUpFrom b l .1) (s .members) (countsRead s) (s .gets) (s .sets) (s .features) 0
-  pub bad : (readNumber (readSetup l .answer) ≡ 0 → ⊥) → numbered (setUpFrom b l) ≡ (4, replicate (length b) 0)
-  pub otherLength : (s : setups.Setup) → readSetup l ≡ readAs s → (length b ≡ 27 + 1266 * s .members → ⊥)
+  pub done : (s : setups.Setup) → readSetup l ≡ readAs s → length b ≡ 27 + 1266 * s.members
+      → ((numbered (setUpFrom b l)).0 ≡ 0)
+      × FreshCard (setUpFrom b l).1 s.members (countsRead s) s.gets s.sets s.features 0
+  pub bad : (readNumber (readSetup l).answer ≡ 0 → ⊥) → numbered (setUpFrom b l) ≡ (4, replicate (length b) 0)
+  pub otherLength : (s : setups.Setup) → readSetup l ≡ readAs s → (length b ≡ 27 + 1266 * s.members → ⊥)
       → numbered (setUpFrom b l) ≡ (4, replicate (length b) 0)
 
 pub record SetupsDone : Type 0 where
@@ -72,9 +68,9 @@ pub record SetupsDone : Type 0 where
 -- On a sound card a wipe of a marked member and a card reset answer 0, and give the generation that they carry
 pub record ResetsDone : Type 0 where
   pub wipes : (c : List ℕ) (m generation : ℕ) → isSound c ≡ true → isMarked c m ≡ true → generation < 4294967296
-      → (step c (wipe m generation) .1 ≡ answered 0)
-      × FreshMember (step c (wipe m generation) .0) m (memberIn c m .queues) (setupOf c .features) generation
+      → ((step c (wipe m generation)).1 ≡ answered 0)
+      × FreshMember (step c (wipe m generation)).0 m (memberIn c m).queues (setupOf c).features generation
   pub resets : (c : List ℕ) (generation : ℕ) → isSound c ≡ true → generation < 4294967296
-      → (step c (cardReset generation) .1 ≡ answered 0)
-      × FreshCard (step c (cardReset generation) .0) (setupOf c .members) (countsOf c) (setupOf c .gets) (setupOf c .sets)
-      (setupOf c .features) generation
+      → ((step c (cardReset generation)).1 ≡ answered 0)
+      × FreshCard (step c (cardReset generation)).0 (setupOf c).members (countsOf c) (setupOf c).gets (setupOf c).sets
+      (setupOf c).features generation

@@ -1,30 +1,26 @@
 -- REQUEST 10, SPEC 13.10: a reset in two halves. What is claimed of it, and worked examples, on the card of Examples.antt and in
 -- its form. Assumes nothing.
-use mathlib.Core.Path.{_≡_}
-use mathlib.Core.Bool.{true, false}
-use mathlib.Core.List.{List, [], _∷_, _++_, map}
-use Prim.Native.Nat.{ℕ, _+_, _*_, _≤_}
-use lib.ListN.{replicate}
-use Rattle·protocol.specs.declared.Answer.the-variants.{Marked}
-use Rattle·protocol.specs.declared.Mode.the-variants.{Stopped}
-use Rattle·frame.specs.Frame.{opcodeOf}
-use Rattle·frame.specs.Ask.{usable}
-use Rattle·objects.specs.declared.Found.the-variants.{Nothing}
-use Rattle·member.specs.Objects.{lookupOf}
-use Rattle·card.specs.Layout.{inUseOf, isMember, memberIn, isMarked}
-use Rattle·card.specs.Sound.{isSound}
-use Rattle·events.specs.Events.{resetMember}
-use Rattle·reply.specs.Reply.{headOf}
-use Rattle·host.specs.Request.{getAll}
-use Rattle·demands·specs.specs.Calls.{handBack, wipe, cardReset, cardStore, restoreBegin, restoreFeed, restoreDrop, message, answered, step, command, restoreFinish, written, responded, names}
-use Rattle·demands·specs.specs.Messages.{readFrom, writeTo, fourBytes, busOutcome, hasRead}
-use Rattle·demands·specs.specs.Examples.{exampleCard, send, useList, create, setMode, allUsed, objectsLive, refuses, gives, succeeds, nineParts, Example, example, repliesTo}
+use Rattle.std.specs.Prelude.{◌≡◌, true, false, List, [], ◌∷◌, ◌++◌, map, ℕ, ◌+◌, ◌*◌, ◌≤◌, replicate}
+use Rattle.protocol.specs.declared.Answer.TheVariants.{Marked}
+use Rattle.protocol.specs.declared.Mode.TheVariants.{Stopped}
+use Rattle.frame.specs.Frame.{opcode_of}
+use Rattle.frame.specs.Ask.{usable}
+use Rattle.objects.specs.declared.Found.TheVariants.{Nothing}
+use Rattle.member.specs.Objects.{lookupOf}
+use Rattle.card.specs.Layout.{inUseOf, isMember, memberIn, isMarked}
+use Rattle.card.specs.Sound.{isSound}
+use Rattle.events.specs.Events.{resetMember}
+use Rattle.reply.specs.Reply.{head_of}
+use Rattle.host.specs.Request.{getAll}
+use Rattle.demands.specs.Calls.{handBack, wipe, cardReset, cardStore, restoreBegin, restoreFeed, restoreDrop, message, answered, step, command, restoreFinish, written, responded, names}
+use Rattle.demands.specs.Messages.{readFrom, writeTo, fourBytes, busOutcome, hasRead}
+use Rattle.demands.specs.Examples.{exampleCard, send, useList, create, setMode, allUsed, objectsLive, refuses, gives, succeeds, nineParts, Example, example, repliesTo}
 
 -- The two in a row do what member reset did: on a sound card, for a member that is not marked, both answer 0 and leave
 -- the card that `resetMember` gives. Example: ../proofs/HalvesExample.antt
 pub record DoesReset (c : List ℕ) (m generation : ℕ) : Type 0 where
-  pub handsBack : step c (handBack m) .1 ≡ answered 0
-  pub wipes : step (step c (handBack m) .0) (wipe m generation) ≡ (resetMember c m generation .1, answered 0)
+  pub handsBack : (step c (handBack m)).1 ≡ answered 0
+  pub wipes : step (step c (handBack m)).0 (wipe m generation) ≡ ((resetMember c m generation).1, answered 0)
 
 abbrev pub TwoHalves : Type 0
 TwoHalves =
@@ -37,8 +33,8 @@ abbrev pub refusesMarked : ℕ
 refusesMarked = 11 + 65536 * 7
 
 pub record Between (c : List ℕ) (m : ℕ) : Type 0 where
-  pub commands : (r : List ℕ) (room : ℕ) → names m (command r room) ≡ true → usable (inUseOf c) (opcodeOf r) ≡ true → 8 ≤ room
-      → step c (command r room) ≡ (c, written (headOf Marked))
+  pub commands : (r : List ℕ) (room : ℕ) → names m (command r room) ≡ true → usable (inUseOf c) (opcode_of r) ≡ true → 8 ≤ room
+      → step c (command r room) ≡ (c, written (head_of Marked))
   pub begins : step c (restoreBegin m) ≡ (c, answered refusesMarked)
   pub feeds : (x : List ℕ) → step c (restoreFeed m x) ≡ (c, answered refusesMarked)
   pub finishes : (id : ℕ) → step c (restoreFinish m id) ≡ (c, answered refusesMarked)
@@ -51,8 +47,8 @@ MarkedRefused = (c : List ℕ) (m : ℕ) → isSound c ≡ true → isMarked c m
 -- Card stores still work: one for m is answered as before the hand back, and leaves the card that a hand back after it leaves.
 -- Example: ../proofs/HalvesExample.antt
 pub record StoredAlike (c : List ℕ) (m t s : ℕ) (value : List ℕ) : Type 0 where
-  pub answer : step (step c (handBack m) .0) (cardStore m t s value) .1 ≡ step c (cardStore m t s value) .1
-  pub card : step (step c (handBack m) .0) (cardStore m t s value) .0 ≡ step (step c (cardStore m t s value) .0) (handBack m) .0
+  pub answer : (step (step c (handBack m)).0 (cardStore m t s value)).1 ≡ (step c (cardStore m t s value)).1
+  pub card : (step (step c (handBack m)).0 (cardStore m t s value)).0 ≡ (step (step c (cardStore m t s value)).0 (handBack m)).0
 
 abbrev pub StoresWork : Type 0
 StoresWork =
@@ -60,9 +56,9 @@ StoresWork =
 
 -- A marked member of a sound card is stopped, with no live object and no holding place. Example: ../proofs/HalvesExample.antt
 pub record Idle (c : List ℕ) (m : ℕ) : Type 0 where
-  pub stopped : memberIn c m .mode ≡ Stopped
+  pub stopped : (memberIn c m).mode ≡ Stopped
   pub noObject : (id : ℕ) → lookupOf (memberIn c m) id ≡ Nothing
-  pub noPlace : memberIn c m .held ≡ 0
+  pub noPlace : (memberIn c m).held ≡ 0
 
 abbrev pub MarkedIdle : Type 0
 MarkedIdle = (c : List ℕ) (m : ℕ) → isSound c ≡ true → isMarked c m ≡ true → Idle c m
@@ -97,4 +93,4 @@ halvesExamples =
     ∷ []
 
 abbrev pub HalvesExamplesHold : Type 0
-HalvesExamplesHold = map (repliesTo step exampleCard) halvesExamples ≡ map (λ (e : Example). e .expected) halvesExamples
+HalvesExamplesHold = map (repliesTo step exampleCard) halvesExamples ≡ map (λ (e : Example). e.expected) halvesExamples

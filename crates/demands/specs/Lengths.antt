@@ -1,42 +1,37 @@
 -- REQUEST 2, SPEC 13.2: requests of any length. What is claimed of them, and worked examples, on the card of Examples.antt and
 -- in its form. The program worked_examples runs L1 to L7. The hypotheses are met in ../proofs/LengthExamples.antt. Assumes
 -- nothing.
-use mathlib.Core.Path.{_≡_}
-use mathlib.Core.Logic.{_≢_}
-use mathlib.Core.Bool.{true, false}
-use mathlib.Core.List.{List, [], _∷_, _++_, map}
-use Prim.Native.Nat.{ℕ, _+_, _≤_}
-use lib.ListN.{replicate, length}
-use Rattle·wire.specs.Le.{bytes}
-use Rattle·protocol.specs.Opcodes.{opcodeRow, fixedSize, bit}
-use Rattle·frame.specs.Frame.{opcodeOf}
-use Rattle·card.specs.Layout.{inUseOf}
-use Rattle·card.specs.Sound.{isSound}
-use Rattle·admin.specs.Command.{respond}
-use Rattle·host.specs.Request.{request, objectHeader, setParts}
-use Rattle·demands·specs.specs.Calls.{Call, command, cardReset, answered, refused, step}
-use Rattle·demands·specs.specs.Examples.{exampleCard, send, useList, setMode, allUsed, objectsLive, refuses, gives, succeeds, aNumber, header, headerBytes, nineParts, driverPart, Example, example, repliesTo}
+use Rattle.std.specs.Prelude.{◌≡◌, ◌≢◌, true, false, List, [], ◌∷◌, ◌++◌, map, ℕ, ◌+◌, ◌≤◌, replicate, length}
+use Rattle.wire.specs.Le.{bytes}
+use Rattle.protocol.specs.Opcodes.{opcodeRow, fixedSize, bit}
+use Rattle.frame.specs.Frame.{opcode_of}
+use Rattle.card.specs.Layout.{inUseOf}
+use Rattle.card.specs.Sound.{isSound}
+use Rattle.admin.specs.Command.{respond}
+use Rattle.host.specs.Request.{request, objectHeader, setParts}
+use Rattle.demands.specs.Calls.{Call, command, cardReset, answered, refused, step}
+use Rattle.demands.specs.Examples.{exampleCard, send, useList, setMode, allUsed, objectsLive, refuses, gives, succeeds, a_number, header, headerBytes, nineParts, driverPart, Example, example, repliesTo}
 
 -- Whatever the card is, zeros more at the end of a request change neither the card after it nor its reply, as long as
 -- they stay within the fixed fields of its command: what is missing reads as zero. Example: cut-create
 abbrev pub MissingIsZero : Type 0
 MissingIsZero =
-    (c r : List ℕ) (n room : ℕ) → 24 ≤ length r → length r + n ≤ 24 + fixedSize (opcodeOf r)
+    (c r : List ℕ) (n room : ℕ) → 24 ≤ length r → length r + n ≤ 24 + fixedSize (opcode_of r)
     → respond c (r ++ replicate n 0) room ≡ respond c r room
 
 -- Nor do any bytes past the fixed fields of a command that has no open list, up to 4,096 in all. Example: whole-create
 abbrev pub RestIsIgnored : Type 0
 RestIsIgnored =
-    (c r x : List ℕ) (room : ℕ) → 24 + fixedSize (opcodeOf r) ≤ length r → opcodeRow (opcodeOf r) .listed ≡ false
+    (c r x : List ℕ) (room : ℕ) → 24 + fixedSize (opcode_of r) ≤ length r → (opcodeRow (opcode_of r)).listed ≡ false
     → length r + length x ≤ 4096 → respond c (r ++ x) room ≡ respond c r room
 
 -- Empty list use leaves nothing in use. Then every command is refused, until a reset of the card: no other call puts a command
 -- in use. Example: empty-use
 pub record NothingInUse : Type 0 where
   pub emptied : (c : List ℕ) (m room : ℕ) → isSound c ≡ true → bit (inUseOf c) 0x01 ≡ true → 8 ≤ room
-      → inUseOf (step c (command (request 0x01 1 m []) room) .0) ≡ 0
-  pub blocks : (c r : List ℕ) (room : ℕ) → inUseOf c ≡ 0 → refused (step c (command r room) .1) ≡ true
-  pub lasts : (c : List ℕ) (x : Call) → inUseOf c ≡ 0 → ((generation : ℕ) → x ≢ cardReset generation) → inUseOf (step c x .0) ≡ 0
+      → inUseOf (step c (command (request 0x01 1 m []) room)).0 ≡ 0
+  pub blocks : (c r : List ℕ) (room : ℕ) → inUseOf c ≡ 0 → refused (step c (command r room)).1 ≡ true
+  pub lasts : (c : List ℕ) (x : Call) → inUseOf c ≡ 0 → ((generation : ℕ) → x ≢ cardReset generation) → inUseOf (step c x).0 ≡ 0
 
 -- ---- worked examples ----
 
@@ -87,7 +82,7 @@ lengthExamples =
     -- L12 the request of L7 through an object that is not live: 6/1
     ∷ example allUsed (send getHalf ∷ []) (refuses 6 1 ∷ [])
     -- L13 parts get and metadata of no data: object 0, selected, an empty list; and the size
-    ∷ example objectsLive (sendData 0x0f [] ∷ sendData 0x0e [] ∷ []) (succeeds ∷ gives (aNumber 229) ∷ [])
+    ∷ example objectsLive (sendData 0x0f [] ∷ sendData 0x0e [] ∷ []) (succeeds ∷ gives (a_number 229) ∷ [])
     -- L14 parts set of 5 bytes: object 1 and an empty list; of 9, a list that is cut
     ∷ example objectsLive (setMode 1 1 ∷ sendData 0x10 cutHeader ∷ sendData 0x10 (objectHeader 1 ++ (0 ∷ [])) ∷ [])
     (succeeds ∷ succeeds ∷ refuses 22 3 ∷ [])
@@ -96,4 +91,4 @@ lengthExamples =
     ∷ []
 
 abbrev pub LengthExamplesHold : Type 0
-LengthExamplesHold = map (repliesTo step exampleCard) lengthExamples ≡ map (λ (e : Example). e .expected) lengthExamples
+LengthExamplesHold = map (repliesTo step exampleCard) lengthExamples ≡ map (λ (e : Example). e.expected) lengthExamples

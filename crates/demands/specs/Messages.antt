@@ -1,26 +1,22 @@
 -- REQUEST 3, SPEC 13.3: configuration by message. What is claimed of it, and worked examples, on the card of Examples.antt and in
 -- its form. The hypotheses are met in ../proofs/MessageExample.antt. Assumes nothing.
-use mathlib.Core.Path.{_≡_}
-use mathlib.Core.Bool.{true, false}
-use mathlib.Core.List.{List, [], _∷_, _++_, map}
-use Prim.Native.Nat.{ℕ, _+_, _≤_}
-use lib.ListN.{length, drop, replicate}
-use Rattle·wire.specs.Le.{bytes}
-use Rattle·card.specs.Layout.{setupOf, inUseOf, isMember, memberIn, holdingIn, configurationIn, generationIn}
-use Rattle·message.specs.Format.{lengthOf}
-use Rattle·message.specs.Message.{answerOf, messageOf}
-use Rattle·demands·specs.specs.Calls.{Call, command, handBack, wipe, cardReset, cardStore, restoreBegin, restoreFeed, restoreFinish, restoreDrop, message, Reply, answered, responded, step, names}
-use Rattle·demands·specs.specs.Examples.{exampleCard, Example, example, repliesTo}
+use Rattle.std.specs.Prelude.{◌≡◌, true, false, List, [], ◌∷◌, ◌++◌, map, ℕ, ◌+◌, ◌≤◌, length, drop, replicate}
+use Rattle.wire.specs.Le.{bytes}
+use Rattle.card.specs.Layout.{setupOf, inUseOf, isMember, memberIn, holdingIn, configurationIn, generationIn}
+use Rattle.message.specs.Format.{length_of}
+use Rattle.message.specs.Message.{answer_of, messageOf}
+use Rattle.demands.specs.Calls.{Call, command, handBack, wipe, cardReset, cardStore, restoreBegin, restoreFeed, restoreFinish, restoreDrop, message, Reply, answered, responded, step, names}
+use Rattle.demands.specs.Examples.{exampleCard, Example, example, repliesTo}
 
 -- ---- the claims ----
 
--- What a message leaves is the card and the response that `answerOf` gives for the buffer's length: the response lies within
+-- What a message leaves is the card and the response that `answer_of` gives for the buffer's length: the response lies within
 -- the buffer, as many bytes as are reported, and the rest of the buffer is left as it was
 pub record Responds (c x b : List ℕ) : Type 0 where
-  pub card : messageOf c x b .1 .0 ≡ answerOf c x (length b) .0
-  pub reported : messageOf c x b .0 ≡ length (answerOf c x (length b) .1)
-  pub within : messageOf c x b .0 ≤ length b
-  pub buffer : messageOf c x b .1 .1 ≡ answerOf c x (length b) .1 ++ drop (messageOf c x b .0) b
+  pub card : (messageOf c x b).1.0 ≡ (answer_of c x (length b)).0
+  pub reported : (messageOf c x b).0 ≡ length (answer_of c x (length b)).1
+  pub within : (messageOf c x b).0 ≤ length b
+  pub buffer : (messageOf c x b).1.1 ≡ (answer_of c x (length b)).1 ++ drop (messageOf c x b).0 b
 
 abbrev pub Responded : Type 0
 Responded = (c x b : List ℕ) → Responds c x b
@@ -28,8 +24,8 @@ Responded = (c x b : List ℕ) → Responds c x b
 -- Where there is no response, the bus outcome, nothing is written and nothing changes, and after an answer of length 0 the card
 -- is as it was. Examples: no-response, no-data
 pub record NothingApplied : Type 0 where
-  pub busOutcome : (c x b : List ℕ) → messageOf c x b .0 ≡ 0 → messageOf c x b ≡ (0, (c, b))
-  pub lengthZero : (c x b : List ℕ) → lengthOf (answerOf c x (length b) .1) ≡ 0 → messageOf c x b .1 .0 ≡ c
+  pub busOutcome : (c x b : List ℕ) → (messageOf c x b).0 ≡ 0 → messageOf c x b ≡ (0, (c, b))
+  pub lengthZero : (c x b : List ℕ) → length_of (answer_of c x (length b)).1 ≡ 0 → (messageOf c x b).1.0 ≡ c
 
 -- A message touches the configuration and the generation of the member that it names, and nothing else: no setup, no list in
 -- use, no member's mode, objects, parts or holding place, and no other member's configuration. Examples: member-here, names-other
@@ -44,20 +40,20 @@ pub record SameConfiguration (c d : List ℕ) (m : ℕ) : Type 0 where
   pub generation : generationIn d m ≡ generationIn c m
 
 pub record OnlyConfiguration : Type 0 where
-  pub own : (c : List ℕ) (m : ℕ) → isMember c m ≡ true → (x : List ℕ) (room : ℕ) → SameButConfiguration c (step c (message x room) .0) m
+  pub own : (c : List ℕ) (m : ℕ) → isMember c m ≡ true → (x : List ℕ) (room : ℕ) → SameButConfiguration c (step c (message x room)).0 m
   pub others : (c : List ℕ) (m : ℕ) → isMember c m ≡ true → (x : List ℕ) (room : ℕ) → names m (message x room) ≡ false
-      → SameConfiguration c (step c (message x room) .0) m
+      → SameConfiguration c (step c (message x room)).0 m
 
 -- No command, card store, hand back or call of a restore touches a configuration, whomever it is for: messages, wipes and resets
 -- of the card alone do. Example: member-here
 pub record KeepsConfiguration (c : List ℕ) (m : ℕ) : Type 0 where
-  pub commands : (r : List ℕ) (room : ℕ) → SameConfiguration c (step c (command r room) .0) m
-  pub cardStores : (k t s : ℕ) (value : List ℕ) → SameConfiguration c (step c (cardStore k t s value) .0) m
-  pub handBacks : (k : ℕ) → SameConfiguration c (step c (handBack k) .0) m
-  pub begins : (k : ℕ) → SameConfiguration c (step c (restoreBegin k) .0) m
-  pub feeds : (k : ℕ) (x : List ℕ) → SameConfiguration c (step c (restoreFeed k x) .0) m
-  pub finishes : (k id : ℕ) → SameConfiguration c (step c (restoreFinish k id) .0) m
-  pub drops : (k : ℕ) → SameConfiguration c (step c (restoreDrop k) .0) m
+  pub commands : (r : List ℕ) (room : ℕ) → SameConfiguration c (step c (command r room)).0 m
+  pub cardStores : (k t s : ℕ) (value : List ℕ) → SameConfiguration c (step c (cardStore k t s value)).0 m
+  pub handBacks : (k : ℕ) → SameConfiguration c (step c (handBack k)).0 m
+  pub begins : (k : ℕ) → SameConfiguration c (step c (restoreBegin k)).0 m
+  pub feeds : (k : ℕ) (x : List ℕ) → SameConfiguration c (step c (restoreFeed k x)).0 m
+  pub finishes : (k id : ℕ) → SameConfiguration c (step c (restoreFinish k id)).0 m
+  pub drops : (k : ℕ) → SameConfiguration c (step c (restoreDrop k)).0 m
 
 abbrev pub ConfigurationKept : Type 0
 ConfigurationKept = (c : List ℕ) (m : ℕ) → isMember c m ≡ true → KeepsConfiguration c m
@@ -150,4 +146,4 @@ messageExamples =
     ∷ []
 
 abbrev pub MessageExamplesHold : Type 0
-MessageExamplesHold = map (repliesTo step exampleCard) messageExamples ≡ map (λ (e : Example). e .expected) messageExamples
+MessageExamplesHold = map (repliesTo step exampleCard) messageExamples ≡ map (λ (e : Example). e.expected) messageExamples

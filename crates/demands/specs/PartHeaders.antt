@@ -1,20 +1,15 @@
 -- DEMAND 2: what is not read of the header of a part, SPEC 5.1, 5.4 and 5.6: its reserved byte, the selector bytes that its type does
 -- not name, the flags of a part that the member has got; and of a header that is asked for its flags and its length too. Assumes
 -- nothing.
-use mathlib.Core.Path.{_≡_}
-use mathlib.Core.Bool.{false}
-use mathlib.Core.List.{List, _++_}
-use Prim.Native.Nat.{ℕ}
-use lib.Dec.{eqb}
-use lib.ListN.{length, getD}
-use Rattle·theory.specs.Logic.{if_then_else_, _or_}
-use Rattle·theory.specs.Bytes.{bytesAt}
-use Rattle·wire.specs.Le.{number}
-use Rattle·inventory.specs.Inventory.{selectorOf}
-use Rattle·rules.specs.Rules.{known}
-use Rattle·card.specs.Layout.{memberIn}
-use Rattle·frame.specs.Frame.{opcodeOf, targetOf}
-use Rattle·admin.specs.Command.{respond}
+use Rattle.std.specs.Prelude.{◌≡◌, false, List, ◌++◌, ℕ, eqb, length, get_or}
+use Rattle.theory.specs.Logic.{if◌then◌else◌, ◌or◌}
+use Rattle.theory.specs.Bytes.{bytes_at}
+use Rattle.wire.specs.Le.{number}
+use Rattle.inventory.specs.Inventory.{selectorOf}
+use Rattle.rules.specs.Rules.{known}
+use Rattle.card.specs.Layout.{memberIn}
+use Rattle.frame.specs.Frame.{opcode_of, target_of}
+use Rattle.admin.specs.Command.{respond}
 
 -- how many of the eight selector bytes, from byte 4 on, a type names: an offset four, a queue index two
 unfoldable pub namedBytes : ℕ → ℕ
@@ -25,14 +20,14 @@ pub record SamePart (h k : List ℕ) : Type 0 where
   pub long : length h ≡ 16
   pub alsoLong : length k ≡ 16
   pub partType : number 0 2 k ≡ number 0 2 h
-  pub selector : bytesAt 4 (namedBytes (number 0 2 h)) k ≡ bytesAt 4 (namedBytes (number 0 2 h)) h
+  pub selector : bytes_at 4 (namedBytes (number 0 2 h)) k ≡ bytes_at 4 (namedBytes (number 0 2 h)) h
 
 -- Two lists of parts for a member with so many queues: the same parts one after the other, x the value of each, and then the same
 -- bytes, whatever they are. Headers of a part have the same length; they have the same flags where the member has not got the part
 pub data SameGiven (queues : ℕ) : List ℕ → List ℕ → Type 0 where
   sameGiven : {l : List ℕ} → SameGiven queues l l
   nextGiven : {h k l m : List ℕ} (x : List ℕ) → SamePart h k → number 12 4 k ≡ number 12 4 h → length x ≡ number 12 4 h
-      → (known queues (number 0 2 h) (selectorOf (number 0 2 h) (number 4 8 h)) ≡ false → getD k 2 0 ≡ getD h 2 0)
+      → (known queues (number 0 2 h) (selectorOf (number 0 2 h) (number 4 8 h)) ≡ false → get_or k 2 0 ≡ get_or h 2 0)
       → SameGiven queues l m
       → SameGiven queues (h ++ (x ++ l)) (k ++ (x ++ m))
 
@@ -44,8 +39,8 @@ pub data SameAsked : List ℕ → List ℕ → Type 0 where
 -- Whatever the card is: two parts sets with the same bytes before their lists, and two parts gets, get the same reply and leave the
 -- same card. Examples: given-alike and asked-alike in ../proofs/PartHeadersExample.antt
 pub record HeadersNotRead : Type 0 where
-  pub given : (c front list other : List ℕ) (room : ℕ) → length front ≡ 32 → opcodeOf front ≡ 0x10
-      → SameGiven (memberIn c (targetOf front) .queues) list other
+  pub given : (c front list other : List ℕ) (room : ℕ) → length front ≡ 32 → opcode_of front ≡ 0x10
+      → SameGiven (memberIn c (target_of front)).queues list other
       → respond c (front ++ other) room ≡ respond c (front ++ list) room
-  pub asked : (c front list other : List ℕ) (room : ℕ) → length front ≡ 40 → opcodeOf front ≡ 0x0f → SameAsked list other
+  pub asked : (c front list other : List ℕ) (room : ℕ) → length front ≡ 40 → opcode_of front ≡ 0x0f → SameAsked list other
       → respond c (front ++ other) room ≡ respond c (front ++ list) room

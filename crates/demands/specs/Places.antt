@@ -1,14 +1,11 @@
 -- REQUEST 4, SPEC 13.4: the place of a part, said of the member's own inventory of 7 + 2Q parts. Assumes nothing.
-use mathlib.Core.Path.{_≡_}
-use mathlib.Core.List.{List, [], _∷_}
-use Prim.Native.Nat.{ℕ, _+_, _*_, _≤_, _<_}
-use lib.ListN.{length, getD}
-use Rattle·theory.specs.Logic.{if_then_else_}
-use Rattle·theory.specs.Bytes.{bytesAt}
-use Rattle·inventory.specs.Inventory.{Row, rows, rowAt, rowCount, present, partCount, placeOf}
-use Rattle·inventory.specs.Header.{headerOf, headerSize}
-use Rattle·inventory.specs.declared.Place.the-variants.{At, Absent}
-use Rattle·capture.specs.Capture.{headersOf}
+use Rattle.std.specs.Prelude.{◌≡◌, List, [], ◌∷◌, ℕ, ◌+◌, ◌*◌, ◌≤◌, ◌<◌, length, get_or}
+use Rattle.theory.specs.Logic.{if◌then◌else◌}
+use Rattle.theory.specs.Bytes.{bytes_at}
+use Rattle.inventory.specs.Inventory.{Row, rows, row_at, rowCount, present, part_count, place_of}
+use Rattle.inventory.specs.Header.{headerOf, headerSize}
+use Rattle.inventory.specs.declared.Place.TheVariants.{At, Absent}
+use Rattle.capture.specs.Capture.{headersOf}
 
 -- the rows of the parts that a member with so many queues has, in the order of the table, among these rows from the i-th
 unfoldable pub ownFrom : ℕ → List Row → ℕ → List ℕ
@@ -19,27 +16,27 @@ unfoldable pub ownRows : ℕ → List ℕ
 ownRows queues = ownFrom queues rows 0
 
 -- the row of the p-th part, from 0
-abbrev pub rowOf : ℕ → ℕ → ℕ
-rowOf queues p = getD (ownRows queues) p rowCount
+abbrev pub row_of : ℕ → ℕ → ℕ
+row_of queues p = get_or (ownRows queues) p rowCount
 
 -- the p-th part of the member's inventory has this type and selector
 pub record Has (queues t s p : ℕ) : Type 0 where
-  pub type-is : rowAt (rowOf queues p) .partType ≡ t
-  pub selector-is : rowAt (rowOf queues p) .selector ≡ s
+  pub type-is : (row_at (row_of queues p)).partType ≡ t
+  pub selector-is : (row_at (row_of queues p)).selector ≡ s
 
 -- For every type and selector the place that is found is the p-th exactly if the p-th part of the member's inventory, the
 -- p-th header of its metadata list, has this type and selector; and none exactly if no part of it has. Example:
 -- ../proofs/PlacesExample.antt
 pub record PlaceFound (queues : ℕ) : Type 0 where
   -- the inventory
-  pub count : length (ownRows queues) ≡ partCount queues
-  pub header : (p : ℕ) → p < partCount queues → bytesAt (headerSize * p) headerSize (headersOf queues) ≡ headerOf (rowAt (rowOf queues p))
+  pub count : length (ownRows queues) ≡ part_count queues
+  pub header : (p : ℕ) → p < part_count queues → bytes_at (headerSize * p) headerSize (headersOf queues) ≡ headerOf (row_at (row_of queues p))
   -- the p-th
-  pub found : (t s p : ℕ) → p < partCount queues → placeOf queues t s ≡ At (rowOf queues p) → Has queues t s p
-  pub there : (t s p : ℕ) → p < partCount queues → Has queues t s p → placeOf queues t s ≡ At (rowOf queues p)
+  pub found : (t s p : ℕ) → p < part_count queues → place_of queues t s ≡ At (row_of queues p) → Has queues t s p
+  pub there : (t s p : ℕ) → p < part_count queues → Has queues t s p → place_of queues t s ≡ At (row_of queues p)
   -- none
-  pub absent : (t s p : ℕ) → p < partCount queues → placeOf queues t s ≡ Absent → Has queues t s p → ⊥
-  pub lacking : (t s : ℕ) → ((p : ℕ) → p < partCount queues → Has queues t s p → ⊥) → placeOf queues t s ≡ Absent
+  pub absent : (t s p : ℕ) → p < part_count queues → place_of queues t s ≡ Absent → Has queues t s p → ⊥
+  pub lacking : (t s : ℕ) → ((p : ℕ) → p < part_count queues → Has queues t s p → ⊥) → place_of queues t s ≡ Absent
 
 -- whatever the queue count
 abbrev pub PlacesFound : Type 0

@@ -1,17 +1,13 @@
 -- REQUEST 5, SPEC 13.5: queue sizes that no ring has. What a sound card holds, and worked examples, on the card of
 -- Examples.antt and in its form. Assumes nothing.
-use mathlib.Core.Path.{_≡_}
-use mathlib.Core.Bool.{true}
-use mathlib.Core.List.{List, [], _∷_, _++_, map}
-use Prim.Native.Nat.{ℕ, _^_, _≤_, _<_}
-use lib.ListN.{take, replicate}
-use Rattle·wire.specs.Le.{bytes, number}
-use Rattle·inventory.specs.Queue.{queueValue}
-use Rattle·card.specs.Layout.{isMember, memberIn}
-use Rattle·card.specs.Sound.{isSound}
-use Rattle·host.specs.Request.{setParts}
-use Rattle·demands·specs.specs.Calls.{Call, cardStore, answered, step}
-use Rattle·demands·specs.specs.Examples.{exampleCard, send, useList, create, setMode, refuses, succeeds, header, headerBytes, Example, example, repliesTo}
+use Rattle.std.specs.Prelude.{◌≡◌, true, List, [], ◌∷◌, ◌++◌, map, ℕ, ◌^◌, ◌≤◌, ◌<◌, take, replicate}
+use Rattle.wire.specs.Le.{bytes, number}
+use Rattle.inventory.specs.Queue.{queueValue}
+use Rattle.card.specs.Layout.{isMember, memberIn}
+use Rattle.card.specs.Sound.{isSound}
+use Rattle.host.specs.Request.{setParts}
+use Rattle.demands.specs.Calls.{Call, cardStore, answered, step}
+use Rattle.demands.specs.Examples.{exampleCard, send, useList, create, setMode, refuses, succeeds, header, headerBytes, Example, example, repliesTo}
 
 -- a power of two up to 32,768; or 0, in a queue that is not enabled
 pub data Ring (size enabled : ℕ) : Type 0 where
@@ -23,8 +19,8 @@ pub data Ring (size enabled : ℕ) : Type 0 where
 -- fresh-queue in ../proofs/QueueSizes.antt
 abbrev pub RingsOnly : Type 0
 RingsOnly =
-    (c : List ℕ) → isSound c ≡ true → (m : ℕ) → isMember c m ≡ true → (k : ℕ) → k < memberIn c m .queues
-    → Ring (number 0 2 (queueValue k (memberIn c m .values))) (number 4 2 (queueValue k (memberIn c m .values)))
+    (c : List ℕ) → isSound c ≡ true → (m : ℕ) → isMember c m ≡ true → (k : ℕ) → k < (memberIn c m).queues
+    → Ring (number 0 2 (queueValue k (memberIn c m).values)) (number 4 2 (queueValue k (memberIn c m).values))
 
 -- ---- worked examples ----
 
@@ -66,4 +62,4 @@ queueExamples =
     ∷ []
 
 abbrev pub QueueExamplesHold : Type 0
-QueueExamplesHold = map (repliesTo step exampleCard) queueExamples ≡ map (λ (e : Example). e .expected) queueExamples
+QueueExamplesHold = map (repliesTo step exampleCard) queueExamples ≡ map (λ (e : Example). e.expected) queueExamples

@@ -1,14 +1,9 @@
 -- DEMAND 2: the reserved bytes of a request are ignored, SPEC 3.2, 4.3, 4.4, 4.8 and 4.9. Assumes nothing.
-use mathlib.Core.Path.{_≡_}
-use mathlib.Core.Bool.{Bool, false}
-use mathlib.Core.List.{List}
-use Prim.Native.Nat.{ℕ}
-use lib.Dec.{leb}
-use lib.ListN.{length, getD}
-use Rattle·theory.specs.Logic.{_and_, _or_, within}
-use Rattle·frame.specs.Frame.{opcodeOf}
-use Rattle·admin.specs.Command.{respond}
-use Rattle·demands·specs.specs.Statuses.{namesObject, hasKind, needsGet}
+use Rattle.std.specs.Prelude.{◌≡◌, Bool, false, List, ℕ, leb, length, get_or}
+use Rattle.theory.specs.Logic.{◌and◌, ◌or◌, within}
+use Rattle.frame.specs.Frame.{opcode_of}
+use Rattle.admin.specs.Command.{respond}
+use Rattle.demands.specs.Statuses.{namesObject, hasKind, needsGet}
 
 -- byte i of a request with this opcode is not read: 12 reserved bytes of the frame, the member field of list query and list use,
 -- two reserved bytes of an object header, seven behind a kind, and seven behind the type of metadata and of parts get
@@ -24,5 +19,5 @@ isReserved op i =
 -- Example: frame-ignored in ../proofs/Reserved.antt
 abbrev pub ReservedIgnored : Type 0
 ReservedIgnored =
-    (c r s : List ℕ) (room : ℕ) → length s ≡ length r → ((i : ℕ) → isReserved (opcodeOf r) i ≡ false → getD s i 0 ≡ getD r i 0)
+    (c r s : List ℕ) (room : ℕ) → length s ≡ length r → ((i : ℕ) → isReserved (opcode_of r) i ≡ false → get_or s i 0 ≡ get_or r i 0)
     → respond c s room ≡ respond c r room

@@ -1,13 +1,10 @@
 -- REQUEST 6, SPEC 13.6: worked examples of a restore in fragments, on the card of Examples.antt and in its form; every answer of
 -- the four calls. Assumes nothing.
-use mathlib.Core.Path.{_≡_}
-use mathlib.Core.List.{List, [], _∷_, _++_, map}
-use Prim.Native.Nat.{ℕ, _+_, _*_}
-use lib.ListN.{take, drop, replicate}
-use Rattle·theory.specs.Machine.{replies}
-use Rattle·host.specs.Request.{setParts}
-use Rattle·demands·specs.specs.Calls.{Call, handBack, restoreBegin, restoreFeed, restoreFinish, restoreDrop, Reply, answered, step}
-use Rattle·demands·specs.specs.Examples.{exampleCard, send, useList, setMode, objectsLive, getSelected, refuses, gives, succeeds, header, headerBytes, statusPart, Example, example, repliesTo}
+use Rattle.std.specs.Prelude.{◌≡◌, List, [], ◌∷◌, ◌++◌, map, ℕ, ◌+◌, ◌*◌, take, drop, replicate}
+use Rattle.theory.specs.Machine.{replies}
+use Rattle.host.specs.Request.{setParts}
+use Rattle.demands.specs.Calls.{Call, handBack, restoreBegin, restoreFeed, restoreFinish, restoreDrop, Reply, answered, step}
+use Rattle.demands.specs.Examples.{exampleCard, send, useList, setMode, objectsLive, getSelected, refuses, gives, succeeds, header, headerBytes, statusPart, Example, example, repliesTo}
 
 -- status and qualifier, as these calls answer them
 abbrev pub answers : ℕ → ℕ → Reply
@@ -64,6 +61,6 @@ restoreExamples =
 
 -- the whole table; and on a card that is not sound all four answer 9, before all else
 pub record RestoreExamplesHold : Type 0 where
-  pub table : map (repliesTo step exampleCard) restoreExamples ≡ map (λ (e : Example). e .expected) restoreExamples
+  pub table : map (repliesTo step exampleCard) restoreExamples ≡ map (λ (e : Example). e.expected) restoreExamples
   pub unsound : replies step (replicate 27 0) (restoreBegin 3 ∷ restoreFeed 3 (replicate 1025 0) ∷ restoreFinish 3 9 ∷ restoreDrop 3 ∷ [])
       ≡ answered 9 ∷ answered 9 ∷ answered 9 ∷ answered 9 ∷ []

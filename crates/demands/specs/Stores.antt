@@ -1,16 +1,12 @@
 -- CARD STORES, SPEC 7.5: when one is done, what it leaves, and how it is refused. The numbers are those of the papers, apart from
 -- the definitions. Examples: ../proofs/StoresExample.antt. Assumes nothing.
-use mathlib.Core.Path.{_≡_}
-use mathlib.Core.Bool.{true, false}
-use mathlib.Core.List.{List, _++_}
-use Prim.Native.Nat.{ℕ, _+_, _-_, _*_, _%_, _≤_, _<_}
-use lib.ListN.{length, take, drop}
-use Rattle·wire.specs.Le.{number}
-use Rattle·member.specs.Member.{withValues}
-use Rattle·card.specs.Layout.{setupOf, memberIn}
-use Rattle·card.specs.Sound.{isSound}
-use Rattle·demands·specs.specs.Calls.{cardStore, answered, step}
-use Rattle·demands·specs.specs.QueueSizes.{Ring}
+use Rattle.std.specs.Prelude.{◌≡◌, true, false, List, ◌++◌, ℕ, ◌+◌, ◌-◌, ◌*◌, ◌%◌, ◌≤◌, ◌<◌, length, take, drop}
+use Rattle.wire.specs.Le.{number}
+use Rattle.member.specs.Member.{withValues}
+use Rattle.card.specs.Layout.{setupOf, memberIn}
+use Rattle.card.specs.Sound.{isSound}
+use Rattle.demands.specs.Calls.{cardStore, answered, step}
+use Rattle.demands.specs.QueueSizes.{Ring}
 
 -- The parts that can be stored of a member with so many queues: type, the eight selector bytes as a number, of which a type names
 -- four, two or none, the length of the value and its place among the member's 205 bytes of values. Device features are not there
@@ -28,25 +24,25 @@ pub data Part (queues : ℕ) : ℕ → ℕ → ℕ → ℕ → Type 0 where
 -- holding place, and every byte of the card before and behind its 226
 pub record Stored (c d : List ℕ) (m at : ℕ) (value : List ℕ) : Type 0 where
   pub member : memberIn d m
-      ≡ withValues (memberIn c m) (take at (memberIn c m .values) ++ (value ++ drop (at + length value) (memberIn c m .values)))
+      ≡ withValues (memberIn c m) (take at (memberIn c m).values ++ (value ++ drop (at + length value) (memberIn c m).values))
   pub before : take (27 + 1266 * (m - 1)) d ≡ take (27 + 1266 * (m - 1)) c
   pub behind : drop (27 + 1266 * (m - 1) + 226) d ≡ drop (27 + 1266 * (m - 1) + 226) c
 
 -- of member m of a sound card: a part that it has, of the table's length, and of a queue a size that a ring has
 pub record StoreDone (c : List ℕ) (m t s : ℕ) (value : List ℕ) : Type 0 where
-  pub done : (at : ℕ) → Part (memberIn c m .queues) t s (length value) at
+  pub done : (at : ℕ) → Part (memberIn c m).queues t s (length value) at
       → (t ≡ 0x104 → Ring (number 0 2 value) (number 4 2 value))
-      → (step c (cardStore m t s value) .1 ≡ answered 0) × Stored c (step c (cardStore m t s value) .0) m at value
-  pub noPart : ((n at : ℕ) → Part (memberIn c m .queues) t s n at → ⊥) → step c (cardStore m t s value) ≡ (c, answered 2)
-  pub otherLength : (n at : ℕ) → Part (memberIn c m .queues) t s n at → (length value ≡ n → ⊥)
+      → ((step c (cardStore m t s value)).1 ≡ answered 0) × Stored c (step c (cardStore m t s value)).0 m at value
+  pub no_part : ((n at : ℕ) → Part (memberIn c m).queues t s n at → ⊥) → step c (cardStore m t s value) ≡ (c, answered 2)
+  pub otherLength : (n at : ℕ) → Part (memberIn c m).queues t s n at → (length value ≡ n → ⊥)
       → step c (cardStore m t s value) ≡ (c, answered 3)
-  pub noRing : (at : ℕ) → Part (memberIn c m .queues) 0x104 s (length value) at → t ≡ 0x104
+  pub noRing : (at : ℕ) → Part (memberIn c m).queues 0x104 s (length value) at → t ≡ 0x104
       → (Ring (number 0 2 value) (number 4 2 value) → ⊥)
       → step c (cardStore m t s value) ≡ (c, answered 5)
 
 pub record StoresDone : Type 0 where
   pub unsound : (c : List ℕ) → isSound c ≡ false → (m t s : ℕ) (value : List ℕ) → step c (cardStore m t s value) ≡ (c, answered 9)
-  pub noMember : (c : List ℕ) → isSound c ≡ true → (m : ℕ) → (1 ≤ m → m ≤ setupOf c .members → ⊥)
+  pub noMember : (c : List ℕ) → isSound c ≡ true → (m : ℕ) → (1 ≤ m → m ≤ (setupOf c).members → ⊥)
       → (t s : ℕ) (value : List ℕ) → step c (cardStore m t s value) ≡ (c, answered 1)
-  pub member : (c : List ℕ) → isSound c ≡ true → (m : ℕ) → 1 ≤ m → m ≤ setupOf c .members
+  pub member : (c : List ℕ) → isSound c ≡ true → (m : ℕ) → 1 ≤ m → m ≤ (setupOf c).members
       → (t s : ℕ) (value : List ℕ) → StoreDone c m t s value

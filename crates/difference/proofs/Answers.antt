@@ -1,67 +1,67 @@
 -- What the two calls answer under a setup: each refusal by its number, and that they are done exactly if they are given what they
 -- ask. Assumes nothing.
-use mathlib.Core.Path.{_≡_, refl, ap, sym, _∙_}
+use mathlib.Core.Path.{◌≡◌, refl, ap, sym, ◌∙◌}
 use mathlib.Core.Bool.{Bool, true, false}
-use mathlib.Core.List.{List, [], _∷_, _++_}
-use Prim.Native.Nat.{ℕ, _<_, _≤_}
+use mathlib.Core.List.{List, [], ◌∷◌, ◌++◌}
+use Prim.Native.Nat.{ℕ, ◌<◌, ◌≤◌}
 use native.Mathlib.Omega.{arith}
 use borrow.Author.Tests.{eqb-true, eqb-false, leb-true, le-leb, lt-leb}
 use lib.Dec.{eqb, leb}
 use lib.ListN.{length, drop}
-use Rattle·theory.specs.Logic.{unless_answer_then_}
-use Rattle·theory.specs.Bytes.{bytesAt, put}
-use Rattle·theory.proofs.Tests.{by-cases, never, within-high}
-use Rattle·theory.proofs.Bytes.{put-front}
-use Rattle·inventory.specs.Inventory.{rowCount, partsSize, selectorOf, placeOf, onPlace}
-use Rattle·inventory.specs.declared.Place.{Place}
-use Rattle·inventory.specs.declared.Place.the-variants.{At, Absent}
-use Rattle·inventory.proofs.Find.{place-found, own-place}
-use Rattle·parts.specs.declared.ListForm.the-variants.{Parts}
-use Rattle·parts.specs.List.{partsOf, among, valueOr}
-use Rattle·rules.specs.Rules.{known, causeOf, isAccepted}
-use Rattle·restore.proofs.PartValues.{value-none, value-there}
-use Rattle·setups.specs.declared.MemberSetup.{MemberSetup}
-use Rattle·setups.specs.Member.{memberSetup}
-use Rattle·setups.proofs.Member.{member-in-range}
-use Rattle·difference·specs.specs.declared.Span.{Span}
-use Rattle·difference·specs.specs.declared.Span.the-variants.{Value, Nowhere}
-use Rattle·difference·specs.specs.declared.Verdict.{Verdict}
-use Rattle·difference·specs.specs.declared.Verdict.the-variants.{Passed, BadFull, BadLater, LacksPart, ShortBuffer}
-use Rattle·difference·specs.specs.declared.Lookup.the-variants.{InLater, InFull, Refused}
-use Rattle·difference·specs.specs.Difference.{spanOf, onSpan, placeIn, isFull, verdictOf, codeOf, lookupOf, lookupTold, made, mergeOf}
-use Rattle·difference·specs.specs.Under.{lookupUnder, mergeUnder}
-use Rattle·difference·specs.specs.Claims.{HasEach, Asks, Refuses, Asked, Stands, Tells, Finds, Merges, Pair}
-use Rattle·difference·proofs.proofs.Full.{full-there, there-full}
-use Rattle·difference·proofs.proofs.Handed.{verdict-refused, verdict-passed}
-use Rattle·difference·proofs.proofs.Places.{span-value, span-inside}
-use Rattle·difference·proofs.proofs.Made.{pair-long}
-use Rattle·difference·proofs.proofs.Verdicts.{Passes, passes, found-there, found-outside}
+use Rattle.theory.specs.Logic.{unless◌answer◌then◌}
+use Rattle.theory.specs.Bytes.{bytes_at, put}
+use Rattle.theory.proofs.Tests.{by_cases, never, within-high}
+use Rattle.theory.proofs.Bytes.{put_front}
+use Rattle.inventory.specs.Inventory.{rowCount, partsSize, selectorOf, place_of, onPlace}
+use Rattle.inventory.specs.declared.Place.{Place}
+use Rattle.inventory.specs.declared.Place.TheVariants.{At, Absent}
+use Rattle.inventory.proofs.Find.{place_found, own-place}
+use Rattle.parts.specs.declared.ListForm.TheVariants.{Parts}
+use Rattle.parts.specs.List.{parts_of, among, valueOr}
+use Rattle.rules.specs.Rules.{known, causeOf, isAccepted}
+use Rattle.restore.proofs.PartValues.{value_none, value_there}
+use Rattle.setups.specs.declared.MemberSetup.{MemberSetup}
+use Rattle.setups.specs.Member.{memberSetup}
+use Rattle.setups.proofs.Member.{member-in-range}
+use Rattle.difference.specs.declared.Span.{Span}
+use Rattle.difference.specs.declared.Span.TheVariants.{Value, Nowhere}
+use Rattle.difference.specs.declared.Verdict.{Verdict}
+use Rattle.difference.specs.declared.Verdict.TheVariants.{Passed, BadFull, BadLater, LacksPart, ShortBuffer}
+use Rattle.difference.specs.declared.Lookup.TheVariants.{InLater, InFull, Refused}
+use Rattle.difference.specs.Difference.{span_of, onSpan, place_in, isFull, verdictOf, code_of, lookupOf, lookupTold, made, mergeOf}
+use Rattle.difference.specs.Under.{lookupUnder, mergeUnder}
+use Rattle.difference.specs.Claims.{HasEach, Asks, Refuses, Asked, Stands, Tells, Finds, Merges, Pair}
+use Rattle.difference.proofs.Full.{full-there, there-full}
+use Rattle.difference.proofs.Handed.{verdict-refused, verdict-passed}
+use Rattle.difference.proofs.Places.{span_value, span-inside}
+use Rattle.difference.proofs.Made.{pair-long}
+use Rattle.difference.proofs.Verdicts.{Passes, passes, found-there, found-outside}
 
 -- ---- a known part is that of a row ----
 
-pub known-at : (q t s i : ℕ) → placeOf q t s ≡ At i → known q t s ≡ true
+pub known_at : (q t s i : ℕ) → place_of q t s ≡ At i → known q t s ≡ true
 unfolding known
-known-at q t s i e = rw e
+known_at q t s i e = rw e
 
-pub by-row {ℓ} : {P : Type ℓ} (q t s : ℕ) → known q t s ≡ true → ((i : ℕ) → placeOf q t s ≡ At i → P) → P
+pub by_row {ℓ} : {P : Type ℓ} (q t s : ℕ) → known q t s ≡ true → ((i : ℕ) → place_of q t s ≡ At i → P) → P
 unfolding known
-by-row {P = P} q t s k f = cases (placeOf q t s) refl k
+by_row {P = P} q t s k f = cases (place_of q t s) refl k
   where
-    cases : (p : Place) → placeOf q t s ≡ p → onPlace p (λ i. true) false ≡ true → P
+    cases : (p : Place) → place_of q t s ≡ p → onPlace p (λ i. true) false ≡ true → P
     cases (At i) e h = f i e
     cases Absent e h = never cc
 
 known-asked : (q t selector : ℕ) → known q t (selectorOf t selector) ≡ true → Asked q t selector
 known-asked q t selector k =
-    by-row q t (selectorOf t selector) k
+    by_row q t (selectorOf t selector) k
     (λ i e.
-    let f = place-found q t (selectorOf t selector) i e in
-    record { row = i; below = f .below; there = f .there; type-is = f .type-is; selector-is = f .selector-is })
+    let f = place_found q t (selectorOf t selector) i e in
+    record { row = i; below = f.below; there = f.there; type-is = f.type-is; selector-is = f.selector-is })
 
 asked-known : (q t selector : ℕ) → q < 5 → Asked q t selector → known q t (selectorOf t selector) ≡ true
 asked-known q t selector few a =
-    let place = own-place q (a .row) few (a .below) (a .there) in
-    known-at q t (selectorOf t selector) (a .row) (rw (a .type-is, a .selector-is) at place)
+    let place = own-place q a.row few a.below a.there in
+    known_at q t (selectorOf t selector) a.row (rw (a.type-is, a.selector-is) at place)
 
 -- ---- the verdict ----
 
@@ -72,67 +72,67 @@ module _ (q : ℕ) (features full later : List ℕ) (asked room : Bool) where
   module _ (a : isAccepted (causeOf q features full) ≡ true) where
     module _ (b : isAccepted (causeOf q features later) ≡ true) where
       lacking : (HasEach q full → ⊥) → verdict ≡ LacksPart
-      unfolding verdictOf unless_answer_then_
+      unfolding verdictOf unless◌answer◌then◌
       lacking n =
           let none : isFull q full ≡ false =
-          by-cases (isFull q full) (λ y. absurd (n (full-there q (partsOf Parts full) y))) (λ z. z) in
+          by_cases (isFull q full) (λ y. absurd (n (full-there q (parts_of Parts full) y))) (λ z. z) in
           rw (a, b, none)
 
     bad-later : isAccepted (causeOf q features later) ≡ false → verdict ≡ BadLater
-    unfolding verdictOf unless_answer_then_
+    unfolding verdictOf unless◌answer◌then◌
     bad-later b = rw (a, b)
 
   bad-full : isAccepted (causeOf q features full) ≡ false → verdict ≡ BadFull
-  unfolding verdictOf unless_answer_then_
+  unfolding verdictOf unless◌answer◌then◌
   bad-full a = rw a
 
 -- what is found is found in a pair, and known
 pub found-passes : (q : ℕ) (features full later : List ℕ) (t selector : ℕ) → q < 5
-    → lookupTold (lookupOf q features full later t selector) .0 ≡ 0
+    → (lookupTold (lookupOf q features full later t selector)).0 ≡ 0
     → Passes q features full later (known q t (selectorOf t selector)) true
 unfolding lookupOf lookupTold
 found-passes q features full later t selector few e =
     let asked = known q t (selectorOf t selector) in
     let v = verdictOf q features full later asked true in
-    by-cases (eqb (codeOf v) 0)
+    by_cases (eqb (code_of v) 0)
     (λ z. passes q features full later asked true few (eqb-true _ _ z))
     (λ z.
-    let n = eqb-false (codeOf v) 0 z in
-    let refused = ap (λ l. lookupTold l .0) (verdict-refused v Refused (placeIn full later t (selectorOf t selector)) n) in
+    let n = eqb-false (code_of v) 0 z in
+    let refused = ap (λ l. (lookupTold l).0) (verdict-refused v Refused (place_in full later t (selectorOf t selector)) n) in
     absurd (n (sym refused ∙ e)))
 
 -- ---- what a lookup found ----
 
-none-there : (t s : ℕ) (l : List ℕ) → spanOf t s l ≡ Nowhere → among t s (partsOf Parts l) ≡ true → ⊥
+none-there : (t s : ℕ) (l : List ℕ) → span_of t s l ≡ Nowhere → among t s (parts_of Parts l) ≡ true → ⊥
 none-there t s l e h =
-    let none : (y : List ℕ) → valueOr t s (partsOf Parts l) y ≡ y =
-    λ y. span-value t s l y ∙ ap (λ w. onSpan w (λ start len. bytesAt start len l) y) e in
-    let clash : _≡_ {A = List ℕ} [] (0 ∷ []) = sym (none []) ∙ value-there t s (partsOf Parts l) [] (0 ∷ []) h ∙ none (0 ∷ []) in
-    let z : _≡_ {A = ℕ} 0 1 = ap length clash in
+    let none : (y : List ℕ) → valueOr t s (parts_of Parts l) y ≡ y =
+    λ y. span_value t s l y ∙ ap (λ w. onSpan w (λ start len. bytes_at start len l) y) e in
+    let clash : ◌≡◌ {A = List ℕ} [] (0 ∷ []) = sym (none []) ∙ value_there t s (parts_of Parts l) [] (0 ∷ []) h ∙ none (0 ∷ []) in
+    let z : ◌≡◌ {A = ℕ} 0 1 = ap length clash in
     omega arith
 
-one-there : (t s : ℕ) (l : List ℕ) (start len : ℕ) → spanOf t s l ≡ Value start len → among t s (partsOf Parts l) ≡ false → ⊥
+one-there : (t s : ℕ) (l : List ℕ) (start len : ℕ) → span_of t s l ≡ Value start len → among t s (parts_of Parts l) ≡ false → ⊥
 one-there t s l start len e h =
-    let there : (y : List ℕ) → bytesAt start len l ≡ y =
+    let there : (y : List ℕ) → bytes_at start len l ≡ y =
     λ y.
-    sym (span-value t s l y ∙ ap (λ w. onSpan w (λ start len. bytesAt start len l) y) e) ∙ value-none t s (partsOf Parts l) y h in
-    let clash : _≡_ {A = List ℕ} [] (0 ∷ []) = sym (there []) ∙ there (0 ∷ []) in
-    let z : _≡_ {A = ℕ} 0 1 = ap length clash in
+    sym (span_value t s l y ∙ ap (λ w. onSpan w (λ start len. bytes_at start len l) y) e) ∙ value_none t s (parts_of Parts l) y h in
+    let clash : ◌≡◌ {A = List ℕ} [] (0 ∷ []) = sym (there []) ∙ there (0 ∷ []) in
+    let z : ◌≡◌ {A = ℕ} 0 1 = ap length clash in
     omega arith
 
-stands : (t s : ℕ) (l : List ℕ) (start len : ℕ) → spanOf t s l ≡ Value start len → Stands t s l start len
+stands : (t s : ℕ) (l : List ℕ) (start len : ℕ) → span_of t s l ≡ Value start len → Stands t s l start len
 stands t s l start len e =
     record {
       inside = span-inside t s l start len e;
-      value = sym (span-value t s l [] ∙ ap (λ w. onSpan w (λ start len. bytesAt start len l) []) e);
+      value = sym (span_value t s l [] ∙ ap (λ w. onSpan w (λ start len. bytes_at start len l) []) e);
     }
 
-pub place-tells : (full later : List ℕ) (t s : ℕ) → among t s (partsOf Parts full) ≡ true
-    → Tells full later t s (lookupTold (placeIn full later t s))
-unfolding placeIn lookupTold
-place-tells full later t s h = cases (spanOf t s later) (spanOf t s full) refl refl
+pub place-tells : (full later : List ℕ) (t s : ℕ) → among t s (parts_of Parts full) ≡ true
+    → Tells full later t s (lookupTold (place_in full later t s))
+unfolding place_in lookupTold
+place-tells full later t s h = cases (span_of t s later) (span_of t s full) refl refl
   where
-    cases : (a b : Span) → spanOf t s later ≡ a → spanOf t s full ≡ b
+    cases : (a b : Span) → span_of t s later ≡ a → span_of t s full ≡ b
         → Tells full later t s (lookupTold (onSpan a InLater (onSpan b InFull (Refused LacksPart))))
     cases (Value start len) b e f =
         record {
@@ -152,34 +152,34 @@ place-tells full later t s h = cases (spanOf t s later) (spanOf t s full) refl r
 
 module _ (s : MemberSetup) (full later : List ℕ) where
   abbrev q : ℕ
-  q = s .queues
+  q = s.queues
 
   abbrev features : List ℕ
-  features = s .features
+  features = s.features
 
   asks-pair : q < 5 → Asks s full later → Pair q features full later
   asks-pair few a =
       record {
         few = few;
-        fullAccepted = a .fullAccepted;
-        laterAccepted = a .laterAccepted;
-        lacksNone = there-full q (partsOf Parts full) (a .lacksNone) rowCount 0 refl;
+        fullAccepted = a.fullAccepted;
+        laterAccepted = a.laterAccepted;
+        lacksNone = there-full q (parts_of Parts full) a.lacksNone rowCount 0 refl;
       }
 
-  pub pair-asks : s .known ≡ true → Pair q features full later → Asks s full later
+  pub pair-asks : s.known ≡ true → Pair q features full later → Asks s full later
   pair-asks k p =
       record {
         known = k;
-        fullAccepted = p .fullAccepted;
-        laterAccepted = p .laterAccepted;
-        lacksNone = full-there q (partsOf Parts full) (p .lacksNone);
+        fullAccepted = p.fullAccepted;
+        laterAccepted = p.laterAccepted;
+        lacksNone = full-there q (parts_of Parts full) p.lacksNone;
       }
 
   -- a call that gives `refusal` with the number of the verdict
   refuses : {A : Type 0} (result : A) (refusal : ℕ → A) (asked room : Bool)
-      → (s .known ≡ false → result ≡ refusal 1)
-      → (s .known ≡ true → (v : Verdict) → verdictOf q features full later asked room ≡ v → (codeOf v ≡ 0 → ⊥)
-      → result ≡ refusal (codeOf v))
+      → (s.known ≡ false → result ≡ refusal 1)
+      → (s.known ≡ true → (v : Verdict) → verdictOf q features full later asked room ≡ v → (code_of v ≡ 0 → ⊥)
+      → result ≡ refusal (code_of v))
       → Refuses s full later result refusal
   refuses result refusal asked room unknown told =
       record {
@@ -198,45 +198,45 @@ module _ (s : MemberSetup) (full later : List ℕ) where
     abbrev told : ℕ × (ℕ × (ℕ × ℕ))
     told = lookupTold (lookupUnder s full later t selector)
 
-    find-known : s .known ≡ true → lookupUnder s full later t selector ≡ lookupOf q features full later t selector
-    unfolding lookupUnder unless_answer_then_
+    find-known : s.known ≡ true → lookupUnder s full later t selector ≡ lookupOf q features full later t selector
+    unfolding lookupUnder unless◌answer◌then◌
     find-known k = rw k
 
-    find-unknown : s .known ≡ false → told ≡ (1, (0, (0, 0)))
-    unfolding lookupUnder lookupTold unless_answer_then_
+    find-unknown : s.known ≡ false → told ≡ (1, (0, (0, 0)))
+    unfolding lookupUnder lookupTold unless◌answer◌then◌
     find-unknown k = rw k
 
-    find-refused : s .known ≡ true → (v : Verdict) → verdictOf q features full later (known q t named) true ≡ v
-        → (codeOf v ≡ 0 → ⊥) → told ≡ (codeOf v, (0, (0, 0)))
+    find-refused : s.known ≡ true → (v : Verdict) → verdictOf q features full later (known q t named) true ≡ v
+        → (code_of v ≡ 0 → ⊥) → told ≡ (code_of v, (0, (0, 0)))
     unfolding lookupOf lookupTold
     find-refused k v e n =
         let l : lookupOf q features full later t selector ≡ Refused v =
-        rw e (verdict-refused v Refused (placeIn full later t named) n) in
+        rw e (verdict-refused v Refused (place_in full later t named) n) in
         ap lookupTold (find-known k ∙ l)
 
-    find-knows : told .0 ≡ 0 → s .known ≡ true
+    find-knows : told.0 ≡ 0 → s.known ≡ true
     find-knows e =
-        by-cases (s .known)
+        by_cases s.known
         (λ k. k)
-        (λ k. let z : _≡_ {A = ℕ} 1 0 = sym (ap (λ (x : ℕ × (ℕ × (ℕ × ℕ))). x .0) (find-unknown k)) ∙ e in absurd (omega arith))
+        (λ k. let z : ◌≡◌ {A = ℕ} 1 0 = sym (ap (λ (x : ℕ × (ℕ × (ℕ × ℕ))). x.0) (find-unknown k)) ∙ e in absurd (omega arith))
 
-    pub find-passes : s .known ≡ true → q < 5 → told .0 ≡ 0
+    pub find-passes : s.known ≡ true → q < 5 → told.0 ≡ 0
         → Passes q features full later (known q t named) true
     find-passes k few e = found-passes q features full later t selector few (rw (find-known k) at e)
 
     find-done : q < 5 → Asks s full later → Asked q t selector → Tells full later t named told
     find-done few a k =
-        let there = a .lacksNone (k .row) (k .below) (k .there) in
+        let there = a.lacksNone k.row k.below k.there in
         let pair = asks-pair few a in
-        rw (find-known (a .known), found-there q features full later pair t selector (asked-known q t selector few k))
-        (place-tells full later t named (rw (k .type-is, k .selector-is) at there))
+        rw (find-known a.known, found-there q features full later pair t selector (asked-known q t selector few k))
+        (place-tells full later t named (rw (k.type-is, k.selector-is) at there))
 
     find-outside : q < 5 → Asks s full later → (Asked q t selector → ⊥) → told ≡ (5, (0, (0, 0)))
     unfolding lookupTold
     find-outside few a n =
         let none : known q t named ≡ false =
-        by-cases (known q t named) (λ y. absurd (n (known-asked q t selector y))) (λ z. z) in
-        ap lookupTold (find-known (a .known) ∙ found-outside q features full later (asks-pair few a) t selector none)
+        by_cases (known q t named) (λ y. absurd (n (known-asked q t selector y))) (λ z. z) in
+        ap lookupTold (find-known a.known ∙ found-outside q features full later (asks-pair few a) t selector none)
 
   -- ---- a merge ----
 
@@ -247,49 +247,49 @@ module _ (s : MemberSetup) (full later : List ℕ) where
     abbrev merged : ℕ × (ℕ × List ℕ)
     merged = mergeUnder s full later out
 
-    merge-unknown : s .known ≡ false → merged ≡ (1, (0, out))
-    unfolding mergeUnder unless_answer_then_
+    merge-unknown : s.known ≡ false → merged ≡ (1, (0, out))
+    unfolding mergeUnder unless◌answer◌then◌
     merge-unknown k = rw k
 
-    merge-refused : s .known ≡ true → (v : Verdict) → verdictOf q features full later true fits ≡ v → (codeOf v ≡ 0 → ⊥)
-        → merged ≡ (codeOf v, (0, out))
-    unfolding mergeUnder mergeOf unless_answer_then_
-    merge-refused k v e n = rw (k, e) (verdict-refused v (λ w. (codeOf w, (0, out))) _ n)
+    merge-refused : s.known ≡ true → (v : Verdict) → verdictOf q features full later true fits ≡ v → (code_of v ≡ 0 → ⊥)
+        → merged ≡ (code_of v, (0, out))
+    unfolding mergeUnder mergeOf unless◌answer◌then◌
+    merge-refused k v e n = rw (k, e) (verdict-refused v (λ w. (code_of w, (0, out))) _ n)
 
-    merge-knows : merged .0 ≡ 0 → s .known ≡ true
+    merge-knows : merged.0 ≡ 0 → s.known ≡ true
     merge-knows e =
-        by-cases (s .known)
+        by_cases s.known
         (λ k. k)
-        (λ k. let z : _≡_ {A = ℕ} 1 0 = sym (ap (λ (x : ℕ × (ℕ × List ℕ)). x .0) (merge-unknown k)) ∙ e in absurd (omega arith))
+        (λ k. let z : ◌≡◌ {A = ℕ} 1 0 = sym (ap (λ (x : ℕ × (ℕ × List ℕ)). x.0) (merge-unknown k)) ∙ e in absurd (omega arith))
 
-    pub merge-passes : s .known ≡ true → q < 5 → merged .0 ≡ 0 → Passes q features full later true fits
+    pub merge-passes : s.known ≡ true → q < 5 → merged.0 ≡ 0 → Passes q features full later true fits
     merge-passes k few e =
         let v = verdictOf q features full later true fits in
-        by-cases (eqb (codeOf v) 0)
+        by_cases (eqb (code_of v) 0)
         (λ z. passes q features full later true fits few (eqb-true _ _ z))
         (λ z.
-        let n = eqb-false (codeOf v) 0 z in
-        absurd (n (sym (ap (λ (x : ℕ × (ℕ × List ℕ)). x .0) (merge-refused k v refl n)) ∙ e)))
+        let n = eqb-false (code_of v) 0 z in
+        absurd (n (sym (ap (λ (x : ℕ × (ℕ × List ℕ)). x.0) (merge-refused k v refl n)) ∙ e)))
 
     pair-verdict : q < 5 → Asks s full later → (room : Bool) → fits ≡ room
         → verdictOf q features full later true fits ≡ (unless room answer ShortBuffer then Passed)
-    unfolding verdictOf unless_answer_then_
-    pair-verdict few a room e = rw (a .fullAccepted, a .laterAccepted, asks-pair few a .lacksNone, e)
+    unfolding verdictOf unless◌answer◌then◌
+    pair-verdict few a room e = rw (a.fullAccepted, a.laterAccepted, (asks-pair few a).lacksNone, e)
 
     pub merge-done : q < 5 → Asks s full later → partsSize q ≤ length out
         → merged ≡ (0, (partsSize q, made q full later ++ drop (partsSize q) out))
-    unfolding mergeUnder mergeOf unless_answer_then_
+    unfolding mergeUnder mergeOf unless◌answer◌then◌
     merge-done few a h =
         let x = made q full later in
         let v = verdictOf q features full later true fits in
         let long = pair-long q features full later (asks-pair few a) in
-        let front : put 0 x out ≡ x ++ drop (partsSize q) out = put-front x out (omega arith) ∙ ap (λ n. x ++ drop n out) long in
-        let none = ap codeOf (pair-verdict few a true (le-leb _ _ h)) in
-        rw (a .known, ← front) (verdict-passed v (λ w. (codeOf w, (0, out))) (0, (partsSize q, put 0 x out)) none)
+        let front : put 0 x out ≡ x ++ drop (partsSize q) out = put_front x out (omega arith) ∙ ap (λ n. x ++ drop n out) long in
+        let none = ap code_of (pair-verdict few a true (le-leb _ _ h)) in
+        rw (a.known, ← front) (verdict-passed v (λ w. (code_of w, (0, out))) (0, (partsSize q, put 0 x out)) none)
 
     merge-short : q < 5 → Asks s full later → length out < partsSize q → merged ≡ (6, (0, out))
-    unfolding unless_answer_then_
-    merge-short few a h = merge-refused (a .known) ShortBuffer (pair-verdict few a false (lt-leb _ _ h)) (λ z. omega arith)
+    unfolding unless◌answer◌then◌
+    merge-short few a h = merge-refused a.known ShortBuffer (pair-verdict few a false (lt-leb _ _ h)) (λ z. omega arith)
 
 -- ---- under a packed setup ----
 
@@ -297,35 +297,35 @@ module _ (setup : List ℕ) (m : ℕ) (full later : List ℕ) where
   abbrev s : MemberSetup
   s = memberSetup setup m
 
-  few : s .known ≡ true → s .queues < 5
-  few k = omega (arith, within-high 1 4 (s .queues) (member-in-range setup m k .count))
+  few : s.known ≡ true → s.queues < 5
+  few k = omega (arith, within-high 1 4 s.queues (member-in-range setup m k).count)
 
   pub finds : (t selector : ℕ) → Finds s full later t selector (lookupTold (lookupUnder s full later t selector))
   finds t selector =
       record {
-        done = λ a k. find-done s full later t selector (few (a .known)) a k;
+        done = λ a k. find-done s full later t selector (few a.known) a k;
         asks = λ e.
             let k = find-knows s full later t selector e in
-            pair-asks s full later k (find-passes s full later t selector k (few k) e .pair);
+            pair-asks s full later k (find-passes s full later t selector k (few k) e).pair;
         asked = λ e.
             let k = find-knows s full later t selector e in
-            known-asked (s .queues) t selector (find-passes s full later t selector k (few k) e .inside);
-        refuses = refuses s full later _ (λ n. (n, (0, (0, 0)))) (known (s .queues) t (selectorOf t selector)) true
+            known-asked s.queues t selector (find-passes s full later t selector k (few k) e).inside;
+        refuses = refuses s full later _ (λ n. (n, (0, (0, 0)))) (known s.queues t (selectorOf t selector)) true
             (find-unknown s full later t selector) (find-refused s full later t selector);
-        outside = λ a n. find-outside s full later t selector (few (a .known)) a n;
+        outside = λ a n. find-outside s full later t selector (few a.known) a n;
       }
 
   pub merges : (out : List ℕ) → Merges s full later out (mergeUnder s full later out)
   merges out =
       record {
-        done = λ a h. merge-done s full later out (few (a .known)) a h;
+        done = λ a h. merge-done s full later out (few a.known) a h;
         asks = λ e.
             let k = merge-knows s full later out e in
-            pair-asks s full later k (merge-passes s full later out k (few k) e .pair);
+            pair-asks s full later k (merge-passes s full later out k (few k) e).pair;
         room = λ e.
             let k = merge-knows s full later out e in
-            leb-true _ _ (merge-passes s full later out k (few k) e .fits);
-        refuses = refuses s full later _ (λ n. (n, (0, out))) true (leb (partsSize (s .queues)) (length out))
+            leb-true _ _ (merge-passes s full later out k (few k) e).fits;
+        refuses = refuses s full later _ (λ n. (n, (0, out))) true (leb (partsSize s.queues) (length out))
             (merge-unknown s full later out) (merge-refused s full later out);
-        short = λ a h. merge-short s full later out (few (a .known)) a h;
+        short = λ a h. merge-short s full later out (few a.known) a h;
       }

@@ -1,108 +1,108 @@
 -- What specs/Claims.antt claims of the pair holds. Assumes nothing.
-use mathlib.Core.Path.{_≡_, refl, ap, sym, _∙_}
+use mathlib.Core.Path.{◌≡◌, refl, ap, sym, ◌∙◌}
 use mathlib.Core.Bool.{true, false}
 use mathlib.Core.List.{List, []}
-use Prim.Native.Nat.{ℕ, _<_}
+use Prim.Native.Nat.{ℕ, ◌<◌}
 use borrow.Author.Tests.{ltb-true}
 use lib.Dec.{ltb}
 use lib.ListN.{length}
-use Rattle·theory.specs.Logic.{unless_answer_then_}
-use Rattle·theory.specs.Bytes.{bytesAt}
-use Rattle·theory.proofs.Tests.{by-cases}
-use Rattle·inventory.specs.Inventory.{rowAt, rowCount, featuresSize, selectorOf, placeOf}
-use Rattle·inventory.specs.declared.Place.the-variants.{At}
-use Rattle·inventory.proofs.Rules.{table, every-row}
-use Rattle·inventory.proofs.Find.{place-found}
-use Rattle·parts.specs.declared.ListForm.the-variants.{Parts}
-use Rattle·parts.specs.List.{atMost, partsFrom, partsOf, whole, valueOr}
-use Rattle·rules.specs.Rules.{known, every, repeated, causeIn, causeOf, isAccepted}
-use Rattle·difference·specs.specs.Difference.{lookupOf, lookupTold, made}
-use Rattle·difference·specs.specs.Claims.{Pair, valueFound, Claims}
-use Rattle·difference·proofs.proofs.Full.{full-there}
-use Rattle·difference·proofs.proofs.Answers.{known-at, by-row, found-passes, place-tells, finds, merges}
-use Rattle·difference·proofs.proofs.Handed.{place-value}
-use Rattle·difference·proofs.proofs.Made.{lookedUp, looked-up, made-is, made-sets, pair-accepted, pair-full, pair-long, pair-value, pair-length}
-use Rattle·difference·proofs.proofs.Verdicts.{found-there, found-outside}
+use Rattle.theory.specs.Logic.{unless◌answer◌then◌}
+use Rattle.theory.specs.Bytes.{bytes_at}
+use Rattle.theory.proofs.Tests.{by_cases}
+use Rattle.inventory.specs.Inventory.{row_at, rowCount, featuresSize, selectorOf, place_of}
+use Rattle.inventory.specs.declared.Place.TheVariants.{At}
+use Rattle.inventory.proofs.Rules.{table, every-row}
+use Rattle.inventory.proofs.Find.{place_found}
+use Rattle.parts.specs.declared.ListForm.TheVariants.{Parts}
+use Rattle.parts.specs.List.{at_most, partsFrom, parts_of, whole, valueOr}
+use Rattle.rules.specs.Rules.{known, every, repeated, causeIn, causeOf, isAccepted}
+use Rattle.difference.specs.Difference.{lookupOf, lookupTold, made}
+use Rattle.difference.specs.Claims.{Pair, valueFound, Claims}
+use Rattle.difference.proofs.Full.{full-there}
+use Rattle.difference.proofs.Answers.{known_at, by_row, found-passes, place-tells, finds, merges}
+use Rattle.difference.proofs.Handed.{place-value}
+use Rattle.difference.proofs.Made.{lookedUp, looked-up, made-is, made-sets, pair-accepted, pair-full, pair-long, pair-value, pair-length}
+use Rattle.difference.proofs.Verdicts.{found-there, found-outside}
 
 -- ---- a lookup in the pair ----
 
 module _ (q : ℕ) (features full later : List ℕ) (pair : Pair q features full later) where
-  found-row : (t s i : ℕ) → placeOf q t (selectorOf t s) ≡ At i → valueFound q features full later t s ≡ lookedUp full later i
+  found-row : (t s i : ℕ) → place_of q t (selectorOf t s) ≡ At i → valueFound q features full later t s ≡ lookedUp full later i
   found-row t s i e =
-      let r = place-found q t (selectorOf t s) i e in
-      rw (found-there q features full later pair t s (known-at q t (selectorOf t s) i e), r .type-is, r .selector-is)
+      let r = place_found q t (selectorOf t s) i e in
+      rw (found-there q features full later pair t s (known_at q t (selectorOf t s) i e), r.type-is, r.selector-is)
 
-  name-row : (t s i : ℕ) → placeOf q t (selectorOf t s) ≡ At i → lookupTold (lookupOf q features full later t s) .0 ≡ 0
+  name-row : (t s i : ℕ) → place_of q t (selectorOf t s) ≡ At i → (lookupTold (lookupOf q features full later t s)).0 ≡ 0
   name-row t s i e =
-      let r = place-found q t (selectorOf t s) i e in
-      let there = full-there q (partsOf Parts full) (pair .lacksNone) i (r .below) (r .there) in
-      rw (found-there q features full later pair t s (known-at q t (selectorOf t s) i e))
-      (place-tells full later t (selectorOf t s) (rw (r .type-is, r .selector-is) at there) .done)
+      let r = place_found q t (selectorOf t s) i e in
+      let there = full-there q (parts_of Parts full) pair.lacksNone i r.below r.there in
+      rw (found-there q features full later pair t s (known_at q t (selectorOf t s) i e))
+      (place-tells full later t (selectorOf t s) (rw (r.type-is, r.selector-is) at there)).done
 
 -- ---- what is found is not empty ----
 
-size-some : (i : ℕ) → i < rowCount → 0 < rowAt i .size
+size-some : (i : ℕ) → i < rowCount → 0 < (row_at i).size
 unfolding table
-size-some i h = ltb-true _ _ (every-row (λ k r. ltb 0 (r .size)) refl i h)
+size-some i h = ltb-true _ _ (every-row (λ k r. ltb 0 r.size) refl i h)
 
 module _ (q : ℕ) (features full later : List ℕ) (t s : ℕ) (few : q < 5) where
-  not-empty : lookupTold (lookupOf q features full later t s) .0 ≡ 0 → 0 < length (valueFound q features full later t s)
+  not-empty : (lookupTold (lookupOf q features full later t s)).0 ≡ 0 → 0 < length (valueFound q features full later t s)
   not-empty e =
       let p = found-passes q features full later t s few e in
-      by-row q t (selectorOf t s) (p .inside)
+      by_row q t (selectorOf t s) p.inside
       (λ i r.
-      let f = place-found q t (selectorOf t s) i r in
-      rw (found-row q features full later (p .pair) t s i r, pair-length q features full later (p .pair) i (f .below) (f .there))
-      (size-some i (f .below)))
+      let f = place_found q t (selectorOf t s) i r in
+      rw (found-row q features full later p.pair t s i r, pair-length q features full later p.pair i f.below f.there)
+      (size-some i f.below))
 
 -- ---- the made list as a full capture ----
 
 -- the empty list is accepted
 empty-accepted : (q : ℕ) (features : List ℕ) → isAccepted (causeOf q features []) ≡ true
-unfolding causeIn partsFrom atMost whole every repeated unless_answer_then_
+unfolding causeIn partsFrom at_most whole every repeated unless◌answer◌then◌
 empty-accepted q features = refl
 
-empty-value : (t s : ℕ) (y : List ℕ) → valueOr t s (partsOf Parts []) y ≡ y
-unfolding partsFrom atMost valueOr
+empty-value : (t s : ℕ) (y : List ℕ) → valueOr t s (parts_of Parts []) y ≡ y
+unfolding partsFrom at_most valueOr
 empty-value t s y = refl
 
 module _ (q : ℕ) (features full later : List ℕ) (pair : Pair q features full later) where
   abbrev m : List ℕ
   m = made q full later
 
-  made-pair : Pair q features m []
-  made-pair =
+  made_pair : Pair q features m []
+  made_pair =
       record {
-        few = pair .few;
+        few = pair.few;
         fullAccepted = pair-accepted q features full later pair;
         laterAccepted = empty-accepted q features;
         lacksNone = pair-full q features full later pair;
       }
 
   outside : (t s : ℕ) → known q t (selectorOf t s) ≡ false → lookupOf q features m [] t s ≡ lookupOf q features full later t s
-  outside t s n = found-outside q features m [] made-pair t s n ∙ sym (found-outside q features full later pair t s n)
+  outside t s n = found-outside q features m [] made_pair t s n ∙ sym (found-outside q features full later pair t s n)
 
-  same-name : (t s : ℕ) → lookupTold (lookupOf q features m [] t s) .0 ≡ lookupTold (lookupOf q features full later t s) .0
+  same-name : (t s : ℕ) → (lookupTold (lookupOf q features m [] t s)).0 ≡ (lookupTold (lookupOf q features full later t s)).0
   same-name t s =
-      by-cases (known q t (selectorOf t s))
+      by_cases (known q t (selectorOf t s))
       (λ k.
-      by-row q t (selectorOf t s) k
-      (λ i e. name-row q features m [] made-pair t s i e ∙ sym (name-row q features full later pair t s i e)))
-      (λ n. ap (λ l. lookupTold l .0) (outside t s n))
+      by_row q t (selectorOf t s) k
+      (λ i e. name-row q features m [] made_pair t s i e ∙ sym (name-row q features full later pair t s i e)))
+      (λ n. ap (λ l. (lookupTold l).0) (outside t s n))
 
   same-value : (t s : ℕ) → valueFound q features m [] t s ≡ valueFound q features full later t s
   same-value t s =
-      by-cases (known q t (selectorOf t s))
+      by_cases (known q t (selectorOf t s))
       (λ k.
-      by-row q t (selectorOf t s) k
+      by_row q t (selectorOf t s) k
       (λ i e.
-      let r = place-found q t (selectorOf t s) i e in
-      found-row q features m [] made-pair t s i e
-      ∙ place-value m [] (rowAt i .partType) (rowAt i .selector)
-      ∙ empty-value (rowAt i .partType) (rowAt i .selector) _
-      ∙ pair-value q features full later pair i (r .below) (r .there) []
+      let r = place_found q t (selectorOf t s) i e in
+      found-row q features m [] made_pair t s i e
+      ∙ place-value m [] (row_at i).partType (row_at i).selector
+      ∙ empty-value (row_at i).partType (row_at i).selector _
+      ∙ pair-value q features full later pair i r.below r.there []
       ∙ sym (found-row q features full later pair t s i e)))
-      (λ n. rw (found-outside q features m [] made-pair t s n, found-outside q features full later pair t s n))
+      (λ n. rw (found-outside q features m [] made_pair t s n, found-outside q features full later pair t s n))
 
 -- ---- all of them ----
 
@@ -117,7 +117,7 @@ claims =
             accepted = pair-accepted q features full later pair;
             lacksNone = pair-full q features full later pair;
             size = pair-long q features full later pair;
-            sameName = same-name q features full later pair;
+            same_name = same-name q features full later pair;
             sameValue = same-value q features full later pair;
           };
       setsBoth = λ q full later values long pair.
@@ -125,8 +125,8 @@ claims =
             same = made-sets q full later values long pair;
             captured = made-is q full later values long pair;
             found = λ t s i e.
-                let r = place-found q t (selectorOf t s) i e in
-                found-row q (bytesAt 0 featuresSize values) full later pair t s i e
-                ∙ looked-up q full later values long pair i (r .below) (r .there);
+                let r = place_found q t (selectorOf t s) i e in
+                found-row q (bytes_at 0 featuresSize values) full later pair t s i e
+                ∙ looked-up q full later values long pair i r.below r.there;
           };
     }

@@ -1,35 +1,35 @@
 -- A pair that meets the hypotheses of specs/Claims.antt, and refusals: a fresh capture of a member with one queue, and a later list
 -- of a device status, with selector bytes that its type does not name, and an unknown optional part. Assumes nothing.
-use mathlib.Core.Path.{_≡_, refl}
+use mathlib.Core.Path.{◌≡◌, refl}
 use mathlib.Core.Bool.{Bool, true}
-use mathlib.Core.List.{List, [], _∷_, _++_}
+use mathlib.Core.List.{List, [], ◌∷◌, ◌++◌}
 use Prim.Native.Nat.{ℕ}
 use native.Mathlib.Omega.{arith}
 use lib.ListN.{replicate, take}
-use Rattle·theory.specs.Logic.{if_then_else_, unless_answer_then_, _and_, _or_, indicator}
-use Rattle·theory.specs.Bytes.{put, same}
-use Rattle·theory.specs.Items.{itemsFrom}
-use Rattle·theory.proofs.Table.{every}
-use Rattle·wire.specs.Le.{le, bytes, number}
-use Rattle·inventory.specs.Inventory.{Row, rows, rowAt, present, offsetOf, selectorOf, isRow, seek, placeOf}
-use Rattle·inventory.specs.Queue.{powerBelow, ringSize, queueAllowed, valueAllowed}
-use Rattle·inventory.specs.Header.{headerOf}
-use Rattle·inventory.proofs.Rules.{every-row}
-use Rattle·parts.specs.declared.ListForm.the-variants.{Parts}
-use Rattle·parts.specs.List.{headerAt, stepAt, atMost, partsFrom, partsOf, whole, among}
-use Rattle·rules.specs.Rules.{known, knownOrSkipped, lengthRight, sizeRight, featuresSame, every as everyPart, repeated, causeIn}
-use Rattle·capture.specs.Capture.{partAt, asks, partItem, partsWritten, captureOf}
-use Rattle·setups.specs.declared.MemberSetup.{MemberSetup}
-use Rattle·setups.specs.Member.{noMember}
-use Rattle·difference·specs.specs.Difference.{spanFrom, placeIn, hasRow, hasRows, verdictOf, onVerdict, lookupOf, lookupTold, madePart, madeItem, made, mergeOf}
-use Rattle·difference·specs.specs.Under.{lookupUnder}
-use Rattle·difference·specs.specs.Claims.{HasEach, Asks, Asked, Pair}
+use Rattle.theory.specs.Logic.{if◌then◌else◌, unless◌answer◌then◌, ◌and◌, ◌or◌, indicator}
+use Rattle.theory.specs.Bytes.{put, same}
+use Rattle.theory.specs.Items.{itemsFrom}
+use Rattle.theory.proofs.Table.{every}
+use Rattle.wire.specs.Le.{le, bytes, number}
+use Rattle.inventory.specs.Inventory.{Row, rows, row_at, present, offset_of, selectorOf, is_row, seek, place_of}
+use Rattle.inventory.specs.Queue.{powerBelow, ringSize, queueAllowed, valueAllowed}
+use Rattle.inventory.specs.Header.{headerOf}
+use Rattle.inventory.proofs.Rules.{every-row}
+use Rattle.parts.specs.declared.ListForm.TheVariants.{Parts}
+use Rattle.parts.specs.List.{header_at, stepAt, at_most, partsFrom, parts_of, whole, among}
+use Rattle.rules.specs.Rules.{known, knownOrSkipped, lengthRight, sizeRight, featuresSame, every as everyPart, repeated, causeIn}
+use Rattle.capture.specs.Capture.{part_at, asks, partItem, partsWritten, captureOf}
+use Rattle.setups.specs.declared.MemberSetup.{MemberSetup}
+use Rattle.setups.specs.Member.{noMember}
+use Rattle.difference.specs.Difference.{spanFrom, place_in, has_row, hasRows, verdictOf, onVerdict, lookupOf, lookupTold, madePart, madeItem, made, mergeOf}
+use Rattle.difference.specs.Under.{lookupUnder}
+use Rattle.difference.specs.Claims.{HasEach, Asks, Asked, Pair}
 
 -- what computes where a proof says `unfolding model`
 unfoldable model : Unit {0}
-unfolding if_then_else_ unless_answer_then_ _and_ _or_ indicator put same itemsFrom le bytes number rows rowAt present offsetOf selectorOf
-    isRow seek placeOf powerBelow ringSize queueAllowed valueAllowed headerOf headerAt stepAt atMost partsFrom whole among known knownOrSkipped lengthRight sizeRight featuresSame everyPart
-    repeated causeIn partAt asks partItem partsWritten spanFrom placeIn hasRow hasRows verdictOf onVerdict lookupOf lookupTold madePart madeItem
+unfolding if◌then◌else◌ unless◌answer◌then◌ ◌and◌ ◌or◌ indicator put same itemsFrom le bytes number rows row_at present offset_of selectorOf
+    is_row seek place_of powerBelow ringSize queueAllowed valueAllowed headerOf header_at stepAt at_most partsFrom whole among known knownOrSkipped lengthRight sizeRight featuresSame everyPart
+    repeated causeIn part_at asks partItem partsWritten spanFrom place_in has_row hasRows verdictOf onVerdict lookupOf lookupTold madePart madeItem
     made mergeOf
 model = tt
 
@@ -57,15 +57,15 @@ abbrev member : MemberSetup
 member = record { known = true; queues = 1; features = features }
 
 abbrev hasPart : Row → Bool
-hasPart r = if present 1 r then among (r .partType) (r .selector) (partsOf Parts full) else true
+hasPart r = if present 1 r then among r.partType r.selector (parts_of Parts full) else true
 
-has-parts : every (λ k r. hasPart r) 0 rows ≡ true
+has_parts : every (λ k r. hasPart r) 0 rows ≡ true
 unfolding model every
-has-parts = refl
+has_parts = refl
 
 full-each : HasEach 1 full
-unfolding if_then_else_
-full-each i h y = rw y at (every-row (λ k r. hasPart r) has-parts i h)
+unfolding if◌then◌else◌
+full-each i h y = rw y at (every-row (λ k r. hasPart r) has_parts i h)
 
 asks-met : Asks member full later
 unfolding model
@@ -85,9 +85,9 @@ unfolding model
 notify-found = refl
 
 -- the made list differs from the full capture in the device status alone, and the rest of the buffer stays
-made-bytes : same (mergeOf 1 features full later (zeros 229 ++ (7 ∷ 8 ∷ [])) .1 .1) (put 156 (15 ∷ []) full ++ (7 ∷ 8 ∷ [])) ≡ true
+made_bytes : same (mergeOf 1 features full later (zeros 229 ++ (7 ∷ 8 ∷ []))).1.1 (put 156 (15 ∷ []) full ++ (7 ∷ 8 ∷ [])) ≡ true
 unfolding model
-made-bytes = refl
+made_bytes = refl
 
 -- 1 to 6, each where the ones after it apply too: no such member, a full capture that is cut, a later list that is, a full capture that lacks a
 -- part, a part of a second queue, and a buffer that is a byte too short

@@ -1,91 +1,91 @@
 -- A lookup, from the place of a value to the part that is handed back, in the form in which the needs ask it. Assumes nothing.
-use mathlib.Core.Path.{_≡_, refl, sym, subst, _∙_}
+use mathlib.Core.Path.{◌≡◌, refl, sym, subst, ◌∙◌}
 use mathlib.Core.Bool.{Bool, true}
 use mathlib.Core.List.{List, []}
-use Prim.Native.Nat.{ℕ, _+_, _-_, _≤_}
-use native.Mathlib.Nat.{add-sub-cancel-left}
-use borrow.Author.Tests.{eq-eqb, ne-eqb}
-use denote.Ref.{RefT, now}
+use Prim.Native.Nat.{ℕ, ◌+◌, ◌-◌, ◌≤◌}
+use native.Mathlib.Nat.{add-sub_cancel_left}
+use borrow.Author.Tests.{eq-eqb, ne_eqb}
+use denote.Ref.{Bor}
 use lib.ListN.{length, take, drop}
-use Rattle·theory.specs.Logic.{if_then_else_}
-use Rattle·theory.specs.Bytes.{bytesAt}
-use Rattle·theory.proofs.Tests.{if-cases}
-use Rattle·inventory.specs.Inventory.{selectorOf}
-use Rattle·parts.specs.declared.ListForm.the-variants.{Parts}
-use Rattle·parts.specs.List.{partsOf, valueOr}
-use Rattle·rules.specs.Rules.{known}
-use Rattle·difference·specs.specs.declared.Span.{Span}
-use Rattle·difference·specs.specs.declared.Span.the-variants.{Value, Nowhere}
-use Rattle·difference·specs.specs.declared.Verdict.{Verdict}
-use Rattle·difference·specs.specs.declared.Verdict.the-variants.{LacksPart}
-use Rattle·difference·specs.specs.declared.Lookup.{Lookup}
-use Rattle·difference·specs.specs.declared.Lookup.the-variants.{InLater, InFull, Refused}
-use Rattle·difference·specs.specs.Difference.{spanOf, onSpan, placeIn, valueAt, verdictOf, codeOf, onVerdict, lookupOf, lookupTold}
-use Rattle·difference·specs.specs.Handed.{PartOf, Handed, Inside}
-use Rattle·difference·proofs.proofs.Places.{span-value, span-inside}
+use Rattle.theory.specs.Logic.{if◌then◌else◌}
+use Rattle.theory.specs.Bytes.{bytes_at}
+use Rattle.theory.proofs.Tests.{if-cases}
+use Rattle.inventory.specs.Inventory.{selectorOf}
+use Rattle.parts.specs.declared.ListForm.TheVariants.{Parts}
+use Rattle.parts.specs.List.{parts_of, valueOr}
+use Rattle.rules.specs.Rules.{known}
+use Rattle.difference.specs.declared.Span.{Span}
+use Rattle.difference.specs.declared.Span.TheVariants.{Value, Nowhere}
+use Rattle.difference.specs.declared.Verdict.{Verdict}
+use Rattle.difference.specs.declared.Verdict.TheVariants.{LacksPart}
+use Rattle.difference.specs.declared.Lookup.{Lookup}
+use Rattle.difference.specs.declared.Lookup.TheVariants.{InLater, InFull, Refused}
+use Rattle.difference.specs.Difference.{span_of, onSpan, place_in, value_at, verdictOf, code_of, onVerdict, lookupOf, lookupTold}
+use Rattle.difference.specs.Handed.{PartOf, Handed, Inside}
+use Rattle.difference.proofs.Places.{span_value, span-inside}
 
 -- ---- the place in the pair ----
 
 module _ (full later : List ℕ) (t s : ℕ) where
   -- a, b: what the walks of the later list and of the full capture answered
-  module _ (a : Span) (ea : a ≡ spanOf t s later) where
-    pub place-later : (start len : ℕ) → a ≡ Value start len → InLater start len ≡ placeIn full later t s
-    unfolding placeIn
+  module _ (a : Span) (ea : a ≡ span_of t s later) where
+    pub place-later : (start len : ℕ) → a ≡ Value start len → InLater start len ≡ place_in full later t s
+    unfolding place_in
     place-later start len e = rw (sym ea ∙ e)
 
-    module _ (na : a ≡ Nowhere) (b : Span) (eb : b ≡ spanOf t s full) where
-      pub place-full : (start len : ℕ) → b ≡ Value start len → InFull start len ≡ placeIn full later t s
-      unfolding placeIn
+    module _ (na : a ≡ Nowhere) (b : Span) (eb : b ≡ span_of t s full) where
+      pub place-full : (start len : ℕ) → b ≡ Value start len → InFull start len ≡ place_in full later t s
+      unfolding place_in
       place-full start len e = rw (sym ea ∙ na, sym eb ∙ e)
 
-      pub place-none : b ≡ Nowhere → Refused LacksPart ≡ placeIn full later t s
-      unfolding placeIn
-      place-none e = rw (sym ea ∙ na, sym eb ∙ e)
+      pub place_none : b ≡ Nowhere → Refused LacksPart ≡ place_in full later t s
+      unfolding place_in
+      place_none e = rw (sym ea ∙ na, sym eb ∙ e)
 
   -- the value there is that of the later list, or else that of the full capture
-  pub place-value : valueAt full later (placeIn full later t s) ≡ valueOr t s (partsOf Parts later) (valueOr t s (partsOf Parts full) [])
-  unfolding placeIn
-  place-value = rw (span-value t s later, span-value t s full) (cases (spanOf t s later) (spanOf t s full))
+  pub place-value : value_at full later (place_in full later t s) ≡ valueOr t s (parts_of Parts later) (valueOr t s (parts_of Parts full) [])
+  unfolding place_in
+  place-value = rw (span_value t s later, span_value t s full) (cases (span_of t s later) (span_of t s full))
     where
-      cases : (a b : Span) → valueAt full later (onSpan a InLater (onSpan b InFull (Refused LacksPart)))
-          ≡ onSpan a (λ start len. bytesAt start len later) (onSpan b (λ start len. bytesAt start len full) [])
+      cases : (a b : Span) → value_at full later (onSpan a InLater (onSpan b InFull (Refused LacksPart)))
+          ≡ onSpan a (λ start len. bytes_at start len later) (onSpan b (λ start len. bytes_at start len full) [])
       cases (Value start len) b = refl
       cases Nowhere (Value start len) = refl
       cases Nowhere Nowhere = refl
 
   -- and it lies within its list
-  place-inside : Inside full later (placeIn full later t s)
-  unfolding placeIn Inside
-  place-inside = cases (spanOf t s later) (spanOf t s full) refl refl
+  place_inside : Inside full later (place_in full later t s)
+  unfolding place_in Inside
+  place_inside = cases (span_of t s later) (span_of t s full) refl refl
     where
-      cases : (a b : Span) → spanOf t s later ≡ a → spanOf t s full ≡ b → Inside full later (onSpan a InLater (onSpan b InFull (Refused LacksPart)))
+      cases : (a b : Span) → span_of t s later ≡ a → span_of t s full ≡ b → Inside full later (onSpan a InLater (onSpan b InFull (Refused LacksPart)))
       cases (Value start len) b ea eb = span-inside t s later start len ea
       cases Nowhere (Value start len) ea eb = span-inside t s full start len eb
       cases Nowhere Nowhere ea eb = tt
 
-  pub placed-inside : (l : Lookup) → l ≡ placeIn full later t s → Inside full later l
-  placed-inside l e = rw e place-inside
+  pub placed-inside : (l : Lookup) → l ≡ place_in full later t s → Inside full later l
+  placed-inside l e = rw e place_inside
 
 -- ---- the lookup ----
 
 module _ {A : Type 0} (v : Verdict) (refused : Verdict → A) (a : A) where
-  pub verdict-refused : (codeOf v ≡ 0 → ⊥) → onVerdict v refused a ≡ refused v
-  unfolding onVerdict if_then_else_
-  verdict-refused n = rw (ne-eqb (codeOf v) 0 n)
+  pub verdict-refused : (code_of v ≡ 0 → ⊥) → onVerdict v refused a ≡ refused v
+  unfolding onVerdict if◌then◌else◌
+  verdict-refused n = rw (ne_eqb (code_of v) 0 n)
 
-  pub verdict-passed : codeOf v ≡ 0 → onVerdict v refused a ≡ a
-  unfolding onVerdict if_then_else_
-  verdict-passed e = rw (eq-eqb (codeOf v) 0 e)
+  pub verdict-passed : code_of v ≡ 0 → onVerdict v refused a ≡ a
+  unfolding onVerdict if◌then◌else◌
+  verdict-passed e = rw (eq-eqb (code_of v) 0 e)
 
 module _ (q : ℕ) (features full later : List ℕ) (t selector named : ℕ) (en : named ≡ selectorOf t selector) where
   pub look-refused : (asked : Bool) (v : Verdict) (n : ℕ) → asked ≡ known q t named → v ≡ verdictOf q features full later asked true
-      → n ≡ codeOf v → (n ≡ 0 → ⊥) → Refused v ≡ lookupOf q features full later t selector
+      → n ≡ code_of v → (n ≡ 0 → ⊥) → Refused v ≡ lookupOf q features full later t selector
   unfolding lookupOf
   look-refused asked v n ea ev ec h =
       rw (← en, ← ea, ← ev) (sym (verdict-refused v Refused _ (λ e. h (ec ∙ e))))
 
   pub look-found : (asked : Bool) (v : Verdict) (n : ℕ) (l : Lookup) → asked ≡ known q t named → v ≡ verdictOf q features full later asked true
-      → n ≡ codeOf v → n ≡ 0 → l ≡ placeIn full later t named → l ≡ lookupOf q features full later t selector
+      → n ≡ code_of v → n ≡ 0 → l ≡ place_in full later t named → l ≡ lookupOf q features full later t selector
   unfolding lookupOf
   look-found asked v n l ea ev ec h e =
       rw (← en, ← ea, ← ev) (e ∙ sym (verdict-passed v Refused _ (sym ec ∙ h)))
@@ -94,12 +94,12 @@ pub lookup-inside : (q : ℕ) (features full later : List ℕ) (t selector : ℕ
     → Inside full later l
 unfolding lookupOf onVerdict Inside
 lookup-inside q features full later t selector l e =
-    rw e (if-cases (Inside full later) _ _ _ (λ y. place-inside full later t (selectorOf t selector)) (λ n. tt))
+    rw e (if-cases (Inside full later) _ _ _ (λ y. place_inside full later t (selectorOf t selector)) (λ n. tt))
 
 -- ---- what is handed back ----
 
-pub part-bytes : (start len : ℕ) (l x : List ℕ) → x ≡ take (start + len - start) (drop start l) → x ≡ bytesAt start len l
-part-bytes start len l x e = e ∙ rw add-sub-cancel-left
+pub part_bytes : (start len : ℕ) (l x : List ℕ) → x ≡ take (start + len - start) (drop start l) → x ≡ bytes_at start len l
+part_bytes start len l x e = e ∙ rw add-sub_cancel_left
 
 module _ (full later : List ℕ) (l : Lookup) (h : Inside full later l) (start len : ℕ) where
   pub later-inside : l ≡ InLater start len → start + len ≤ length later
@@ -110,7 +110,7 @@ module _ (full later : List ℕ) (l : Lookup) (h : Inside full later l) (start l
   unfolding Inside
   full-inside e = subst (Inside full later) e h
 
-module _ (full later r : RefT (List ℕ)) (l : Lookup) where
+module _ (full later r : Bor (List ℕ)) (l : Lookup) where
   pub later-handed : (start len : ℕ) → l ≡ InLater start len → PartOf later start len r → Handed full later l r
   unfolding Handed
   later-handed start len e p = rw e p
@@ -119,17 +119,17 @@ module _ (full later r : RefT (List ℕ)) (l : Lookup) where
   unfolding Handed
   full-handed start len e p = rw e p
 
-  pub none-handed : (v : Verdict) → l ≡ Refused v → r .now ≡ [] → Handed full later l r
+  pub none-handed : (v : Verdict) → l ≡ Refused v → r.now ≡ [] → Handed full later l r
   unfolding Handed
   none-handed v e p = rw e p
 
   pub handed-as : (m : Lookup) → l ≡ m → Handed full later l r → Handed full later m r
   handed-as m e h = subst (λ k. Handed full later k r) e h
 
-pub handed-value : (full later r : RefT (List ℕ)) (l : Lookup) → Handed full later l r → now r ≡ valueAt (now full) (now later) l
+pub handed-value : (full later r : Bor (List ℕ)) (l : Lookup) → Handed full later l r → r.now ≡ value_at full.now later.now l
 unfolding Handed
-handed-value full later r (InLater start len) h = h .bytes
-handed-value full later r (InFull start len) h = h .bytes
+handed-value full later r (InLater start len) h = h.bytes
+handed-value full later r (InFull start len) h = h.bytes
 handed-value full later r (Refused v) h = h
 
 -- ---- the same as numbers ----
@@ -143,6 +143,6 @@ module _ (l m : Lookup) (e : l ≡ m) where
   unfolding lookupTold
   full-told start len h = rw (sym e ∙ h)
 
-  pub refused-told : (v : Verdict) (n : ℕ) → l ≡ Refused v → n ≡ codeOf v → (n, (0, (0, 0))) ≡ lookupTold m
+  pub refused-told : (v : Verdict) (n : ℕ) → l ≡ Refused v → n ≡ code_of v → (n, (0, (0, 0))) ≡ lookupTold m
   unfolding lookupTold
   refused-told v n h k = rw (sym e ∙ h, k)

@@ -1,27 +1,27 @@
 -- The value of a part by its place in the bytes of a list: the turns of the walk that looks for it; it lies within the list, and
 -- is the value of that part. Assumes nothing.
-use mathlib.Core.Path.{_≡_, refl, ap, sym, _∙_}
+use mathlib.Core.Path.{◌≡◌, refl, ap, sym, ◌∙◌}
 use mathlib.Core.Bool.{Bool, true, false}
-use mathlib.Core.List.{List, [], _∷_}
-use Prim.Native.Nat.{ℕ, zero, suc, _+_, _≤_}
+use mathlib.Core.List.{List, [], ◌∷◌}
+use Prim.Native.Nat.{ℕ, zero, suc, ◌+◌, ◌≤◌}
 use native.Mathlib.Omega.{arith}
 use types.Run.{OneOf}
-use denote.Enum.Declared.{tagOf}
+use denote.Enum.Declared.{tag_of}
 use lib.Dec.{eqb}
 use lib.ListN.{length}
-use Rattle·theory.specs.Logic.{if_then_else_, _and_}
-use Rattle·theory.specs.Bytes.{bytesAt}
-use Rattle·theory.proofs.Tests.{by-cases, never}
-use Rattle·theory.proofs.Bytes.{length-bytesAt}
-use Rattle·parts.specs.declared.ListForm.the-variants.{Parts}
-use Rattle·parts.specs.declared.Step.{Step}
-use Rattle·parts.specs.declared.Step.the-variants as step
-use Rattle·parts.specs.List.{PartList, end, cut, part, partIn, stepAt, onStep, atMost, partsFrom, partsOf, valueOr}
-use Rattle·parts.proofs.Walk.{step-part}
-use Rattle·parts.proofs.Turns.{stopped, opened}
-use Rattle·difference·specs.specs.declared.Span.{Span}
-use Rattle·difference·specs.specs.declared.Span.the-variants.{Value, Nowhere}
-use Rattle·difference·specs.specs.Difference.{spanFrom, spanOf, onSpan}
+use Rattle.theory.specs.Logic.{if◌then◌else◌, ◌and◌}
+use Rattle.theory.specs.Bytes.{bytes_at}
+use Rattle.theory.proofs.Tests.{by_cases, never}
+use Rattle.theory.proofs.Bytes.{length-bytesAt}
+use Rattle.parts.specs.declared.ListForm.TheVariants.{Parts}
+use Rattle.parts.specs.declared.Step.{Step}
+use Rattle.parts.specs.declared.Step.TheVariants as step
+use Rattle.parts.specs.List.{PartList, end, cut, part, partIn, stepAt, onStep, at_most, partsFrom, parts_of, valueOr}
+use Rattle.parts.proofs.Walk.{step_part}
+use Rattle.parts.proofs.Turns.{stopped, opened}
+use Rattle.difference.specs.declared.Span.{Span}
+use Rattle.difference.specs.declared.Span.TheVariants.{Value, Nowhere}
+use Rattle.difference.specs.Difference.{spanFrom, span_of, onSpan}
 
 -- ---- the turns of the walk ----
 
@@ -30,35 +30,35 @@ span-part : (t s : ℕ) (l : List ℕ) (at u f v start len : ℕ) → stepAt Par
     → spanFrom t s at (part (partIn l u f v start len) ps) ≡ if eqb u t and eqb v s then Value start len else spanFrom t s (start + len) ps
 unfolding spanFrom
 span-part t s l at u f v start len e ps =
-    let w = step-part Parts l at e in
-    rw (length-bytesAt start len l (w .ends), ← w .starts)
+    let w = step_part Parts l at e in
+    rw (length-bytesAt start len l w.ends, ← w.starts)
 
 -- r is what next_part answered at `at`, x what the whole list gives
 module _ (t s : ℕ) (l : List ℕ) (at : ℕ) (r : Step) (here : r ≡ stepAt Parts l at) (x : Span) (e : x ≡ spanFrom t s at (partsFrom Parts l at)) where
-  pub span-stop : OneOf (1 ∷ 2 ∷ []) (tagOf Rattle·parts.proofs.Step.the-type r) → x ≡ Nowhere
+  pub span-stop : OneOf (1 ∷ 2 ∷ []) (tag_of Rattle.parts.specs.contracts.Step.the_type r) → x ≡ Nowhere
   unfolding spanFrom
   span-stop none = e ∙ stopped Parts l at r here none (spanFrom t s at) Nowhere refl refl
 
   -- b: it is the part that is looked for
   module _ (u f v start len : ℕ) (found : r ≡ step.Part u f v start len) (b : Bool) (named : b ≡ eqb u t and eqb v s) where
-    at-part : x ≡ if b then Value start len else spanFrom t s (start + len) (partsFrom Parts l (start + len))
-    at-part =
+    at_part : x ≡ if b then Value start len else spanFrom t s (start + len) (partsFrom Parts l (start + len))
+    at_part =
         e ∙ ap (spanFrom t s at) (opened Parts l at r here u f v start len found)
         ∙ span-part t s l at u f v start len (sym here ∙ found) _ ∙ rw (← named)
 
     pub span-here : b ≡ true → x ≡ Value start len
-    unfolding if_then_else_
-    span-here y = rw y at at-part
+    unfolding if◌then◌else◌
+    span-here y = rw y at at_part
 
     pub span-on : b ≡ false → x ≡ spanFrom t s (start + len) (partsFrom Parts l (start + len))
-    unfolding if_then_else_
-    span-on n = rw n at at-part
+    unfolding if◌then◌else◌
+    span-on n = rw n at at_part
 
 -- ---- what stands there ----
 
 -- w: where the value of a part of ps stands in l
 record Stands (t s : ℕ) (l : List ℕ) (ps : PartList) (w : Span) : Type 0 where
-  value : (y : List ℕ) → valueOr t s ps y ≡ onSpan w (λ start len. bytesAt start len l) y
+  value : (y : List ℕ) → valueOr t s ps y ≡ onSpan w (λ start len. bytes_at start len l) y
   inside : (start len : ℕ) → w ≡ Value start len → start + len ≤ length l
 
 nowhere : (l : List ℕ) (start len : ℕ) → Nowhere ≡ Value start len → start + len ≤ length l
@@ -67,36 +67,36 @@ nowhere l start len e = never cc
 stands-part : (t s : ℕ) (l : List ℕ) (u f v start len : ℕ) (ps : PartList) → start + len ≤ length l
     → Stands t s l ps (spanFrom t s (start + len) ps)
     → Stands t s l (part (partIn l u f v start len) ps) (if eqb u t and eqb v s then Value start len else spanFrom t s (start + len) ps)
-unfolding valueOr if_then_else_
+unfolding valueOr if◌then◌else◌
 stands-part t s l u f v start len ps h r =
-    by-cases (eqb u t and eqb v s)
+    by_cases (eqb u t and eqb v s)
     (λ y. rw y (record { value = λ d. rw y; inside = here }))
-    (λ n. rw n (record { value = λ d. rw n (r .value d); inside = r .inside }))
+    (λ n. rw n (record { value = λ d. rw n (r.value d); inside = r.inside }))
   where
     here : (a b : ℕ) → Value start len ≡ Value a b → a + b ≤ length l
     here a b e = let x : start ≡ a = cc in let y : len ≡ b = cc in omega arith
 
-stands-from : (t s : ℕ) (l : List ℕ) (n at : ℕ) → Stands t s l (atMost Parts n l at) (spanFrom t s at (atMost Parts n l at))
-unfolding atMost spanFrom valueOr
-stands-from t s l zero at = record { value = λ d. refl; inside = nowhere l }
-stands-from t s l (suc n) at = cases (stepAt Parts l at) refl (stands-from t s l n)
+stands_from : (t s : ℕ) (l : List ℕ) (n at : ℕ) → Stands t s l (at_most Parts n l at) (spanFrom t s at (at_most Parts n l at))
+unfolding at_most spanFrom valueOr
+stands_from t s l zero at = record { value = λ d. refl; inside = nowhere l }
+stands_from t s l (suc n) at = cases (stepAt Parts l at) refl (stands_from t s l n)
   where
-    cases : (r : Step) → stepAt Parts l at ≡ r → ((on : ℕ) → Stands t s l (atMost Parts n l on) (spanFrom t s on (atMost Parts n l on)))
-        → Stands t s l (onStep r (λ t f s start len. part (partIn l t f s start len) (atMost Parts n l (start + len))) cut end)
-        (spanFrom t s at (onStep r (λ t f s start len. part (partIn l t f s start len) (atMost Parts n l (start + len))) cut end))
+    cases : (r : Step) → stepAt Parts l at ≡ r → ((on : ℕ) → Stands t s l (at_most Parts n l on) (spanFrom t s on (at_most Parts n l on)))
+        → Stands t s l (onStep r (λ t f s start len. part (partIn l t f s start len) (at_most Parts n l (start + len))) cut end)
+        (spanFrom t s at (onStep r (λ t f s start len. part (partIn l t f s start len) (at_most Parts n l (start + len))) cut end))
     cases (step.Part u f v start len) e ih =
-        rw (span-part t s l at u f v start len e (atMost Parts n l (start + len)))
-        (stands-part t s l u f v start len (atMost Parts n l (start + len)) (step-part Parts l at e .ends) (ih (start + len)))
+        rw (span-part t s l at u f v start len e (at_most Parts n l (start + len)))
+        (stands-part t s l u f v start len (at_most Parts n l (start + len)) (step_part Parts l at e).ends (ih (start + len)))
     cases step.Cut e ih = record { value = λ d. refl; inside = nowhere l }
     cases step.End e ih = record { value = λ d. refl; inside = nowhere l }
 
 module _ (t s : ℕ) (l : List ℕ) where
-  stands : Stands t s l (partsOf Parts l) (spanOf t s l)
+  stands : Stands t s l (parts_of Parts l) (span_of t s l)
   unfolding partsFrom
-  stands = stands-from t s l (length l) 0
+  stands = stands_from t s l (length l) 0
 
-  pub span-value : (y : List ℕ) → valueOr t s (partsOf Parts l) y ≡ onSpan (spanOf t s l) (λ start len. bytesAt start len l) y
-  span-value = stands .value
+  pub span_value : (y : List ℕ) → valueOr t s (parts_of Parts l) y ≡ onSpan (span_of t s l) (λ start len. bytes_at start len l) y
+  span_value = stands.value
 
-  pub span-inside : (start len : ℕ) → spanOf t s l ≡ Value start len → start + len ≤ length l
-  span-inside = stands .inside
+  pub span-inside : (start len : ℕ) → span_of t s l ≡ Value start len → start + len ≤ length l
+  span-inside = stands.inside

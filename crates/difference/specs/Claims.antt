@@ -2,85 +2,81 @@
 -- a full capture and a later list, and what the list made of them is, on the values of a member. The record Claims at the end
 -- lists it, ../proofs/Claims.antt proves it, and ../proofs/Example.antt has a pair that meets the hypotheses. The papers' numbers
 -- stand here once more, apart from the definitions. Assumes nothing.
-use mathlib.Core.Path.{_≡_}
-use mathlib.Core.Bool.{true, false}
-use mathlib.Core.List.{List, [], _++_}
-use Prim.Native.Nat.{ℕ, _+_, _*_, _<_, _≤_}
-use lib.ListN.{length, drop}
-use Rattle·theory.specs.Bytes.{bytesAt}
-use Rattle·inventory.specs.Inventory.{rowAt, present, selectorOf, placeOf, valueOf}
-use Rattle·inventory.specs.declared.Place.the-variants.{At}
-use Rattle·parts.specs.declared.ListForm.the-variants.{Parts}
-use Rattle·parts.specs.List.{partsOf, among, valueOr}
-use Rattle·rules.specs.Rules.{causeOf, isAccepted}
-use Rattle·values.specs.Apply.{applied}
-use Rattle·capture.specs.Capture.{captureOf}
-use Rattle·setups.specs.declared.MemberSetup.{MemberSetup}
-use Rattle·setups.specs.Member.{memberSetup}
-use Rattle·difference·specs.specs.Difference.{valueAt, isFull, lookupOf, lookupTold, made}
-use Rattle·difference·specs.specs.Under.{lookupUnder, mergeUnder}
+use Rattle.std.specs.Prelude.{◌≡◌, true, false, List, [], ◌++◌, ℕ, ◌+◌, ◌*◌, ◌<◌, ◌≤◌, length, drop}
+use Rattle.theory.specs.Bytes.{bytes_at}
+use Rattle.inventory.specs.Inventory.{row_at, present, selectorOf, place_of, value_of}
+use Rattle.inventory.specs.declared.Place.TheVariants.{At}
+use Rattle.parts.specs.declared.ListForm.TheVariants.{Parts}
+use Rattle.parts.specs.List.{parts_of, among, valueOr}
+use Rattle.rules.specs.Rules.{causeOf, isAccepted}
+use Rattle.values.specs.Apply.{applied}
+use Rattle.capture.specs.Capture.{captureOf}
+use Rattle.setups.specs.declared.MemberSetup.{MemberSetup}
+use Rattle.setups.specs.Member.{memberSetup}
+use Rattle.difference.specs.Difference.{value_at, isFull, lookupOf, lookupTold, made}
+use Rattle.difference.specs.Under.{lookupUnder, mergeUnder}
 
 -- ---- when the calls are done, and by which number they are refused ----
 
 -- a list has each part of the inventory of a member with so many queues
 abbrev pub HasEach : ℕ → List ℕ → Type 0
 HasEach queues l =
-    (i : ℕ) → i < 15 → present queues (rowAt i) ≡ true → among (rowAt i .partType) (rowAt i .selector) (partsOf Parts l) ≡ true
+    (i : ℕ) → i < 15 → present queues (row_at i) ≡ true → among (row_at i).partType (row_at i).selector (parts_of Parts l) ≡ true
 
 -- what both calls ask: a setup that has this member, two lists that step 10 accepts, and a full capture that lacks no part; s is
 -- what the setup says of the member, and demands: Lists.MembersKnown when it has it
 pub record Asks (s : MemberSetup) (full later : List ℕ) : Type 0 where
-  pub known : s .known ≡ true
-  pub fullAccepted : isAccepted (causeOf (s .queues) (s .features) full) ≡ true
-  pub laterAccepted : isAccepted (causeOf (s .queues) (s .features) later) ≡ true
-  pub lacksNone : HasEach (s .queues) full
+  pub known : s.known ≡ true
+  pub fullAccepted : isAccepted (causeOf s.queues s.features full) ≡ true
+  pub laterAccepted : isAccepted (causeOf s.queues s.features later) ≡ true
+  pub lacksNone : HasEach s.queues full
 
 -- where it is not so, the number of the first that applies; `refusal` is what is given with it
 pub record Refuses {A : Type 0} (s : MemberSetup) (full later : List ℕ) (result : A) (refusal : ℕ → A) : Type 0 where
-  pub badSetup : s .known ≡ false → result ≡ refusal 1
-  pub badFull : s .known ≡ true → isAccepted (causeOf (s .queues) (s .features) full) ≡ false → result ≡ refusal 2
-  pub badLater : s .known ≡ true → isAccepted (causeOf (s .queues) (s .features) full) ≡ true
-      → isAccepted (causeOf (s .queues) (s .features) later) ≡ false → result ≡ refusal 3
-  pub lacksPart : s .known ≡ true → isAccepted (causeOf (s .queues) (s .features) full) ≡ true
-      → isAccepted (causeOf (s .queues) (s .features) later) ≡ true → (HasEach (s .queues) full → ⊥) → result ≡ refusal 4
+  pub badSetup : s.known ≡ false → result ≡ refusal 1
+  pub badFull : s.known ≡ true → isAccepted (causeOf s.queues s.features full) ≡ false → result ≡ refusal 2
+  pub badLater : s.known ≡ true → isAccepted (causeOf s.queues s.features full) ≡ true
+      → isAccepted (causeOf s.queues s.features later) ≡ false → result ≡ refusal 3
+  pub lacksPart : s.known ≡ true → isAccepted (causeOf s.queues s.features full) ≡ true
+      → isAccepted (causeOf s.queues s.features later) ≡ true → (HasEach s.queues full → ⊥) → result ≡ refusal 4
 
 -- the part asked is that of a row that the member has; of the selector's bytes those that the type names count
 pub record Asked (queues t selector : ℕ) : Type 0 where
   pub row : ℕ
   pub below : row < 15
-  pub there : present queues (rowAt row) ≡ true
-  pub type-is : rowAt row .partType ≡ t
-  pub selector-is : rowAt row .selector ≡ selectorOf t selector
+  pub there : present queues (row_at row) ≡ true
+  pub type-is : (row_at row).partType ≡ t
+  pub selector-is : (row_at row).selector ≡ selectorOf t selector
 
 -- the value stands in a list, so many bytes from a place on
 pub record Stands (t s : ℕ) (l : List ℕ) (at len : ℕ) : Type 0 where
   pub inside : at + len ≤ length l
-  pub value : bytesAt at len l ≡ valueOr t s (partsOf Parts l) []
+  pub value : bytes_at at len l ≡ valueOr t s (parts_of Parts l) []
 
 -- 0, then 1 and where the value stands in the later list; or 0 and where it does in the full capture, where the later list has
 -- none
 pub record Tells (full later : List ℕ) (t s : ℕ) (told : ℕ × (ℕ × (ℕ × ℕ))) : Type 0 where
-  pub done : told .0 ≡ 0
-  pub inLater : among t s (partsOf Parts later) ≡ true → (told .1 .0 ≡ 1) × Stands t s later (told .1 .1 .0) (told .1 .1 .1)
-  pub inFull : among t s (partsOf Parts later) ≡ false → (told .1 .0 ≡ 0) × Stands t s full (told .1 .1 .0) (told .1 .1 .1)
+  pub done : told.0 ≡ 0
+  pub inLater : among t s (parts_of Parts later) ≡ true → (told.1.0 ≡ 1) × Stands t s later told.1.1.0 told.1.1.1
+  pub inFull : among t s (parts_of Parts later) ≡ false → (told.1.0 ≡ 0) × Stands t s full told.1.1.0 told.1.1.1
 
 -- A lookup is done exactly if both lists are as asked and the part is in the inventory; refused, it gives zeros.
 pub record Finds (s : MemberSetup) (full later : List ℕ) (t selector : ℕ) (told : ℕ × (ℕ × (ℕ × ℕ))) : Type 0 where
-  pub done : Asks s full later → Asked (s .queues) t selector → Tells full later t (selectorOf t selector) told
-  pub asks : told .0 ≡ 0 → Asks s full later
-  pub asked : told .0 ≡ 0 → Asked (s .queues) t selector
+  pub done : Asks s full later → Asked s.queues t selector → Tells full later t (selectorOf t selector) told
+  pub asks : told.0 ≡ 0 → Asks s full later
+  pub asked : told.0 ≡ 0 → Asked s.queues t selector
   pub refuses : Refuses s full later told (λ n. (n, (0, (0, 0))))
-  pub outside : Asks s full later → (Asked (s .queues) t selector → ⊥) → told ≡ (5, (0, (0, 0)))
+  pub outside : Asks s full later → (Asked s.queues t selector → ⊥) → told ≡ (5, (0, (0, 0)))
 
 -- A merge is done exactly if both lists are as asked and the buffer has room: the made list is at its front, and the rest of it
 -- is as it was. Refused, it writes nothing.
 pub record Merges (s : MemberSetup) (full later out : List ℕ) (result : ℕ × (ℕ × List ℕ)) : Type 0 where
-  pub done : Asks s full later → 157 + 72 * s .queues ≤ length out
-      → result ≡ (0, (157 + 72 * s .queues, made (s .queues) full later ++ drop (157 + 72 * s .queues) out))
-  pub asks : result .0 ≡ 0 → Asks s full later
-  pub room : result .0 ≡ 0 → 157 + 72 * s .queues ≤ length out
+  pub done : Asks s full later → 157 + 72 * s.queues ≤ length out
+      → result ≡ (0, (157 + 72 * s.queues, made s.queues full later ++ drop (157 + 72 * s.queues) out))
+  pub asks : result.0 ≡ 0 → Asks s full later
+  pub room : result.0 ≡ 0 → 157 + 72 * s.queues ≤ length out
   pub refuses : Refuses s full later result (λ n. (n, (0, out)))
-  pub short : Asks s full later → length out < 157 + 72 * s .queues → result ≡ (6, (0, out))
+  pub short : Asks s full later → length out < 157 + 72 * s.queues → result ≡ (6, (0, out))
 
 -- ---- what is looked up, and the made list ----
 
@@ -93,11 +89,11 @@ pub record Pair (queues : ℕ) (features full later : List ℕ) : Type 0 where
 
 -- a member's values after the full capture, and then the later list, were set
 abbrev pub bothSet : ℕ → List ℕ → List ℕ → List ℕ → List ℕ
-bothSet queues full later values = applied queues (partsOf Parts later) (applied queues (partsOf Parts full) values)
+bothSet queues full later values = applied queues (parts_of Parts later) (applied queues (parts_of Parts full) values)
 
 -- the value that a lookup hands back
 abbrev pub valueFound : ℕ → List ℕ → List ℕ → List ℕ → ℕ → ℕ → List ℕ
-valueFound queues features full later t s = valueAt full later (lookupOf queues features full later t s)
+valueFound queues features full later t s = value_at full later (lookupOf queues features full later t s)
 
 -- The made list is a full capture: it is accepted, lacks no part, and is 157 + 72Q bytes long. Whatever part is asked, a lookup
 -- in it, with an empty later list, is answered by the same name and hands back the same value.
@@ -105,8 +101,8 @@ pub record MadeIsFull (queues : ℕ) (features full later : List ℕ) : Type 0 w
   pub accepted : isAccepted (causeOf queues features (made queues full later)) ≡ true
   pub lacksNone : isFull queues (made queues full later) ≡ true
   pub size : length (made queues full later) ≡ 157 + 72 * queues
-  pub sameName : (t s : ℕ) → lookupTold (lookupOf queues features (made queues full later) [] t s) .0
-      ≡ lookupTold (lookupOf queues features full later t s) .0
+  pub same_name : (t s : ℕ) → (lookupTold (lookupOf queues features (made queues full later) [] t s)).0
+      ≡ (lookupTold (lookupOf queues features full later t s)).0
   pub sameValue : (t s : ℕ) → valueFound queues features (made queues full later) [] t s
       ≡ valueFound queues features full later t s
 
@@ -114,10 +110,10 @@ pub record MadeIsFull (queues : ℕ) (features full later : List ℕ) : Type 0 w
 -- full capture and then the later list leaves; the made list is, byte for byte, the full capture of a member with these; and what
 -- is looked up for a part is what then stands in its row.
 pub record SetsBoth (queues : ℕ) (full later values : List ℕ) : Type 0 where
-  pub same : applied queues (partsOf Parts (made queues full later)) values ≡ bothSet queues full later values
+  pub same : applied queues (parts_of Parts (made queues full later)) values ≡ bothSet queues full later values
   pub captured : made queues full later ≡ captureOf queues (bothSet queues full later values)
-  pub found : (t s i : ℕ) → placeOf queues t (selectorOf t s) ≡ At i
-      → valueFound queues (bytesAt 0 16 values) full later t s ≡ valueOf (bothSet queues full later values) i
+  pub found : (t s i : ℕ) → place_of queues t (selectorOf t s) ≡ At i
+      → valueFound queues (bytes_at 0 16 values) full later t s ≡ value_of (bothSet queues full later values) i
 
 pub record Claims : Type 0 where
   pub finds : (setup : List ℕ) (m : ℕ) (full later : List ℕ) (t selector : ℕ)
@@ -126,8 +122,8 @@ pub record Claims : Type 0 where
       → Merges (memberSetup setup m) full later out (mergeUnder (memberSetup setup m) full later out)
   -- what is found is not empty, since no value of the table is; so an empty part is a refusal
   pub notEmpty : (queues : ℕ) (features full later : List ℕ) (t s : ℕ) → queues < 5
-      → lookupTold (lookupOf queues features full later t s) .0 ≡ 0 → 0 < length (valueFound queues features full later t s)
+      → (lookupTold (lookupOf queues features full later t s)).0 ≡ 0 → 0 < length (valueFound queues features full later t s)
   pub madeIsFull : (queues : ℕ) (features full later : List ℕ) → Pair queues features full later
       → MadeIsFull queues features full later
   pub setsBoth : (queues : ℕ) (full later values : List ℕ) → length values ≡ 205
-      → Pair queues (bytesAt 0 16 values) full later → SetsBoth queues full later values
+      → Pair queues (bytes_at 0 16 values) full later → SetsBoth queues full later values

@@ -1,21 +1,20 @@
 -- The calls of request 7 under a setup: they go by the inventory of one member of it, and a bad setup, or a number that is no
 -- member's, is the first refusal. 02, requests 7 and 9. Assumes nothing.
-use mathlib.Core.List.{List}
-use Prim.Native.Nat.{ℕ}
-use Rattle·theory.specs.Logic.{unless_answer_then_}
-use Rattle·setups.specs.declared.MemberSetup.{MemberSetup}
-use Rattle·difference·specs.specs.declared.Verdict.the-variants.{BadSetup}
-use Rattle·difference·specs.specs.declared.Lookup.{Lookup}
-use Rattle·difference·specs.specs.declared.Lookup.the-variants.{Refused}
-use Rattle·difference·specs.specs.Difference.{codeOf, lookupOf, mergeOf}
+use Rattle.std.specs.Prelude.{List, ℕ}
+use Rattle.theory.specs.Logic.{unless◌answer◌then◌}
+use Rattle.setups.specs.declared.MemberSetup.{MemberSetup}
+use Rattle.difference.specs.declared.Verdict.TheVariants.{BadSetup}
+use Rattle.difference.specs.declared.Lookup.{Lookup}
+use Rattle.difference.specs.declared.Lookup.TheVariants.{Refused}
+use Rattle.difference.specs.Difference.{code_of, lookupOf, mergeOf}
 
 -- s is what the setup says of the member
 unfoldable pub lookupUnder : MemberSetup → List ℕ → List ℕ → ℕ → ℕ → Lookup
 lookupUnder s full later t selector =
-    unless s .known answer Refused BadSetup then
-    lookupOf (s .queues) (s .features) full later t selector
+    unless s.known answer Refused BadSetup then
+    lookupOf s.queues s.features full later t selector
 
 unfoldable pub mergeUnder : MemberSetup → List ℕ → List ℕ → List ℕ → ℕ × (ℕ × List ℕ)
 mergeUnder s full later out =
-    unless s .known answer (codeOf BadSetup, (0, out)) then
-    mergeOf (s .queues) (s .features) full later out
+    unless s.known answer (code_of BadSetup, (0, out)) then
+    mergeOf s.queues s.features full later out

@@ -1,31 +1,27 @@
 // A full capture and a later list of what changed, 02, request 7: one part looked up in the pair, and one list made of it.
-ghost use mathlib.Core.Path.{_≡_};
-ghost use Prim.Native.Nat.{_+_, _<_, _≤_};
-ghost use lib.ListN.{length};
-ghost use Rattle·theory.specs.Bytes.{put};
-ghost use Rattle·inventory.specs.Inventory.{row};
-ghost use Rattle·parts.specs.List.{partsOf};
-ghost use Rattle·rules.specs.Rules.{causeOf, isAccepted};
-ghost use Rattle·capture.specs.Runs.{Wrote};
-ghost use Rattle·setups.specs.Member.{memberSetup};
-ghost use Rattle·difference·specs.specs.Difference.{spanOf, placeIn, hasRow, isFull, verdictOf, codeOf, lookupOf, lookupTold, madePart, made, mergeOf};
-ghost use Rattle·difference·specs.specs.Under.{lookupUnder, mergeUnder};
-ghost use Rattle·difference·specs.specs.Handed.{PartOf, Handed, Inside};
-use inventory::HEADER_SIZE;
-use inventory::ROWS;
-use inventory::SELECTORS;
-use inventory::SIZES;
-use inventory::TYPES;
-use parts::ListForm;
-use parts::Step;
+ghost use Rattle.std.specs.Prelude.{◌≡◌, ◌+◌, ◌<◌, ◌≤◌, length};
+ghost use Rattle.theory.specs.Bytes.{put};
+ghost use Rattle.inventory.specs.Inventory.{row};
+ghost use Rattle.parts.specs.List.{parts_of};
+ghost use Rattle.rules.specs.Rules.{causeOf, isAccepted};
+ghost use Rattle.capture.specs.Runs.{Wrote};
+ghost use Rattle.setups.specs.Member.{memberSetup};
+ghost use Rattle.difference.specs.Difference.{span_of, place_in, has_row, isFull, verdictOf, code_of, lookupOf, lookupTold, madePart, made, mergeOf};
+ghost use Rattle.difference.specs.Under.{lookupUnder, mergeUnder};
+ghost use Rattle.difference.specs.Handed.{PartOf, Handed, Inside};
+
+use inventory::{HEADER_SIZE, ROWS, SELECTORS, SIZES, TYPES};
+use parts::{ListForm, Step};
 
 // Where the value of a part stands in a list.
+#[derive(Drop)]
 enum Span {
     Value { start: usize, len: usize },
     Nowhere,
 }
 
 // Whether a call is refused: the first name that applies, in this order, or none. A bad setup is refused where it is read.
+#[derive(Drop)]
 pub enum Verdict {
     Passed,
     BadSetup,
@@ -37,6 +33,7 @@ pub enum Verdict {
 }
 
 // Where the value of the part asked stands: in the later list, in the full capture, or why the call is refused.
+#[derive(Drop)]
 pub enum Lookup {
     InLater { start: usize, len: usize },
     InFull { start: usize, len: usize },
@@ -47,7 +44,7 @@ pub enum Lookup {
 
 // In one list: the walk is that of a list that is set.
 fn span_of(list: &[u8], t: u16, selector: u64) -> Span
-    ensures { λ r. ⌜ r ≡ spanOf t selector (now (list .entry)) ⌝ }
+    ensures { result ≡ span_of t selector list.now }
 {
     let mut at = 0;
     loop {
@@ -70,7 +67,7 @@ fn span_of(list: &[u8], t: u16, selector: u64) -> Span
 
 // In the later list, or else in the full capture.
 fn place_in(full: &[u8], later: &[u8], t: u16, selector: u64) -> Lookup
-    ensures { λ r. ⌜ r ≡ placeIn (now (full .entry)) (now (later .entry)) t selector ⌝ }
+    ensures { result ≡ place_in full.now later.now t selector }
 {
     if let Span::Value { start, len } = span_of(later, t, selector) {
         return Lookup::InLater { start, len };
@@ -83,16 +80,16 @@ fn place_in(full: &[u8], later: &[u8], t: u16, selector: u64) -> Lookup
 
 // So many bytes of a lent list, with no copy.
 fn cut<'a>(list: &'a [u8], start: usize, len: usize) -> &'a [u8]
-    requires { ⌜ start + len ≤ length (now list) ⌝ }
-    ensures { λ r. ⌜ PartOf (list .entry) start len r ⌝ }
+    requires { start + len ≤ length list.now }
+    ensures { PartOf list.entry start len result }
 {
     &list[start..start + len]
 }
 
 // The part that a lookup says; an empty one where it is refused.
 fn part_at<'a>(full: &'a [u8], later: &'a [u8], found: Lookup) -> &'a [u8]
-    requires { ⌜ Inside (now full) (now later) found ⌝ }
-    ensures { λ r. ⌜ Handed (full .entry) (later .entry) found r ⌝ }
+    requires { Inside full.now later.now found }
+    ensures { Handed full.entry later.entry found result }
 {
     match found {
         Lookup::InLater { start, len } => cut(later, start, len),
@@ -105,14 +102,14 @@ fn part_at<'a>(full: &'a [u8], later: &'a [u8], found: Lookup) -> &'a [u8]
 
 // Whether step 10 accepts a list.
 fn is_good(queues: u8, features: &[u8], list: &[u8]) -> bool
-    ensures { λ r. ⌜ r ≡ isAccepted (causeOf queues (now (features .entry)) (now (list .entry))) ⌝ }
+    ensures { result ≡ isAccepted (causeOf queues features.now list.now) }
 {
     rules::is_accepted(rules::check_list(queues, features, list))
 }
 
 // Whether a list has the part of a row, if a member with so many queues has it.
 fn has_row(queues: u8, list: &[u8], row_type: u16, row_selector: u8) -> bool
-    ensures { λ r. ⌜ r ≡ hasRow queues (partsOf ListForm.Parts (now (list .entry))) (row «row_type» «row_selector» 0) ⌝ }
+    ensures { result ≡ has_row queues (parts_of ListForm.Parts list.now) (row row_type row_selector 0) }
 {
     if !inventory::is_present(queues, row_type, row_selector) {
         return true;
@@ -122,7 +119,7 @@ fn has_row(queues: u8, list: &[u8], row_type: u16, row_selector: u8) -> bool
 
 // Whether a list lacks no part of the inventory.
 fn is_full(queues: u8, list: &[u8]) -> bool
-    ensures { λ r. ⌜ r ≡ isFull queues (now (list .entry)) ⌝ }
+    ensures { result ≡ isFull queues list.now }
 {
     let types = TYPES;
     let selectors = SELECTORS;
@@ -144,7 +141,7 @@ fn verdict_of(
     asked: bool,
     room: bool,
 ) -> Verdict
-    ensures { λ r. ⌜ r ≡ verdictOf queues (now (features .entry)) (now (full .entry)) (now (later .entry)) asked room ⌝ }
+    ensures { result ≡ verdictOf queues features.now full.now later.now asked room }
 {
     if !is_good(queues, features, full) {
         return Verdict::BadFull;
@@ -166,7 +163,7 @@ fn verdict_of(
 
 // The number of a refusal, and 0 for none.
 pub fn code(v: Verdict) -> u8
-    ensures { λ r. ⌜ r ≡ codeOf v ⌝ }
+    ensures { result ≡ code_of v }
 {
     match v {
         Verdict::Passed => 0,
@@ -190,7 +187,7 @@ fn look_up_in(
     part_type: u16,
     selector: u64,
 ) -> Lookup
-    ensures { λ r. ⌜ r ≡ lookupOf queues (now (features .entry)) (now (full .entry)) (now (later .entry)) «part_type» selector ⌝ }
+    ensures { result ≡ lookupOf queues features.now full.now later.now part_type selector }
 {
     let named = inventory::selector_of(part_type, selector);
     let asked = rules::is_known(queues, part_type, named);
@@ -210,7 +207,7 @@ pub fn look_up(
     part_type: u16,
     selector: u64,
 ) -> Lookup
-    ensures { λ r. ⌜ r ≡ lookupUnder (memberSetup (now (setup .entry)) member) (now (full .entry)) (now (later .entry)) «part_type» selector ⌝ }
+    ensures { result ≡ lookupUnder (memberSetup setup.now member) full.now later.now part_type selector }
 {
     let m = setups::member_setup(setup, member);
     if !m.known {
@@ -229,7 +226,7 @@ pub fn find<'a>(
     part_type: u16,
     selector: u64,
 ) -> &'a [u8]
-    ensures { λ r. ⌜ Handed (full .entry) (later .entry) (lookupUnder (memberSetup (now (setup .entry)) member) (now (full .entry)) (now (later .entry)) «part_type» selector) r ⌝ }
+    ensures { Handed full.entry later.entry (lookupUnder (memberSetup setup.now member) full.now later.now part_type selector) result }
 {
     part_at(
         full,
@@ -251,7 +248,7 @@ pub fn find_place(
     at: &mut usize,
     len: &mut usize,
 ) -> u8
-    ensures { λ r. ⌜ (r, (now (list .exit), (now (at .exit), now (len .exit)))) ≡ lookupTold (lookupUnder (memberSetup (now (setup .entry)) member) (now (full .entry)) (now (later .entry)) «part_type» selector) ⌝ }
+    ensures { (result, (list.new, (at.new, len.new))) ≡ lookupTold (lookupUnder (memberSetup setup.now member) full.now later.now part_type selector) }
 {
     match look_up(setup, member, full, later, part_type, selector) {
         Lookup::InLater { start, len: n } => {
@@ -287,8 +284,8 @@ fn write_part<'a>(
     row_selector: u8,
     size: u8,
 ) -> usize
-    requires { ⌜ at + length (madePart (now full) (now later) (row «row_type» «row_selector» size)) ≤ length (now out) ⌝ }
-    ensures { λ r. ⌜ Wrote (madePart (now (full .entry)) (now (later .entry)) (row «row_type» «row_selector» size)) at (now (out .entry)) (now (out .exit)) r ⌝ }
+    requires { at + length (madePart full.now later.now (row row_type row_selector size)) ≤ length out.old }
+    ensures { Wrote (madePart full.now later.now (row row_type row_selector size)) at out.old out.new result }
 {
     inventory::write_header(out, at, row_type, row_selector as u32, size);
     let value = part_at(
@@ -302,8 +299,8 @@ fn write_part<'a>(
 
 // The made list, at the front of what is lent.
 fn write_made<'a>(out: &mut [u8], queues: u8, full: &'a [u8], later: &'a [u8])
-    requires { ⌜ length (made queues (now full) (now later)) ≤ length (now out) ⌝ }
-    ensures { λ _. ⌜ now (out .exit) ≡ put 0 (made queues (now (full .entry)) (now (later .entry))) (now (out .entry)) ⌝ }
+    requires { length (made queues full.now later.now) ≤ length out.old }
+    ensures { out.new ≡ put 0 (made queues full.now later.now) out.old }
 {
     let types = TYPES;
     let selectors = SELECTORS;
@@ -330,8 +327,8 @@ fn merge_in<'a>(
     merged: &mut [u8],
     written: &mut usize,
 ) -> u8
-    requires { ⌜ queues < 5 ⌝ }
-    ensures { λ r. ⌜ (r, (now (written .exit), now (merged .exit))) ≡ mergeOf queues (now (features .entry)) (now (full .entry)) (now (later .entry)) (now (merged .entry)) ⌝ }
+    requires { queues < 5 }
+    ensures { (result, (written.new, merged.new)) ≡ mergeOf queues features.now full.now later.now merged.old }
 {
     let size = inventory::parts_size(queues) as usize;
     let room = size <= merged.len();
@@ -354,7 +351,7 @@ pub fn merge<'a>(
     merged: &mut [u8],
     written: &mut usize,
 ) -> u8
-    ensures { λ r. ⌜ (r, (now (written .exit), now (merged .exit))) ≡ mergeUnder (memberSetup (now (setup .entry)) member) (now (full .entry)) (now (later .entry)) (now (merged .entry)) ⌝ }
+    ensures { (result, (written.new, merged.new)) ≡ mergeUnder (memberSetup setup.now member) full.now later.now merged.old }
 {
     let m = setups::member_setup(setup, member);
     if !m.known {

@@ -1,23 +1,19 @@
 -- Setup and the card events (01's term): SPEC 7. Each gives the first answer that applies, and the card after it. Assumes
 -- nothing.
-use mathlib.Core.Bool.{not}
-use mathlib.Core.List.{List}
-use Prim.Native.Nat.{ℕ, _≤_}
-use lib.Dec.{eqb}
-use lib.ListN.{length, take, replicate}
-use Rattle·theory.specs.Logic.{unless_answer_then_, _and_}
-use Rattle·protocol.specs.declared.EventAnswer.{EventAnswer}
-use Rattle·protocol.specs.declared.EventAnswer.the-variants.{Done, NotSound, NoMember, BadSetup, WrongMark}
-use Rattle·protocol.specs.Answers.{eventNumber, isEventDone}
-use Rattle·inventory.specs.Inventory.{selectorOf}
-use Rattle·values.specs.Apply.{storable}
-use Rattle·member.specs.Member.{featuresSize, handedBack, withPart}
-use Rattle·card.specs.declared.Setup.{Setup}
-use Rattle·setups.specs.declared.Setup as setups
-use Rattle·card.specs.Layout.{cardSize, setupOf, isMember, memberIn, withMember, countsOf, isMarked, withHolding, noBytes, withFresh, freshCard}
-use Rattle·card.specs.Sound.{isSound}
-use Rattle·setups.specs.Setup.{inNumbers}
-use Rattle·setups.specs.Reading.{readNumber, readSetup}
+use Rattle.std.specs.Prelude.{not, List, ℕ, ◌≤◌, eqb, length, take, replicate}
+use Rattle.theory.specs.Logic.{unless◌answer◌then◌, ◌and◌}
+use Rattle.protocol.specs.declared.EventAnswer.{EventAnswer}
+use Rattle.protocol.specs.declared.EventAnswer.TheVariants.{Done, NotSound, NoMember, BadSetup, WrongMark}
+use Rattle.protocol.specs.Answers.{eventNumber, isEventDone}
+use Rattle.inventory.specs.Inventory.{selectorOf}
+use Rattle.values.specs.Apply.{storable}
+use Rattle.member.specs.Member.{featuresSize, handedBack, withPart}
+use Rattle.card.specs.declared.Setup.{Setup}
+use Rattle.setups.specs.declared.Setup as setups
+use Rattle.card.specs.Layout.{cardSize, setupOf, isMember, memberIn, withMember, countsOf, isMarked, withHolding, noBytes, withFresh, freshCard}
+use Rattle.card.specs.Sound.{isSound}
+use Rattle.setups.specs.Setup.{inNumbers}
+use Rattle.setups.specs.Reading.{readNumber, readSetup}
 
 abbrev pub setupWith : ℕ → ℕ → ℕ → List ℕ → Setup
 setupWith members gets sets features = record { members = members; gets = gets; sets = sets; features = features }
@@ -41,12 +37,12 @@ setUp c members queues gets sets features =
 
 -- setup of the bytes of a packed setup of either version (02, request 9): what setup does with the setup that they hold
 unfoldable pub setUpOf : List ℕ → setups.Setup → EventAnswer × List ℕ
-setUpOf c s = setUp c (s .members) (take (s .members) (s .queues)) (s .gets) (s .sets) (s .features)
+setUpOf c s = setUp c s.members (take s.members s.queues) s.gets s.sets s.features
 
 unfoldable pub setUpFrom : List ℕ → List ℕ → EventAnswer × List ℕ
 setUpFrom c l =
-    unless eqb (readNumber (readSetup l .answer)) 0 answer refusedSetup c then
-    setUpOf c (readSetup l .setup)
+    unless eqb (readNumber (readSetup l).answer) 0 answer refusedSetup c then
+    setUpOf c (readSetup l).setup
 
 -- an event for one member: refused on a card that is not sound, and for a member that it has not got
 unfoldable pub memberAnswer : List ℕ → ℕ → EventAnswer
@@ -79,11 +75,11 @@ unfoldable pub wipe : List ℕ → ℕ → ℕ → EventAnswer × List ℕ
 wipe c m generation =
     onMember c m (
     unless isMarked c m answer (WrongMark, c) then
-    (Done, withFresh c m (setupOf c .features) generation))
+    (Done, withFresh c m (setupOf c).features generation))
 
 -- member reset, of which these two are the halves; no call does it
 unfoldable pub resetMember : List ℕ → ℕ → ℕ → EventAnswer × List ℕ
-resetMember c m generation = onMember c m (Done, withFresh c m (setupOf c .features) generation)
+resetMember c m generation = onMember c m (Done, withFresh c m (setupOf c).features generation)
 
 -- card reset, SPEC 7.4: one generation for all members, and each keeps its queue count (02, request 9)
 unfoldable pub resetCard : List ℕ → ℕ → EventAnswer × List ℕ
@@ -95,7 +91,7 @@ resetCard c generation =
 -- `store` the 8 selector bytes as a number
 unfoldable pub storeIn : List ℕ → ℕ → ℕ → ℕ → List ℕ → EventAnswer × List ℕ
 storeIn c m t s value =
-    ifDone (storable (memberIn c m .queues) t s value)
+    ifDone (storable (memberIn c m).queues t s value)
     (Done, withMember c m (withPart (memberIn c m) t s value)) c
 
 unfoldable pub store : List ℕ → ℕ → ℕ → ℕ → List ℕ → EventAnswer × List ℕ
@@ -103,4 +99,4 @@ store c m t s value = onMember c m (storeIn c m t (selectorOf t s) value)
 
 -- the answer as its number
 abbrev pub numbered : {A : Type 0} → EventAnswer × A → ℕ × A
-numbered x = (eventNumber (x .0), x .1)
+numbered x = (eventNumber x.0, x.1)

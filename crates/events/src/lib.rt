@@ -1,28 +1,22 @@
 // Setup, hand back, wipe, card reset and card store: SPEC 7.
-ghost use mathlib.Core.Path.{_≡_};
-ghost use Prim.Native.Nat.{_≤_};
-ghost use lib.Dec.{eqb};
-ghost use lib.ListN.{length};
-ghost use Rattle·theory.specs.Logic.{_and_};
-ghost use Rattle·theory.specs.Bytes.{put};
-ghost use Rattle·member.specs.Member.{featuresSize};
-ghost use Rattle·card.specs.Layout.{cardHeaderSize, cardSize, HasRecord, countsFrom, freshHeader, freshRecords, freshCard};
-ghost use Rattle·setups.specs.Setup.{mostMembers, inNumbers};
-ghost use Rattle·events·specs.specs.Events.{InBounds, setupWith, setUp, setUpOf, setUpFrom, memberAnswer, withHandedBack, handBack, wipe, resetCard, storeIn, store};
-use card::FEATURES_AT;
-use card::IN_USE_AT;
-use card::Setup;
-use member::FEATURES_SIZE;
-use member::Member;
-use protocol::EventAnswer;
-use protocol::FRESH_MASK;
+ghost use Rattle.std.specs.Prelude.{◌≡◌, ◌≤◌, eqb, length};
+ghost use Rattle.theory.specs.Logic.{◌and◌};
+ghost use Rattle.theory.specs.Bytes.{put};
+ghost use Rattle.member.specs.Member.{featuresSize};
+ghost use Rattle.card.specs.Layout.{cardHeaderSize, cardSize, HasRecord, countsFrom, freshHeader, freshRecords, freshCard};
+ghost use Rattle.setups.specs.Setup.{mostMembers, inNumbers};
+ghost use Rattle.events.specs.Events.{InBounds, setupWith, setUp, setUpOf, setUpFrom, memberAnswer, withHandedBack, handBack, wipe, resetCard, storeIn, store};
+
+use card::{FEATURES_AT, IN_USE_AT, Setup};
+use member::{FEATURES_SIZE, Member};
+use protocol::{EventAnswer, FRESH_MASK};
 
 // ---- setup ----
 
 // The header of a fresh card.
 fn write_header(card: &mut [u8], s: Setup)
-    requires { ⌜ cardHeaderSize ≤ length (now card) ⌝ }
-    ensures { λ _. ⌜ now (card .exit) ≡ put 0 (freshHeader s) (now (card .entry)) ⌝ }
+    requires { cardHeaderSize ≤ length card.old }
+    ensures { card.new ≡ put 0 (freshHeader s) card.old }
 {
     let numbers = [s.members, s.gets, s.sets];
     let features = s.features;
@@ -33,8 +27,8 @@ fn write_header(card: &mut [u8], s: Setup)
 
 // The records of fresh members with these queue counts, on a new card.
 fn write_members(card: &mut [u8], queues: &[u8], features: [u8; FEATURES_SIZE])
-    requires { ⌜ length (now card) ≡ cardSize (length (now queues)) ⌝ }
-    ensures { λ _. ⌜ now (card .exit) ≡ put cardHeaderSize (freshRecords features 0 (now (queues .entry))) (now (card .entry)) ⌝ }
+    requires { length card.old ≡ cardSize (length queues.now) }
+    ensures { card.new ≡ put cardHeaderSize (freshRecords features 0 queues.now) card.old }
 {
     let mut m = 0;
     while m < queues.len() {
@@ -46,8 +40,8 @@ fn write_members(card: &mut [u8], queues: &[u8], features: [u8; FEATURES_SIZE])
 
 // Every byte of a new card.
 fn write_fresh(card: &mut [u8], s: Setup, queues: &[u8])
-    requires { ⌜ length (now card) ≡ cardSize (length (now queues)) ⌝ }
-    ensures { λ _. ⌜ now (card .exit) ≡ freshCard s (now (queues .entry)) 0 ⌝ }
+    requires { length card.old ≡ cardSize (length queues.now) }
+    ensures { card.new ≡ freshCard s queues.now 0 }
 {
     write_header(card, s);
     let features = s.features;
@@ -63,7 +57,7 @@ fn is_setup(
     features: usize,
     buffer: usize,
 ) -> bool
-    ensures { λ r. ⌜ r ≡ inNumbers members (now (queues .entry)) gets sets and eqb features featuresSize and eqb buffer (cardSize members) ⌝ }
+    ensures { result ≡ inNumbers members queues.now gets sets and eqb features featuresSize and eqb buffer (cardSize members) }
 {
     if !setups::in_numbers(members, queues, gets, sets) {
         return false;
@@ -76,8 +70,8 @@ fn is_setup(
 
 // The setup with these numbers, which fit its bytes.
 fn setup_with(members: u64, gets: u64, sets: u64, features: &[u8]) -> Setup
-    requires { ⌜ InBounds members gets sets × (length (now features) ≡ featuresSize) ⌝ }
-    ensures { λ r. ⌜ r ≡ setupWith members gets sets (now (features .entry)) ⌝ }
+    requires { InBounds members gets sets × (length features.now ≡ featuresSize) }
+    ensures { result ≡ setupWith members gets sets features.now }
 {
     let mut own = [0u8; FEATURES_SIZE];
     wire::copy(&mut own, 0, features);
@@ -98,7 +92,7 @@ pub fn set_up(
     sets: u64,
     features: &[u8],
 ) -> EventAnswer
-    ensures { λ r. ⌜ (r, now (card .exit)) ≡ setUp (now (card .entry)) members (now (queues .entry)) gets sets (now (features .entry)) ⌝ }
+    ensures { (result, card.new) ≡ setUp card.old members queues.now gets sets features.now }
 {
     if !is_setup(members, queues, gets, sets, features.len(), card.len()) {
         wire::zero(card);
@@ -111,8 +105,8 @@ pub fn set_up(
 
 // Setup by value, whose counts past the last member's are not read.
 fn set_up_of(card: &mut [u8], s: setups::Setup) -> EventAnswer
-    requires { ⌜ s .members ≤ mostMembers ⌝ }
-    ensures { λ r. ⌜ (r, now (card .exit)) ≡ setUpOf (now (card .entry)) s ⌝ }
+    requires { s.members ≤ mostMembers }
+    ensures { (result, card.new) ≡ setUpOf card.old s }
 {
     let queues = s.queues;
     let features = s.features;
@@ -128,7 +122,7 @@ fn set_up_of(card: &mut [u8], s: setups::Setup) -> EventAnswer
 
 // Setup of the bytes of a packed setup, of either version.
 pub fn set_up_from(card: &mut [u8], setup: &[u8]) -> EventAnswer
-    ensures { λ r. ⌜ (r, now (card .exit)) ≡ setUpFrom (now (card .entry)) (now (setup .entry)) ⌝ }
+    ensures { (result, card.new) ≡ setUpFrom card.old setup.now }
 {
     let read = setups::read(setup);
     let answer = read.answer;
@@ -144,7 +138,7 @@ pub fn set_up_from(card: &mut [u8], setup: &[u8]) -> EventAnswer
 
 // An event for one member: the first refusal that applies.
 pub fn member_answer(card: &[u8], m: u64) -> EventAnswer
-    ensures { λ r. ⌜ r ≡ memberAnswer (now (card .entry)) m ⌝ }
+    ensures { result ≡ memberAnswer card.now m }
 {
     if !card::is_sound(card) {
         return EventAnswer::NotSound;
@@ -157,8 +151,8 @@ pub fn member_answer(card: &[u8], m: u64) -> EventAnswer
 
 // Member m is handed back, and nothing of its holding place is left.
 fn end_member(card: &mut [u8], m: u64)
-    requires { ⌜ HasRecord (now card) m ⌝ }
-    ensures { λ _. ⌜ now (card .exit) ≡ withHandedBack (now (card .entry)) m ⌝ }
+    requires { HasRecord card.old m }
+    ensures { card.new ≡ withHandedBack card.old m }
 {
     let x = card::load_member(card, m).hand_back();
     card::save_member(card, m, x);
@@ -167,7 +161,7 @@ fn end_member(card: &mut [u8], m: u64)
 
 // Hand back, the first half of a reset: the member lets go of its guest, whose parts stay until the wipe.
 pub fn hand_back(card: &mut [u8], m: u64) -> EventAnswer
-    ensures { λ r. ⌜ (r, now (card .exit)) ≡ handBack (now (card .entry)) m ⌝ }
+    ensures { (result, card.new) ≡ handBack card.old m }
 {
     let a = member_answer(card, m);
     if !protocol::is_event_done(a) {
@@ -182,7 +176,7 @@ pub fn hand_back(card: &mut [u8], m: u64) -> EventAnswer
 
 // Wipe, the second half: a marked member is fresh, with its queue count and this generation, and nothing else changes.
 pub fn wipe(card: &mut [u8], m: u64, generation: u32) -> EventAnswer
-    ensures { λ r. ⌜ (r, now (card .exit)) ≡ wipe (now (card .entry)) m generation ⌝ }
+    ensures { (result, card.new) ≡ wipe card.old m generation }
 {
     let a = member_answer(card, m);
     if !protocol::is_event_done(a) {
@@ -199,8 +193,8 @@ pub fn wipe(card: &mut [u8], m: u64, generation: u32) -> EventAnswer
 
 // The records of members 1 to n become fresh, each with the queue count that it has.
 fn reset_members(card: &mut [u8], n: u64, features: [u8; FEATURES_SIZE], generation: u32)
-    requires { ⌜ length (now card) ≡ cardSize n ⌝ }
-    ensures { λ _. ⌜ now (card .exit) ≡ put cardHeaderSize (freshRecords features generation (countsFrom (now (card .entry)) 1 n)) (now (card .entry)) ⌝ }
+    requires { length card.old ≡ cardSize n }
+    ensures { card.new ≡ put cardHeaderSize (freshRecords features generation (countsFrom card.old 1 n)) card.old }
 {
     let mut m: u64 = 0;
     while m < n {
@@ -211,8 +205,8 @@ fn reset_members(card: &mut [u8], n: u64, features: [u8; FEATURES_SIZE], generat
 
 // Every byte of a card with this setup, which holds the queue counts of its members.
 fn rewrite(card: &mut [u8], s: Setup, generation: u32)
-    requires { ⌜ length (now card) ≡ cardSize (s .members) ⌝ }
-    ensures { λ _. ⌜ now (card .exit) ≡ freshCard s (countsFrom (now (card .entry)) 1 (s .members)) generation ⌝ }
+    requires { length card.old ≡ cardSize s.members }
+    ensures { card.new ≡ freshCard s (countsFrom card.old 1 s.members) generation }
 {
     write_header(card, s);
     let features = s.features;
@@ -221,7 +215,7 @@ fn rewrite(card: &mut [u8], s: Setup, generation: u32)
 
 // Reset of the whole card: as after setup, with this generation for all members.
 pub fn reset_card(card: &mut [u8], generation: u32) -> EventAnswer
-    ensures { λ r. ⌜ (r, now (card .exit)) ≡ resetCard (now (card .entry)) generation ⌝ }
+    ensures { (result, card.new) ≡ resetCard card.old generation }
 {
     if !card::is_sound(card) {
         return EventAnswer::NotSound;
@@ -233,8 +227,8 @@ pub fn reset_card(card: &mut [u8], generation: u32) -> EventAnswer
 
 // One part of member m is set, with the selector bytes that its type names.
 fn store_in(card: &mut [u8], m: u64, t: u16, selector: u64, value: &[u8]) -> EventAnswer
-    requires { ⌜ HasRecord (now card) m ⌝ }
-    ensures { λ r. ⌜ (r, now (card .exit)) ≡ storeIn (now (card .entry)) m t selector (now (value .entry)) ⌝ }
+    requires { HasRecord card.old m }
+    ensures { (result, card.new) ≡ storeIn card.old m t selector value.now }
 {
     let x = card::load_member(card, m);
     let a = values::store_answer(x.queues, t, selector, value);
@@ -247,7 +241,7 @@ fn store_in(card: &mut [u8], m: u64, t: u16, selector: u64, value: &[u8]) -> Eve
 
 // A card store, SPEC 7.5: the data path sets one part of one member, in either mode.
 pub fn store(card: &mut [u8], m: u64, t: u16, selector: u64, value: &[u8]) -> EventAnswer
-    ensures { λ r. ⌜ (r, now (card .exit)) ≡ store (now (card .entry)) m t selector (now (value .entry)) ⌝ }
+    ensures { (result, card.new) ≡ store card.old m t selector value.now }
 {
     let a = member_answer(card, m);
     if !protocol::is_event_done(a) {

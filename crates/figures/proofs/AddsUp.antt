@@ -1,16 +1,16 @@
 -- The lines of a sheet add up. Assumes nothing.
-use mathlib.Core.Path.{_≡_, refl}
-use Prim.Native.Nat.{ℕ, _+_}
+use mathlib.Core.Path.{◌≡◌, refl}
+use Prim.Native.Nat.{ℕ, ◌+◌}
 use native.Mathlib.Omega.{arith}
 use lib.Dec.{eqb}
-use Rattle·theory.specs.Logic.{indicator}
-use Rattle·rules.specs.declared.Cause.{Cause}
-use Rattle·rules.specs.declared.Cause.the-variants.{Accepted, Cut, Unknown, Length, Size, Features, Twice}
-use Rattle·rules.specs.Rules.{causeOf}
-use Rattle·tally.specs.Rows.{causeLine, rows}
-use Rattle·stream.specs.Stream.{whole, torn, capture, long}
-use Rattle·stream.specs.Totals.{total, totals}
-use Rattle·figures·specs.specs.Claims.{sum, AddsUp}
+use Rattle.theory.specs.Logic.{indicator}
+use Rattle.rules.specs.declared.Cause.{Cause}
+use Rattle.rules.specs.declared.Cause.TheVariants.{Accepted, Cut, Unknown, Length, Size, Features, Twice}
+use Rattle.rules.specs.Rules.{causeOf}
+use Rattle.tally.specs.Rows.{causeLine, rows}
+use Rattle.stream.specs.Stream.{whole, torn, capture, long}
+use Rattle.stream.specs.Totals.{total, totals}
+use Rattle.figures.specs.Claims.{sum, AddsUp}
 
 -- whether a capture is counted in the line i
 in-line : Cause → ℕ → ℕ

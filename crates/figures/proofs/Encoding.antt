@@ -1,21 +1,21 @@
 -- Joined captures are read one by one, and every stream of bytes is joined captures and a rest. Assumes nothing.
-use mathlib.Core.Path.{_≡_, refl, ap, sym, _∙_}
+use mathlib.Core.Path.{◌≡◌, refl, ap, sym, ◌∙◌}
 use mathlib.Core.Bool.{Bool, true, false}
-use mathlib.Core.List.{List, [], _∷_, _++_, append-assoc}
-use Prim.Native.Nat.{ℕ, zero, suc, _+_, _-_, _*_, _/_, _%_, _≤_, _<_}
+use mathlib.Core.List.{List, [], ◌∷◌, ◌++◌, append_assoc}
+use Prim.Native.Nat.{ℕ, zero, suc, ◌+◌, ◌-◌, ◌*◌, ◌/◌, ◌%◌, ◌≤◌, ◌<◌}
 use native.Mathlib.Omega.{arith}
 use borrow.Author.Tests.{lt-ltb, le-leb, lt-leb, ltb-true, ltb-false, leb-true, leb-false}
 use lib.Dec.{ltb, leb}
-use lib.ListN.{length, getD, take, drop, length-drop, take-append-drop}
-use lib.Seq.{take-all, getD-drop, length-take-le}
-use Rattle·theory.specs.Logic.{if_then_else_, unless_answer_then_}
-use Rattle·theory.proofs.Tests.{by-cases}
-use Rattle·theory.proofs.Lists.{length-zero}
-use Rattle·wire.specs.Le.{le, bytes, number}
-use Rattle·wire.proofs.Le.{length-bytes, le-bytes, number-below}
-use Rattle·stream.specs.Stream.{Captures, whole, torn, capture, long, captureThen, capturesIn}
-use Rattle·stream.proofs.Rest.{capture-come, long-come, long-opened, length-come}
-use Rattle·figures·specs.specs.Encoding.{encoded, Encodable, Left, nothing, inLength, inCapture, Ending, fewer, asMany, isLong, Apart}
+use lib.ListN.{length, get_or, take, drop, length-drop, take-append-drop}
+use lib.Seq.{take_all, get_or-drop, length-take-le}
+use Rattle.theory.specs.Logic.{if◌then◌else◌, unless◌answer◌then◌}
+use Rattle.theory.proofs.Tests.{by_cases}
+use Rattle.theory.proofs.Lists.{length-zero}
+use Rattle.wire.specs.Le.{le, bytes, number}
+use Rattle.wire.proofs.Le.{length-bytes, le_bytes, number-below}
+use Rattle.stream.specs.Stream.{Captures, whole, torn, capture, long, captureThen, capturesIn}
+use Rattle.stream.proofs.Rest.{capture-come, long-come, long-opened, length-come}
+use Rattle.figures.specs.Encoding.{encoded, Encodable, Left, nothing, inLength, inCapture, Ending, fewer, asMany, isLong, Apart}
 
 -- ---- joined captures are read one by one ----
 
@@ -27,16 +27,16 @@ capturesOf (c ∷ cs) ended = if isLong c then long (capturesOf cs ended) else c
 
 number-bytes : (k : ℕ) → k < 4294967296 → number 0 4 (bytes 4 k) ≡ k
 unfolding number
-number-bytes k h = rw (take-all 4 (bytes 4 k) (omega (arith, length-bytes 4 k))) (le-bytes 4 k h)
+number-bytes k h = rw (take_all 4 (bytes 4 k) (omega (arith, length-bytes 4 k))) (le_bytes 4 k h)
 
 module _ (n : ℕ) (c l : List ℕ) (h : length c < 4294967296) where
   one-come : capturesIn (suc n) (bytes 4 (length c) ++ (c ++ l))
       ≡ (if isLong c then long (capturesIn n l) else capture c (capturesIn n l))
-  unfolding isLong if_then_else_
+  unfolding isLong if◌then◌else◌
   one-come =
       let z : suc n - 1 ≡ n = omega arith in
       length-come (suc n) (bytes 4 (length c)) (c ++ l) (length-bytes 4 (length c)) (omega arith)
-      ∙ rw (number-bytes (length c) h, z) (by-cases (ltb 4064 (length c))
+      ∙ rw (number-bytes (length c) h, z) (by_cases (ltb 4064 (length c))
       (λ e.
       let k : 4064 < length c = ltb-true _ _ e in
       rw e (long-opened (length c) (c ++ l) (capturesIn n) (lt-leb (length c) 4064 k)
@@ -44,7 +44,7 @@ module _ (n : ℕ) (c l : List ℕ) (h : length c < 4294967296) where
       (λ e. rw e (capture-come (length c) c l (capturesIn n) refl (ltb-false _ _ e))))
 
 left-none : (n : ℕ) (rest : List ℕ) (ended : Bool) → Left rest ended → capturesIn (suc n) rest ≡ capturesOf [] ended
-unfolding capturesIn capturesOf unless_answer_then_ captureThen
+unfolding capturesIn capturesOf unless◌answer◌then◌ captureThen
 left-none n rest ended nothing = refl
 left-none n rest ended (inLength h k) = rw (lt-ltb 0 (length rest) h, lt-leb 4 (length rest) k)
 left-none n rest ended (inCapture h k) =
@@ -52,35 +52,35 @@ left-none n rest ended (inCapture h k) =
     let d : length (drop 4 rest) < number 0 4 rest = rw length-drop (omega arith) in
     rw (lt-ltb 0 (length rest) s, le-leb 4 (length rest) h, lt-leb (number 0 4 rest) (length (drop 4 rest)) d)
 
-taken-none : (n : ℕ) (rest : List ℕ) (ended : Bool) → Ending n [] rest ended → capturesIn n rest ≡ capturesOf [] ended
+taken_none : (n : ℕ) (rest : List ℕ) (ended : Bool) → Ending n [] rest ended → capturesIn n rest ≡ capturesOf [] ended
 unfolding capturesIn capturesOf
-taken-none zero rest ended (fewer h l) = absurd (omega arith)
-taken-none zero rest ended (asMany e) = refl
-taken-none (suc n) rest ended (fewer h l) = left-none n rest ended l
-taken-none (suc n) rest ended (asMany e) = absurd (omega arith)
+taken_none zero rest ended (fewer h l) = absurd (omega arith)
+taken_none zero rest ended (asMany e) = refl
+taken_none (suc n) rest ended (fewer h l) = left-none n rest ended l
+taken_none (suc n) rest ended (asMany e) = absurd (omega arith)
 
-some-left : (n : ℕ) (c : List ℕ) (cs : List (List ℕ)) (rest : List ℕ) (ended : Bool) → Ending n (c ∷ cs) rest ended → 0 < n
-some-left n c cs rest ended (fewer h l) = omega arith
-some-left n c cs rest ended (asMany e) = omega arith
+some_left : (n : ℕ) (c : List ℕ) (cs : List (List ℕ)) (rest : List ℕ) (ended : Bool) → Ending n (c ∷ cs) rest ended → 0 < n
+some_left n c cs rest ended (fewer h l) = omega arith
+some_left n c cs rest ended (asMany e) = omega arith
 
-one-less : (n : ℕ) (c : List ℕ) (cs : List (List ℕ)) (rest : List ℕ) (ended : Bool)
+one_less : (n : ℕ) (c : List ℕ) (cs : List (List ℕ)) (rest : List ℕ) (ended : Bool)
     → Ending (suc n) (c ∷ cs) rest ended → Ending n cs rest ended
-one-less n c cs rest ended (fewer h l) = fewer {n = n} {cs = cs} (omega arith) l
-one-less n c cs rest ended (asMany e) = asMany {n = n} {cs = cs} (omega arith)
+one_less n c cs rest ended (fewer h l) = fewer {n = n} {cs = cs} (omega arith) l
+one_less n c cs rest ended (asMany e) = asMany {n = n} {cs = cs} (omega arith)
 
 pub taken : (cs : List (List ℕ)) (n : ℕ) (rest : List ℕ) (ended : Bool) → Encodable cs → Ending n cs rest ended
     → capturesIn n (encoded cs ++ rest) ≡ capturesOf cs ended
 unfolding encoded capturesOf
-taken [] n rest ended f e = taken-none n rest ended e
-taken (c ∷ cs) zero rest ended f e = absurd (omega (arith, some-left 0 c cs rest ended e))
+taken [] n rest ended f e = taken_none n rest ended e
+taken (c ∷ cs) zero rest ended f e = absurd (omega (arith, some_left 0 c cs rest ended e))
 taken (c ∷ cs) (suc n) rest ended f e =
-    let g : Encodable cs = record { at = λ i. f .at (suc i) } in
-    rw (append-assoc (bytes 4 (length c)) (c ++ encoded cs) rest, append-assoc c (encoded cs) rest)
-    (one-come n c (encoded cs ++ rest) (f .at 0) ∙ rw (taken cs n rest ended g (one-less n c cs rest ended e)))
+    let g : Encodable cs = record { at = λ i. f.at (suc i) } in
+    rw (append_assoc (bytes 4 (length c)) (c ++ encoded cs) rest, append_assoc c (encoded cs) rest)
+    (one-come n c (encoded cs ++ rest) (f.at 0) ∙ rw (taken cs n rest ended g (one_less n c cs rest ended e)))
 
 -- ---- every stream ----
 
-bytes-number : (n : ℕ) (l : List ℕ) → ((i : ℕ) → getD l i 0 < 256) → n ≤ length l → bytes n (number 0 n l) ≡ take n l
+bytes-number : (n : ℕ) (l : List ℕ) → ((i : ℕ) → get_or l i 0 < 256) → n ≤ length l → bytes n (number 0 n l) ≡ take n l
 unfolding bytes number le
 bytes-number zero l small h = refl
 bytes-number (suc n) [] small h = absurd (omega arith)
@@ -89,14 +89,14 @@ bytes-number (suc n) (b ∷ l) small h =
     let high : (b + 256 * le (take n l)) / 256 ≡ le (take n l) = omega (arith, small 0) in
     rw (low, high, bytes-number n l (λ i. small (suc i)) (omega arith))
 
-one-more : (n : ℕ) (c : List ℕ) (cs : List (List ℕ)) (rest : List ℕ) (ended : Bool)
+one_more : (n : ℕ) (c : List ℕ) (cs : List (List ℕ)) (rest : List ℕ) (ended : Bool)
     → Ending n cs rest ended → Ending (suc n) (c ∷ cs) rest ended
-one-more n c cs rest ended (fewer h l) = fewer {n = suc n} {cs = c ∷ cs} (omega arith) l
-one-more n c cs rest ended (asMany e) = asMany {n = suc n} {cs = c ∷ cs} (omega arith)
+one_more n c cs rest ended (fewer h l) = fewer {n = suc n} {cs = c ∷ cs} (omega arith) l
+one_more n c cs rest ended (asMany e) = asMany {n = suc n} {cs = c ∷ cs} (omega arith)
 
-none-before : (n : ℕ) (l : List ℕ) (ended : Bool) → Ending n [] l ended → Apart n l
+none_before : (n : ℕ) (l : List ℕ) (ended : Bool) → Ending n [] l ended → Apart n l
 unfolding encoded
-none-before n l ended e = record {
+none_before n l ended e = record {
   captures = [];
   rest = l;
   ended = ended;
@@ -112,48 +112,48 @@ first l = take (number 0 4 l) (drop 4 l)
 abbrev others : List ℕ → List ℕ
 others l = drop (number 0 4 l) (drop 4 l)
 
-others-small : (l : List ℕ) → ((i : ℕ) → getD l i 0 < 256) → (i : ℕ) → getD (others l) i 0 < 256
+others-small : (l : List ℕ) → ((i : ℕ) → get_or l i 0 < 256) → (i : ℕ) → get_or (others l) i 0 < 256
 others-small l small i =
-    rw (getD-drop (number 0 4 l) (drop 4 l) i 0, getD-drop 4 l (number 0 4 l + i) 0) (small (4 + (number 0 4 l + i)))
+    rw (get_or-drop (number 0 4 l) (drop 4 l) i 0, get_or-drop 4 l (number 0 4 l + i) 0) (small (4 + (number 0 4 l + i)))
 
-module _ (n : ℕ) (l : List ℕ) (small : (i : ℕ) → getD l i 0 < 256) (h : 4 ≤ length l) (k : 4 + number 0 4 l ≤ length l) where
+module _ (n : ℕ) (l : List ℕ) (small : (i : ℕ) → get_or l i 0 < 256) (h : 4 ≤ length l) (k : 4 + number 0 4 l ≤ length l) where
   first-long : length (first l) ≡ number 0 4 l
   first-long = length-take-le (number 0 4 l) (drop 4 l) (rw length-drop (omega arith))
 
   one-before : Apart n (others l) → Apart (suc n) l
   unfolding encoded
   one-before a = record {
-    captures = first l ∷ a .captures;
-    rest = a .rest;
-    ended = a .ended;
+    captures = first l ∷ a.captures;
+    rest = a.rest;
+    ended = a.ended;
     fit = record { at = fits };
-    ending = one-more n (first l) (a .captures) (a .rest) (a .ended) (a .ending);
-    joined = sym (append-assoc (bytes 4 (length (first l))) (first l ++ encoded (a .captures)) (a .rest)
+    ending = one_more n (first l) a.captures a.rest a.ended a.ending;
+    joined = sym (append_assoc (bytes 4 (length (first l))) (first l ++ encoded a.captures) a.rest
         ∙ rw (
-          append-assoc (first l) (encoded (a .captures)) (a .rest),
-          ← a .joined,
+          append_assoc (first l) (encoded a.captures) a.rest,
+          ← a.joined,
           first-long,
           take-append-drop (number 0 4 l) (drop 4 l),
           bytes-number 4 l small h,
         ) (take-append-drop 4 l));
   }
     where
-      fits : (i : ℕ) → length (getD (first l ∷ a .captures) i []) < 4294967296
+      fits : (i : ℕ) → length (get_or (first l ∷ a.captures) i []) < 4294967296
       fits zero = omega (arith, first-long, number-below l small 4 0)
-      fits (suc i) = a .fit .at i
+      fits (suc i) = a.fit.at i
 
-left-here : (n : ℕ) (l : List ℕ) (ended : Bool) → Left l ended → Apart (suc n) l
-left-here n l ended t = none-before (suc n) l ended (fewer {n = suc n} {cs = []} (omega arith) t)
+left_here : (n : ℕ) (l : List ℕ) (ended : Bool) → Left l ended → Apart (suc n) l
+left_here n l ended t = none_before (suc n) l ended (fewer {n = suc n} {cs = []} (omega arith) t)
 
-pub apart : (n : ℕ) (l : List ℕ) → ((i : ℕ) → getD l i 0 < 256) → Apart n l
-apart zero l small = none-before 0 l false (asMany refl)
-apart (suc n) [] small = left-here n [] true nothing
+pub apart : (n : ℕ) (l : List ℕ) → ((i : ℕ) → get_or l i 0 < 256) → Apart n l
+apart zero l small = none_before 0 l false (asMany refl)
+apart (suc n) [] small = left_here n [] true nothing
 apart (suc n) (b ∷ l) small =
-    by-cases (leb 4 (length (b ∷ l)))
+    by_cases (leb 4 (length (b ∷ l)))
     (λ e.
     let h : 4 ≤ length (b ∷ l) = leb-true _ _ e in
-    by-cases (leb (4 + number 0 4 (b ∷ l)) (length (b ∷ l)))
+    by_cases (leb (4 + number 0 4 (b ∷ l)) (length (b ∷ l)))
     (λ f. one-before n (b ∷ l) small h (leb-true _ _ f)
     (apart n (others (b ∷ l)) (others-small (b ∷ l) small)))
-    (λ f. left-here n (b ∷ l) false (inCapture h (leb-false _ _ f))))
-    (λ e. left-here n (b ∷ l) false (inLength (omega arith) (leb-false _ _ e)))
+    (λ f. left_here n (b ∷ l) false (inCapture h (leb-false _ _ f))))
+    (λ e. left_here n (b ∷ l) false (inLength (omega arith) (leb-false _ _ e)))

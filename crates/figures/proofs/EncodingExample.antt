@@ -1,22 +1,22 @@
 -- Streams that meet the hypotheses of the claims of specs/Encoding.antt: one for each ending. Assumes nothing.
-use mathlib.Core.Path.{_≡_, refl, ap, _∙_}
+use mathlib.Core.Path.{◌≡◌, refl, ap, ◌∙◌}
 use mathlib.Core.Bool.{true, false}
-use mathlib.Core.List.{List, [], _∷_, _++_}
-use Prim.Native.Nat.{ℕ, zero, suc, _+_, _<_}
+use mathlib.Core.List.{List, [], ◌∷◌, ◌++◌}
+use Prim.Native.Nat.{ℕ, zero, suc, ◌+◌, ◌<◌}
 use native.Mathlib.Omega.{arith}
-use lib.ListN.{length, getD, replicate, length-append, length-replicate}
-use Rattle·theory.proofs.Lists.{getD-same}
-use Rattle·wire.specs.Le.{le, bytes, number}
-use Rattle·wire.proofs.Le.{length-bytes}
-use Rattle·setups.specs.declared.Setup.{Setup}
-use Rattle·setups.specs.Setup.{setupWith}
-use Rattle·setups.specs.Reading.{readAs, readVersion1}
-use Rattle·setups.specs.Examples.{bench, zeros}
-use Rattle·figures·specs.specs.Sheet.{sheetOf}
-use Rattle·figures·specs.specs.Encoding.{encoded, Encodable, Left, nothing, inLength, inCapture, Ending, fewer, asMany, Whole, EndsIn, endTorn}
-use Rattle·figures·specs.specs.Examples.{partBytes, status}
-use Rattle·figures·proofs.proofs.Sheets.{model}
-use Rattle·figures·proofs.proofs.SheetOfCaptures.{sheet-of-captures}
+use lib.ListN.{length, get_or, replicate, length-append, length-replicate}
+use Rattle.theory.proofs.Lists.{getD-same}
+use Rattle.wire.specs.Le.{le, bytes, number}
+use Rattle.wire.proofs.Le.{length-bytes}
+use Rattle.setups.specs.declared.Setup.{Setup}
+use Rattle.setups.specs.Setup.{setupWith}
+use Rattle.setups.specs.Reading.{readAs, readVersion1}
+use Rattle.setups.specs.Examples.{bench, zeros}
+use Rattle.figures.specs.Sheet.{sheetOf}
+use Rattle.figures.specs.Encoding.{encoded, Encodable, Left, nothing, inLength, inCapture, Ending, fewer, asMany, Whole, EndsIn, endTorn}
+use Rattle.figures.specs.Examples.{partBytes, status}
+use Rattle.figures.proofs.Sheets.{model}
+use Rattle.figures.proofs.SheetOfCaptures.{sheet-of-captures}
 
 abbrev setup : Setup
 setup = setupWith 2 (1 ∷ 1 ∷ []) 1 1 zeros
@@ -31,7 +31,7 @@ one-fits : Encodable (status ∷ [])
 unfolding status partBytes bytes
 one-fits = record { at = fits }
   where
-    fits : (i : ℕ) → length (getD (status ∷ []) i []) < 4294967296
+    fits : (i : ℕ) → length (get_or (status ∷ []) i []) < 4294967296
     fits zero = omega arith
     fits (suc i) = omega arith
 
@@ -41,11 +41,11 @@ one-few = omega arith
 ends-between : Ending 4294967295 (status ∷ []) [] true
 ends-between = fewer one-few nothing
 
-two-bytes : Left (17 ∷ 0 ∷ []) false
-two-bytes = inLength {rest = 17 ∷ 0 ∷ []} (omega arith) (omega arith)
+two_bytes : Left (17 ∷ 0 ∷ []) false
+two_bytes = inLength {rest = 17 ∷ 0 ∷ []} (omega arith) (omega arith)
 
 ends-in-length : Ending 4294967295 (status ∷ []) (17 ∷ 0 ∷ []) false
-ends-in-length = fewer one-few two-bytes
+ends-in-length = fewer one-few two_bytes
 
 five-bytes : Left (17 ∷ 0 ∷ 0 ∷ 0 ∷ 3 ∷ []) false
 unfolding number le
@@ -55,7 +55,7 @@ ends-in-capture : Ending 4294967295 (status ∷ []) (17 ∷ 0 ∷ 0 ∷ 0 ∷ 3 
 ends-in-capture = fewer one-few five-bytes
 
 -- one byte is no stream that is whole
-not-joined : (cs : List (List ℕ)) → _≡_ {A = ℕ} 1 (length (encoded cs)) → ⊥
+not-joined : (cs : List (List ℕ)) → ◌≡◌ {A = ℕ} 1 (length (encoded cs)) → ⊥
 unfolding encoded
 not-joined [] e = omega arith
 not-joined (c ∷ cs) e =
@@ -64,7 +64,7 @@ not-joined (c ∷ cs) e =
     omega arith
 
 not-whole : Whole (17 ∷ []) → ⊥
-not-whole w = not-joined (w .captures) (ap length (w .joined))
+not-whole w = not-joined w.captures (ap length w.joined)
 
 -- ---- the most captures, each empty ----
 

@@ -1,35 +1,35 @@
 -- Chunks that are fed, which the claim that it does not matter how a stream is cut speaks of: a setup of version 2, after which
 -- nothing more is taken; and a stream that is cut inside its setup, a length and a capture. Assumes nothing.
-use mathlib.Core.Path.{_≡_, refl, _∙_}
+use mathlib.Core.Path.{◌≡◌, refl, ◌∙◌}
 use mathlib.Core.Bool.{true}
-use mathlib.Core.List.{List, [], _∷_, _++_}
+use mathlib.Core.List.{List, [], ◌∷◌, ◌++◌}
 use Prim.Native.Nat.{ℕ}
 use native.Mathlib.Omega.{arith}
 use lib.ListN.{length, replicate}
-use Rattle·theory.specs.Bytes.{put}
-use Rattle·wire.specs.Le.{bytes}
-use Rattle·setups.specs.declared.Setup.{Setup}
-use Rattle·setups.specs.declared.ReadAnswer.the-variants.{Version2}
-use Rattle·setups.specs.Setup.{setupWith}
-use Rattle·setups.specs.Reading.{readAs, refusedAs}
-use Rattle·setups.specs.Examples.{bench, zeros}
-use Rattle·tally.specs.Counts.{_plus_}
-use Rattle·tally.specs.Rows.{longest, rowCount}
-use Rattle·stream.specs.declared.Progress.{Progress}
-use Rattle·stream.specs.declared.Item.the-variants as item
-use Rattle·stream.specs.Progress as captures
-use Rattle·stream.specs.Steps.{progress, awaiting, opened}
-use Rattle·stream.proofs.Ends.{started-ready}
-use Rattle·stream.proofs.Takes.{length-more, length-done, capture-more, capture-done}
-use Rattle·figures·specs.specs.declared.State.{State}
-use Rattle·figures·specs.specs.Sheet.{sheetOf}
-use Rattle·figures·specs.specs.State.{waiting, refused, counting, finishedOf, over, Took}
-use Rattle·figures·specs.specs.Encoding.{encoded}
-use Rattle·figures·specs.specs.Examples.{partBytes, status}
-use Rattle·figures·specs.specs.Claims.{Fed, none, next, joined}
-use Rattle·figures·proofs.proofs.Taking.{setup-more, setup-whole, open-refused, open-taken, captures-taken}
-use Rattle·figures·proofs.proofs.HoweverCut.{however-cut}
-use Rattle·figures·proofs.proofs.Sheets.{model, second}
+use Rattle.theory.specs.Bytes.{put}
+use Rattle.wire.specs.Le.{bytes}
+use Rattle.setups.specs.declared.Setup.{Setup}
+use Rattle.setups.specs.declared.ReadAnswer.TheVariants.{Version2}
+use Rattle.setups.specs.Setup.{setupWith}
+use Rattle.setups.specs.Reading.{readAs, refusedAs}
+use Rattle.setups.specs.Examples.{bench, zeros}
+use Rattle.tally.specs.Counts.{◌plus◌}
+use Rattle.tally.specs.Rows.{longest, rowCount}
+use Rattle.stream.specs.declared.Progress.{Progress}
+use Rattle.stream.specs.declared.Item.TheVariants as item
+use Rattle.stream.specs.Progress as captures
+use Rattle.stream.specs.Steps.{progress, awaiting, opened}
+use Rattle.stream.proofs.Ends.{started-ready}
+use Rattle.stream.proofs.Takes.{length_more, length-done, capture-more, capture-done}
+use Rattle.figures.specs.declared.State.{State}
+use Rattle.figures.specs.Sheet.{sheetOf}
+use Rattle.figures.specs.State.{waiting, refused, counting, finishedOf, over, Took}
+use Rattle.figures.specs.Encoding.{encoded}
+use Rattle.figures.specs.Examples.{partBytes, status}
+use Rattle.figures.specs.Claims.{Fed, none, next, joined}
+use Rattle.figures.proofs.Taking.{setup-more, setup-whole, open-refused, open-taken, captures-taken}
+use Rattle.figures.proofs.HoweverCut.{however-cut}
+use Rattle.figures.proofs.Sheets.{model, second}
 
 abbrev buffer : List ℕ
 buffer = replicate longest 0
@@ -39,15 +39,15 @@ buffer = replicate longest 0
 took-second : Took (waiting 0) buffer second refused (put 0 second buffer)
 unfolding model
 took-second =
-    setup-whole (waiting 0) buffer second (however-cut .starts buffer refl) refl (omega arith) (put 0 second buffer) refl refused
+    setup-whole (waiting 0) buffer second (however-cut.starts buffer refl) refl (omega arith) (put 0 second buffer) refl refused
     (put 0 second buffer)
     (open-refused (put 0 second buffer) (0 ∷ []) refl (refusedAs Version2) refl 1 refl refused refl (λ e. omega arith))
 
 fed-second : Fed (waiting 0) buffer (second ∷ []) refused (put 0 second buffer)
 fed-second = next took-second none
 
-no-more : over refused ≡ true
-no-more = refl
+no_more : over refused ≡ true
+no_more = refl
 
 -- ---- chunks that end inside the setup, a length and a capture ----
 
@@ -81,7 +81,7 @@ chunk4 = 0 ∷ 0 ∷ 0 ∷ 1 ∷ 0 ∷ 0 ∷ 0 ∷ 15 ∷ []
 
 took-1 : Took (waiting 0) buffer chunk1 (waiting 5) (put 0 chunk1 buffer)
 took-1 =
-    setup-more (waiting 0) buffer chunk1 (however-cut .starts buffer refl) refl (put 0 chunk1 buffer) (waiting 5) refl refl
+    setup-more (waiting 0) buffer chunk1 (however-cut.starts buffer refl) refl (put 0 chunk1 buffer) (waiting 5) refl refl
     (omega arith)
 
 abbrev setup : Setup
@@ -122,39 +122,39 @@ p5 = progress item.Capture 9 8 none-counted
 abbrev p6 : Progress
 p6 = progress item.Length 0 4 (1 ∷ 1 ∷ 0 ∷ 0 ∷ 0 ∷ 0 ∷ 0 ∷ 0 ∷ 0 ∷ 0 ∷ 0 ∷ 0 ∷ 1 ∷ 0 ∷ 0 ∷ 17 ∷ [])
 
-half-length : length buffer2 ≡ longest → captures.Took 1 zeros captures.started buffer2 length1 p3 buffer3
-half-length h =
-    length-more captures.started buffer2 length1 (started-ready buffer2 h) refl
+half_length : length buffer2 ≡ longest → captures.Took 1 zeros captures.started buffer2 length1 p3 buffer3
+half_length h =
+    length_more captures.started buffer2 length1 (started-ready buffer2 h) refl
     (record { some = omega arith; item = omega arith; chunk = omega arith }) 1 zeros buffer3 refl (omega arith)
 
 took-2 : Took (waiting 5) (put 0 chunk1 buffer) chunk2 (taking p3) buffer3
 unfolding model
 took-2 =
-    setup-whole (waiting 5) (put 0 chunk1 buffer) chunk2 (took-1 .ready) refl (omega arith) buffer2 refl (taking p3) buffer3
+    setup-whole (waiting 5) (put 0 chunk1 buffer) chunk2 took-1.ready refl (omega arith) buffer2 refl (taking p3) buffer3
     (open-taken buffer2 length1 refl (readAs setup) refl 0 refl captures.started (taking p3) buffer3 refl
-    (captures-taken 1 zeros captures.started buffer2 length1 p3 buffer3 (half-length refl)) refl)
+    (captures-taken 1 zeros captures.started buffer2 length1 p3 buffer3 (half_length refl)) refl)
 
-whole-length : captures.Took 1 zeros p3 buffer3 length2 p4 buffer4
+whole_length : captures.Took 1 zeros p3 buffer3 length2 p4 buffer4
 unfolding model opened
-whole-length =
-    length-done p3 buffer3 length2 (took-2 .ready .standing) refl
+whole_length =
+    length-done p3 buffer3 length2 took-2.ready.standing refl
     (record { some = omega arith; item = omega arith; chunk = omega arith }) 1 zeros buffer4 refl p4 refl (omega arith)
 
 half-capture : captures.Took 1 zeros p4 buffer4 capture1 p5 buffer5
 half-capture =
-    capture-more p4 buffer4 capture1 (whole-length .ready) refl
+    capture-more p4 buffer4 capture1 whole_length.ready refl
     (record { some = omega arith; item = omega arith; chunk = omega arith }) 1 zeros buffer5 refl (omega arith)
 
 took-3 : Took (taking p3) buffer3 chunk3 (taking p5) buffer5
 took-3 = captures-taken 1 zeros p3 buffer3 chunk3 p5 buffer5 (record {
-  ready = half-capture .ready;
-  same = λ l. half-capture .same l ∙ whole-length .same (capture1 ++ l);
+  ready = half-capture.ready;
+  same = λ l. half-capture.same l ∙ whole_length.same (capture1 ++ l);
 })
 
 whole-capture : captures.Took 1 zeros p5 buffer5 chunk4 p6 buffer6
-unfolding model awaiting _plus_
+unfolding model awaiting ◌plus◌
 whole-capture =
-    capture-done p5 buffer5 chunk4 (half-capture .ready) refl
+    capture-done p5 buffer5 chunk4 half-capture.ready refl
     (record { some = omega arith; item = omega arith; chunk = omega arith }) 1 zeros buffer6 refl p6 refl (omega arith)
 
 took-4 : Took (taking p5) buffer5 chunk4 (taking p6) buffer6
@@ -166,4 +166,4 @@ fed-cut = next took-1 (next took-2 (next took-3 (next took-4 none)))
 -- so that what is written is the sheet of the setup and a capture of the status
 cut-sheet : finishedOf (taking p6) ≡ sheetOf (bench ++ encoded (status ∷ []))
 unfolding encoded bytes joined status partBytes
-cut-sheet = however-cut .ends buffer _ _ _ refl fed-cut
+cut-sheet = however-cut.ends buffer _ _ _ refl fed-cut

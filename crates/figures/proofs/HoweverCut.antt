@@ -1,28 +1,28 @@
 -- However a stream is cut, what is fed and finished gives the sheet of the whole: an induction over the chunks. Assumes nothing.
-use mathlib.Core.Path.{_≡_, refl, ap, sym, _∙_}
+use mathlib.Core.Path.{◌≡◌, refl, ap, sym, ◌∙◌}
 use mathlib.Core.Bool.{true, false}
-use mathlib.Core.List.{List, [], _++_, append-assoc, append-nil}
-use Prim.Native.Nat.{ℕ, _+_, _<_}
+use mathlib.Core.List.{List, [], ◌++◌, append_assoc, append-nil}
+use Prim.Native.Nat.{ℕ, ◌+◌, ◌<◌}
 use native.Mathlib.Omega.{arith}
-use borrow.Author.Tests.{ne-eqb}
+use borrow.Author.Tests.{ne_eqb}
 use lib.Dec.{eqb}
 use lib.ListN.{length, take}
-use lib.Seq.{take-all, length-take-le}
-use Rattle·theory.specs.Logic.{if_then_else_, unless_answer_then_}
-use Rattle·theory.proofs.Tests.{by-cases, and-false, false-and}
-use Rattle·setups.specs.Setup.{featuresSize}
-use Rattle·setups.specs.Reading.{versionIn, headSize, headRight, isVersion1, takeVersion1, readVersion1}
-use Rattle·tally.specs.Rows.{longest}
-use Rattle·sheet.specs.Text.{textOf}
-use Rattle·stream.specs.Progress as captures
-use Rattle·stream.proofs.Ends.{at-end, stopped-same}
-use Rattle·figures·specs.specs.Sheet.{setupSize, refusedText, sheetUnder, sheetOf}
-use Rattle·figures·specs.specs.State.{waiting, sheetFrom, sheetIn, finishedOf, finishedIn, over, overIn, Ready}
-use Rattle·figures·specs.specs.Claims.{Fed, none, next, joined, HoweverCut}
-use Rattle·figures·specs.specs.declared.Phase.{Phase}
-use Rattle·figures·specs.specs.declared.Phase.the-variants as phase
-use Rattle·figures·specs.specs.declared.State.{State}
-use Rattle·figures·proofs.proofs.Taking.{without-ready, standing-is}
+use lib.Seq.{take_all, length-take-le}
+use Rattle.theory.specs.Logic.{if◌then◌else◌, unless◌answer◌then◌}
+use Rattle.theory.proofs.Tests.{by_cases, and-false, false-and}
+use Rattle.setups.specs.Setup.{featuresSize}
+use Rattle.setups.specs.Reading.{versionIn, headSize, headRight, isVersion1, takeVersion1, readVersion1}
+use Rattle.tally.specs.Rows.{longest}
+use Rattle.sheet.specs.Text.{text_of}
+use Rattle.stream.specs.Progress as captures
+use Rattle.stream.proofs.Ends.{at-end, stopped-same}
+use Rattle.figures.specs.Sheet.{setupSize, refusedText, sheetUnder, sheetOf}
+use Rattle.figures.specs.State.{waiting, sheetFrom, sheetIn, finishedOf, finishedIn, over, overIn, Ready}
+use Rattle.figures.specs.Claims.{Fed, none, next, joined, HoweverCut}
+use Rattle.figures.specs.declared.Phase.{Phase}
+use Rattle.figures.specs.declared.Phase.TheVariants as phase
+use Rattle.figures.specs.declared.State.{State}
+use Rattle.figures.proofs.Taking.{without-ready, standing-is}
 
 -- ---- under 19 bytes ----
 
@@ -30,49 +30,49 @@ no-version-1 : (l : List ℕ) → length l < setupSize → isVersion1 l ≡ fals
 unfolding isVersion1
 no-version-1 l h =
     let n : length l ≡ headSize + featuresSize → ⊥ = λ e. omega arith in
-    rw (ne-eqb (length l) (headSize + featuresSize) n, and-false (eqb (versionIn l) 1)) (false-and (headRight l))
+    rw (ne_eqb (length l) (headSize + featuresSize) n, and-false (eqb (versionIn l) 1)) (false-and (headRight l))
 
 short-refused : (l rest : List ℕ) → length l < setupSize → sheetUnder (readVersion1 l) rest ≡ refusedText
-unfolding readVersion1 takeVersion1 if_then_else_ unless_answer_then_
-short-refused l rest h = by-cases (eqb (versionIn l) 2) (λ e. rw e) (λ e. rw (e, no-version-1 l h))
+unfolding readVersion1 takeVersion1 if◌then◌else◌ unless◌answer◌then◌
+short-refused l rest h = by_cases (eqb (versionIn l) 2) (λ e. rw e) (λ e. rw (e, no-version-1 l h))
 
 short-sheet : (l : List ℕ) → length l < setupSize → sheetOf l ≡ refusedText
 unfolding sheetOf
-short-sheet l h = rw (take-all setupSize l (omega arith)) (short-refused l _ h)
+short-sheet l h = rw (take_all setupSize l (omega arith)) (short-refused l _ h)
 
 -- ---- the end, and nothing more ----
 
 module _ (s : State) (b : List ℕ) (w : Ready s b) where
-  end-in : (ph : Phase) → s .phase ≡ ph → sheetIn ph s b [] ≡ finishedIn ph s
+  end-in : (ph : Phase) → s.phase ≡ ph → sheetIn ph s b [] ≡ finishedIn ph s
   unfolding captures.finishedOf
   end-in phase.Setup e =
-      let h : s .have < setupSize = standing-is s phase.Setup e b w in
-      let n : length (take (s .have) b) ≡ s .have = length-take-le (s .have) b (omega (arith, w .room)) in
-      rw append-nil (short-sheet (take (s .have) b) (omega arith))
+      let h : s.have < setupSize = standing-is s phase.Setup e b w in
+      let n : length (take s.have b) ≡ s.have = length-take-le s.have b (omega (arith, w.room)) in
+      rw append-nil (short-sheet (take s.have b) (omega arith))
   end-in phase.Captures e =
-      ap textOf (at-end (s .queues) (s .features) (s .progress) b (standing-is s phase.Captures e b w))
+      ap text_of (at-end s.queues s.features s.progress b (standing-is s phase.Captures e b w))
   end-in phase.Refused e = refl
 
   ends-here : sheetFrom s b [] ≡ finishedOf s
-  ends-here = end-in (s .phase) refl
+  ends-here = end-in s.phase refl
 
 over-in : (ph : Phase) (s : State) (b l : List ℕ) → overIn ph s ≡ true → sheetIn ph s b l ≡ sheetIn ph s b []
 over-in phase.Setup s b l h = cc
-over-in phase.Captures s b l h = ap textOf (stopped-same (s .queues) (s .features) (s .progress) b l h)
+over-in phase.Captures s b l h = ap text_of (stopped-same s.queues s.features s.progress b l h)
 over-in phase.Refused s b l h = refl
 
 -- ---- the chunks ----
 
 fed-ready : {s r : State} {b after : List ℕ} {chunks : List (List ℕ)} → Fed s b chunks r after → Ready s b → Ready r after
 fed-ready none w = w
-fed-ready (next t f) w = fed-ready f (t .ready)
+fed-ready (next t f) w = fed-ready f t.ready
 
 fed-same : {s r : State} {b after : List ℕ} {chunks : List (List ℕ)} → Fed s b chunks r after → (l : List ℕ)
     → sheetFrom r after l ≡ sheetFrom s b (joined chunks ++ l)
 unfolding joined
 fed-same none l = refl
 fed-same {s} {b = b} (next {chunk = c} {chunks = cs} t f) l =
-    fed-same f l ∙ t .same (joined cs ++ l) ∙ ap (sheetFrom s b) (sym (append-assoc c (joined cs) l))
+    fed-same f l ∙ t.same (joined cs ++ l) ∙ ap (sheetFrom s b) (sym (append_assoc c (joined cs) l))
 
 start-ready : (b : List ℕ) → length b ≡ longest → Ready (waiting 0) b
 start-ready b h = without-ready phase.Setup 0 b h (omega arith)
@@ -83,7 +83,7 @@ module _ (b : List ℕ) (chunks : List (List ℕ)) (r : State) (after : List ℕ
   ends = sym (ends-here r after (fed-ready f (start-ready b h))) ∙ fed-same f [] ∙ ap sheetOf (append-nil (joined chunks))
 
   stops : (l : List ℕ) → over r ≡ true → finishedOf r ≡ sheetOf (joined chunks ++ l)
-  stops l o = sym (ends-here r after (fed-ready f (start-ready b h))) ∙ sym (over-in (r .phase) r after l o) ∙ fed-same f l
+  stops l o = sym (ends-here r after (fed-ready f (start-ready b h))) ∙ sym (over-in r.phase r after l o) ∙ fed-same f l
 
 pub however-cut : HoweverCut
 however-cut = record {

@@ -1,25 +1,25 @@
 -- The totals of captures are their numbers, counted line by line. Assumes nothing.
-use mathlib.Core.Path.{_≡_, refl, ap, _∙_}
+use mathlib.Core.Path.{◌≡◌, refl, ap, ◌∙◌}
 use mathlib.Core.Bool.{Bool, true, false, not}
-use mathlib.Core.List.{List, [], _∷_}
-use Prim.Native.Nat.{ℕ, _+_}
+use mathlib.Core.List.{List, [], ◌∷◌}
+use Prim.Native.Nat.{ℕ, ◌+◌}
 use native.Mathlib.Omega.{arith}
 use lib.Dec.{eqb}
 use lib.ListN.{length}
-use Rattle·theory.specs.Logic.{if_then_else_, _and_, indicator}
-use Rattle·theory.proofs.Tests.{by-cases, if-same}
-use Rattle·parts.specs.declared.ListForm.the-variants.{Parts}
-use Rattle·parts.specs.List.{partsOf}
-use Rattle·rules.specs.declared.Cause.{Cause}
-use Rattle·rules.specs.declared.Cause.the-variants.{Accepted, Cut, Unknown, Length, Size, Features, Twice}
-use Rattle·rules.specs.Rules.{causeOf}
-use Rattle·tally.specs.Rows.{Row, row, rows, causeLine, longLine, partsOfType}
-use Rattle·stream.specs.Stream.{capture, long}
-use Rattle·stream.specs.Totals.{total, totals}
-use Rattle·figures·specs.specs.Encoding.{sumOf, countOf, isLong, isUnder, acceptedSum, numbers}
-use Rattle·figures·proofs.proofs.Encoding.{capturesOf}
+use Rattle.theory.specs.Logic.{if◌then◌else◌, ◌and◌, indicator}
+use Rattle.theory.proofs.Tests.{by_cases, if-same}
+use Rattle.parts.specs.declared.ListForm.TheVariants.{Parts}
+use Rattle.parts.specs.List.{parts_of}
+use Rattle.rules.specs.declared.Cause.{Cause}
+use Rattle.rules.specs.declared.Cause.TheVariants.{Accepted, Cut, Unknown, Length, Size, Features, Twice}
+use Rattle.rules.specs.Rules.{causeOf}
+use Rattle.tally.specs.Rows.{Row, row, rows, causeLine, longLine, partsOfType}
+use Rattle.stream.specs.Stream.{capture, long}
+use Rattle.stream.specs.Totals.{total, totals}
+use Rattle.figures.specs.Encoding.{sum_of, count_of, isLong, isUnder, acceptedSum, numbers}
+use Rattle.figures.proofs.Encoding.{capturesOf}
 
-cons : {x y : ℕ} {xs ys : List ℕ} → x ≡ y → xs ≡ ys → _≡_ {A = List ℕ} (x ∷ xs) (y ∷ ys)
+cons : {x y : ℕ} {xs ys : List ℕ} → x ≡ y → xs ≡ ys → ◌≡◌ {A = List ℕ} (x ∷ xs) (y ∷ ys)
 cons e f = rw (e, f)
 
 -- no cause has the line of the long ones
@@ -32,67 +32,67 @@ not-long Size = (refl, refl)
 not-long Features = (refl, refl)
 not-long Twice = (refl, refl)
 
-length-sum : (cs : List (List ℕ)) → sumOf (λ c. 1) cs ≡ length cs
-unfolding sumOf
+length-sum : (cs : List (List ℕ)) → sum_of (λ c. 1) cs ≡ length cs
+unfolding sum_of
 length-sum [] = refl
 length-sum (c ∷ cs) = omega (arith, length-sum cs)
 
 module _ (q : ℕ) (features : List ℕ) where
   -- what a capture adds to a line
   abbrev added : Row → List ℕ → ℕ
-  added r c = if isLong c then r .adds q longLine [] else r .adds q (causeLine (causeOf q features c)) c
+  added r c = if isLong c then r.adds q longLine [] else r.adds q (causeLine (causeOf q features c)) c
 
-  sum-is : (r : Row) (g : List ℕ → ℕ) → ((c : List ℕ) → added r c ≡ g c) → (cs : List (List ℕ)) (ended : Bool)
-      → total q features (capturesOf cs ended) r ≡ sumOf g cs
-  unfolding capturesOf total sumOf if_then_else_
-  sum-is r g h [] true = refl
-  sum-is r g h [] false = refl
-  sum-is r g h (c ∷ cs) ended =
-      by-cases (isLong c) (λ e. rw (← h c, e, ← sum-is r g h cs ended)) (λ e. rw (← h c, e, ← sum-is r g h cs ended))
+  sum_is : (r : Row) (g : List ℕ → ℕ) → ((c : List ℕ) → added r c ≡ g c) → (cs : List (List ℕ)) (ended : Bool)
+      → total q features (capturesOf cs ended) r ≡ sum_of g cs
+  unfolding capturesOf total sum_of if◌then◌else◌
+  sum_is r g h [] true = refl
+  sum_is r g h [] false = refl
+  sum_is r g h (c ∷ cs) ended =
+      by_cases (isLong c) (λ e. rw (← h c, e, ← sum_is r g h cs ended)) (λ e. rw (← h c, e, ← sum_is r g h cs ended))
 
   module _ (c : List ℕ) where
     -- the line in which it is counted
-    abbrev lineOf : ℕ
-    lineOf = causeLine (causeOf q features c)
+    abbrev line_of : ℕ
+    line_of = causeLine (causeOf q features c)
 
     one-under : (k : Cause)
-        → (if isLong c then indicator (eqb longLine (causeLine k)) else indicator (eqb lineOf (causeLine k)))
+        → (if isLong c then indicator (eqb longLine (causeLine k)) else indicator (eqb line_of (causeLine k)))
         ≡ indicator (isUnder q features k c)
-    unfolding isUnder if_then_else_ indicator _and_
-    one-under k = by-cases (isLong c) (λ e. rw (e, not-long k .1)) (λ e. rw e)
+    unfolding isUnder if◌then◌else◌ indicator ◌and◌
+    one-under k = by_cases (isLong c) (λ e. rw (e, (not-long k).1)) (λ e. rw e)
 
-    one-long : (if isLong c then 1 else indicator (eqb lineOf longLine)) ≡ indicator (isLong c)
-    unfolding if_then_else_ indicator
-    one-long = by-cases (isLong c) (λ e. rw e) (λ e. rw (e, not-long (causeOf q features c) .0))
+    one-long : (if isLong c then 1 else indicator (eqb line_of longLine)) ≡ indicator (isLong c)
+    unfolding if◌then◌else◌ indicator
+    one-long = by_cases (isLong c) (λ e. rw e) (λ e. rw (e, (not-long (causeOf q features c)).0))
 
     if-accepted : (n : ℕ)
-        → (if isLong c then 0 else if eqb lineOf (causeLine Accepted) then n else 0)
+        → (if isLong c then 0 else if eqb line_of (causeLine Accepted) then n else 0)
         ≡ (if isUnder q features Accepted c then n else 0)
-    unfolding isUnder if_then_else_ _and_
-    if-accepted n = by-cases (isLong c) (λ e. rw e) (λ e. rw e)
+    unfolding isUnder if◌then◌else◌ ◌and◌
+    if-accepted n = by_cases (isLong c) (λ e. rw e) (λ e. rw e)
 
   module _ (cs : List (List ℕ)) (ended : Bool) where
-    abbrev totalOf : List ℕ → (ℕ → ℕ → List ℕ → ℕ) → ℕ
-    totalOf name adds = total q features (capturesOf cs ended) (row name adds)
+    abbrev total_of : List ℕ → (ℕ → ℕ → List ℕ → ℕ) → ℕ
+    total_of name adds = total q features (capturesOf cs ended) (row name adds)
 
-    read-are : (name : List ℕ) → totalOf name (λ queues i c. 1) ≡ length cs
-    read-are name = sum-is (row name (λ queues i c. 1)) (λ c. 1) (λ c. if-same (isLong c) 1) cs ended ∙ length-sum cs
+    read-are : (name : List ℕ) → total_of name (λ queues i c. 1) ≡ length cs
+    read-are name = sum_is (row name (λ queues i c. 1)) (λ c. 1) (λ c. if-same (isLong c) 1) cs ended ∙ length-sum cs
 
-    long-are : (name : List ℕ) → totalOf name (λ queues i c. indicator (eqb i longLine)) ≡ countOf isLong cs
-    unfolding countOf indicator
-    long-are name = sum-is (row name (λ queues i c. indicator (eqb i longLine))) _ one-long cs ended
+    long-are : (name : List ℕ) → total_of name (λ queues i c. indicator (eqb i longLine)) ≡ count_of isLong cs
+    unfolding count_of indicator
+    long-are name = sum_is (row name (λ queues i c. indicator (eqb i longLine))) _ one-long cs ended
 
     causes-are : (name : List ℕ) (k : Cause)
-        → totalOf name (λ queues i c. indicator (eqb i (causeLine k))) ≡ countOf (isUnder q features k) cs
-    unfolding countOf
+        → total_of name (λ queues i c. indicator (eqb i (causeLine k))) ≡ count_of (isUnder q features k) cs
+    unfolding count_of
     causes-are name k =
-        sum-is (row name (λ queues i c. indicator (eqb i (causeLine k)))) _ (λ c. one-under c k) cs ended
+        sum_is (row name (λ queues i c. indicator (eqb i (causeLine k)))) _ (λ c. one-under c k) cs ended
 
     accepted-are : (name : List ℕ) (f : ℕ → List ℕ → ℕ)
-        → totalOf name (λ queues i c. if eqb i (causeLine Accepted) then f queues c else 0) ≡ acceptedSum q features (f q) cs
-    unfolding acceptedSum if_then_else_
+        → total_of name (λ queues i c. if eqb i (causeLine Accepted) then f queues c else 0) ≡ acceptedSum q features (f q) cs
+    unfolding acceptedSum if◌then◌else◌
     accepted-are name f =
-        sum-is (row name (λ queues i c. if eqb i (causeLine Accepted) then f queues c else 0)) _
+        sum_is (row name (λ queues i c. if eqb i (causeLine Accepted) then f queues c else 0)) _
         (λ c. if-accepted c (f q c)) cs ended
 
     pub numbers-are : totals q features (capturesOf cs ended) ≡ numbers q features cs
@@ -107,10 +107,10 @@ module _ (q : ℕ) (features : List ℕ) where
         (cons (causes-are _ Features)
         (cons (causes-are _ Twice)
         (cons (long-are _)
-        (cons (accepted-are _ (λ queues c. partsOfType queues 0x100 (partsOf Parts c)))
-        (cons (accepted-are _ (λ queues c. partsOfType queues 0x101 (partsOf Parts c)))
-        (cons (accepted-are _ (λ queues c. partsOfType queues 0x102 (partsOf Parts c)))
-        (cons (accepted-are _ (λ queues c. partsOfType queues 0x103 (partsOf Parts c)))
-        (cons (accepted-are _ (λ queues c. partsOfType queues 0x104 (partsOf Parts c)))
-        (cons (accepted-are _ (λ queues c. partsOfType queues 0x105 (partsOf Parts c)))
+        (cons (accepted-are _ (λ queues c. partsOfType queues 0x100 (parts_of Parts c)))
+        (cons (accepted-are _ (λ queues c. partsOfType queues 0x101 (parts_of Parts c)))
+        (cons (accepted-are _ (λ queues c. partsOfType queues 0x102 (parts_of Parts c)))
+        (cons (accepted-are _ (λ queues c. partsOfType queues 0x103 (parts_of Parts c)))
+        (cons (accepted-are _ (λ queues c. partsOfType queues 0x104 (parts_of Parts c)))
+        (cons (accepted-are _ (λ queues c. partsOfType queues 0x105 (parts_of Parts c)))
         (cons (accepted-are _ (λ queues c. length c)) refl)))))))))))))))

@@ -1,44 +1,44 @@
 -- The sheets of the worked examples, by computation, and setups that are refused. Assumes nothing.
-use mathlib.Core.Path.{_≡_, refl}
-use mathlib.Core.Logic.{_≢_}
+use mathlib.Core.Path.{◌≡◌, refl}
+use mathlib.Core.Logic.{◌≢◌}
 use mathlib.Core.Bool.{true}
-use mathlib.Core.List.{List, [], _∷_}
+use mathlib.Core.List.{List, [], ◌∷◌}
 use Prim.Native.Nat.{ℕ}
 use lib.ListN.{replicate}
-use Rattle·theory.specs.Logic.{if_then_else_, unless_answer_then_, _and_, _or_, indicator}
-use Rattle·theory.specs.Bytes.{put, same}
-use Rattle·theory.specs.Items.{itemsFrom}
-use Rattle·theory.proofs.Tests.{same-true}
-use Rattle·wire.specs.Le.{le, bytes, number}
-use Rattle·decimal.specs.Decimal.{digits, decimal, line}
-use Rattle·inventory.specs.Inventory.{rowAt, present, selectorOf, isRow, seek, placeOf}
-use Rattle·inventory.specs.Inventory.{rows as inventoryRows}
-use Rattle·inventory.specs.Queue.{powerBelow, ringSize, queueAllowed, valueAllowed}
-use Rattle·setups.specs.Bits.{bit, bitsAt}
-use Rattle·setups.specs.Setup.{noCounts, sixteen}
-use Rattle·setups.specs.Reading.{countsFrom, setupAt, headRight, isVersion1, noSetup, takeVersion1, readVersion1}
-use Rattle·setups.specs.Examples.{bench, zeros}
-use Rattle·setups.specs.declared.Setup.{Setup}
-use Rattle·setups.specs.declared.ReadAnswer.{ReadAnswer}
-use Rattle·setups.specs.declared.ReadAnswer.the-variants.{Done, Version2, Refused}
-use Rattle·parts.specs.List.{headerAt, stepAt, atMost, partsFrom, whole, among}
-use Rattle·rules.specs.Rules.{known, knownOrSkipped, lengthRight, sizeRight, featuresSame, every, repeated, causeIn}
-use Rattle·tally.specs.Rows.{partsOfType, rows, addsIn}
-use Rattle·sheet.specs.Text.{nameAt, numberLine, textOf}
-use Rattle·stream.specs.Stream.{captureThen, capturesIn, isWhole}
-use Rattle·stream.specs.Totals.{total, totals, figuresOf}
-use Rattle·figures·specs.specs.Sheet.{sheetAs, sheetOf}
-use Rattle·figures·specs.specs.Encoding.{encoded}
-use Rattle·figures·specs.specs.Examples.{partBytes, common, status, queueOf, notify, twice, otherFeatures, noRing, wrongLength, unknown, cut, eachType, allButFeatures, oneSkipped, captures, everyKind, everyKindSheet, bareSheet, refusedSheet}
-use Rattle·figures·specs.specs.Claims.{Sheets}
+use Rattle.theory.specs.Logic.{if◌then◌else◌, unless◌answer◌then◌, ◌and◌, ◌or◌, indicator}
+use Rattle.theory.specs.Bytes.{put, same}
+use Rattle.theory.specs.Items.{itemsFrom}
+use Rattle.theory.proofs.Tests.{same_true}
+use Rattle.wire.specs.Le.{le, bytes, number}
+use Rattle.decimal.specs.Decimal.{digits, decimal, line}
+use Rattle.inventory.specs.Inventory.{row_at, present, selectorOf, is_row, seek, place_of}
+use Rattle.inventory.specs.Inventory.{rows as inventoryRows}
+use Rattle.inventory.specs.Queue.{powerBelow, ringSize, queueAllowed, valueAllowed}
+use Rattle.setups.specs.Bits.{bit, bits_at}
+use Rattle.setups.specs.Setup.{noCounts, sixteen}
+use Rattle.setups.specs.Reading.{countsFrom, setupAt, headRight, isVersion1, noSetup, takeVersion1, readVersion1}
+use Rattle.setups.specs.Examples.{bench, zeros}
+use Rattle.setups.specs.declared.Setup.{Setup}
+use Rattle.setups.specs.declared.ReadAnswer.{ReadAnswer}
+use Rattle.setups.specs.declared.ReadAnswer.TheVariants.{Done, Version2, Refused}
+use Rattle.parts.specs.List.{header_at, stepAt, at_most, partsFrom, whole, among}
+use Rattle.rules.specs.Rules.{known, knownOrSkipped, lengthRight, sizeRight, featuresSame, every, repeated, causeIn}
+use Rattle.tally.specs.Rows.{partsOfType, rows, addsIn}
+use Rattle.sheet.specs.Text.{name_at, numberLine, text_of}
+use Rattle.stream.specs.Stream.{captureThen, capturesIn, is_whole}
+use Rattle.stream.specs.Totals.{total, totals, figuresOf}
+use Rattle.figures.specs.Sheet.{sheetAs, sheetOf}
+use Rattle.figures.specs.Encoding.{encoded}
+use Rattle.figures.specs.Examples.{partBytes, common, status, queueOf, notify, twice, otherFeatures, noRing, wrongLength, unknown, cut, eachType, allButFeatures, oneSkipped, captures, everyKind, everyKindSheet, bareSheet, refusedSheet}
+use Rattle.figures.specs.Claims.{Sheets}
 
 -- what computes where a proof says `unfolding model`
 unfoldable pub model : Unit {0}
-unfolding if_then_else_ unless_answer_then_ _and_ _or_ indicator put same itemsFrom le bytes number digits decimal line
-    inventoryRows rowAt present selectorOf isRow seek placeOf powerBelow ringSize queueAllowed valueAllowed
-    bit bitsAt noCounts sixteen countsFrom setupAt headRight isVersion1 noSetup takeVersion1 readVersion1
-    headerAt stepAt atMost partsFrom whole among known knownOrSkipped lengthRight sizeRight featuresSame every repeated causeIn
-    partsOfType rows addsIn nameAt numberLine textOf captureThen capturesIn isWhole total totals figuresOf sheetOf
+unfolding if◌then◌else◌ unless◌answer◌then◌ ◌and◌ ◌or◌ indicator put same itemsFrom le bytes number digits decimal line
+    inventoryRows row_at present selectorOf is_row seek place_of powerBelow ringSize queueAllowed valueAllowed
+    bit bits_at noCounts sixteen countsFrom setupAt headRight isVersion1 noSetup takeVersion1 readVersion1
+    header_at stepAt at_most partsFrom whole among known knownOrSkipped lengthRight sizeRight featuresSame every repeated causeIn
+    partsOfType rows addsIn name_at numberLine text_of captureThen capturesIn is_whole total totals figuresOf sheetOf
     encoded partBytes common status queueOf notify twice otherFeatures noRing wrongLength unknown cut
     eachType allButFeatures oneSkipped captures everyKind
 model = tt
@@ -51,14 +51,14 @@ every-line : same (sheetOf everyKind) everyKindSheet ≡ true
 unfolding model
 every-line = refl
 
-not-done : (a : ReadAnswer) (s : Setup) (l : List ℕ) → a ≢ Done → sheetAs a s l ≡ refusedSheet
-not-done Done s l n = absurd (n refl)
-not-done Version2 s l n = refl
-not-done Refused s l n = refl
+not_done : (a : ReadAnswer) (s : Setup) (l : List ℕ) → a ≢ Done → sheetAs a s l ≡ refusedSheet
+not_done Done s l n = absurd (n refl)
+not_done Version2 s l n = refl
+not_done Refused s l n = refl
 
 pub sheets : Sheets
 unfolding sheetOf
-sheets = record { bare = same-true _ _ bare-sheet; refused = λ l n. not-done _ _ _ n; everyLine = same-true _ _ every-line }
+sheets = record { bare = same_true _ _ bare-sheet; refused = λ l n. not_done _ _ _ n; everyLine = same_true _ _ every-line }
 
 -- ---- setups that are refused ----
 

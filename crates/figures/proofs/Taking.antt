@@ -1,34 +1,34 @@
 -- What a chunk leaves, in each phase: laws for the needs and returns of the functions. Assumes nothing.
-use mathlib.Core.Path.{_≡_, refl, ap, sym, _∙_}
-use mathlib.Core.List.{List, _++_, append-assoc}
-use Prim.Native.Nat.{ℕ, _+_, _-_, _≤_, _<_}
+use mathlib.Core.Path.{◌≡◌, refl, ap, sym, ◌∙◌}
+use mathlib.Core.List.{List, ◌++◌, append_assoc}
+use Prim.Native.Nat.{ℕ, ◌+◌, ◌-◌, ◌≤◌, ◌<◌}
 use native.Mathlib.Nat.{sub-zero}
 use native.Mathlib.Omega.{arith}
 use lib.ListN.{length, take, drop, replicate, take-append-drop}
-use lib.Seq.{take-at, drop-at, length-take-le}
-use Rattle·theory.specs.Bytes.{put}
-use Rattle·theory.proofs.Bytes.{length-put}
-use Rattle·theory.proofs.Lent.{tail-is}
-use Rattle·setups.specs.declared.Setup.{Setup}
-use Rattle·setups.specs.declared.ReadAnswer.{ReadAnswer}
-use Rattle·setups.specs.declared.ReadAnswer.the-variants.{Done, Version2, Refused}
-use Rattle·setups.specs.declared.ReadOutcome.{ReadOutcome}
-use Rattle·setups.specs.Setup.{featuresSize}
-use Rattle·setups.specs.Reading.{readNumber, readVersion1}
-use Rattle·tally.specs.Rows.{longest}
-use Rattle·sheet.specs.Text.{textOf, sheetRoom}
-use Rattle·sheet.proofs.Lines.{text-short}
-use Rattle·stream.specs.declared.Progress.{Progress}
-use Rattle·stream.specs.Progress.{Counted}
-use Rattle·stream.specs.Progress as captures
-use Rattle·stream.proofs.Feeding.{counts-fit}
-use Rattle·stream.proofs.Rest.{held-more}
-use Rattle·stream.proofs.Ends.{started-ready, from-start}
-use Rattle·figures·specs.specs.Sheet.{setupSize, refusedText, firstCount, sheetAs, sheetUnder, sheetOf}
-use Rattle·figures·specs.specs.State.{without, waiting, refused, counting, sheetIn, sheetFrom, finishedIn, finishedOf, Standing, Ready, Took, TookBehind}
-use Rattle·figures·specs.specs.declared.Phase.{Phase}
-use Rattle·figures·specs.specs.declared.Phase.the-variants as phase
-use Rattle·figures·specs.specs.declared.State.{State}
+use lib.Seq.{take_at, drop_at, length-take-le}
+use Rattle.theory.specs.Bytes.{put}
+use Rattle.theory.proofs.Bytes.{length-put}
+use Rattle.theory.proofs.Lent.{tail-is}
+use Rattle.setups.specs.declared.Setup.{Setup}
+use Rattle.setups.specs.declared.ReadAnswer.{ReadAnswer}
+use Rattle.setups.specs.declared.ReadAnswer.TheVariants.{Done, Version2, Refused}
+use Rattle.setups.specs.declared.ReadOutcome.{ReadOutcome}
+use Rattle.setups.specs.Setup.{featuresSize}
+use Rattle.setups.specs.Reading.{readNumber, readVersion1}
+use Rattle.tally.specs.Rows.{longest}
+use Rattle.sheet.specs.Text.{text_of, sheetRoom}
+use Rattle.sheet.proofs.Lines.{text-short}
+use Rattle.stream.specs.declared.Progress.{Progress}
+use Rattle.stream.specs.Progress.{Counted}
+use Rattle.stream.specs.Progress as captures
+use Rattle.stream.proofs.Feeding.{counts-fit}
+use Rattle.stream.proofs.Rest.{held_more}
+use Rattle.stream.proofs.Ends.{started-ready, from_start}
+use Rattle.figures.specs.Sheet.{setupSize, refusedText, firstCount, sheetAs, sheetUnder, sheetOf}
+use Rattle.figures.specs.State.{without, waiting, refused, counting, sheetIn, sheetFrom, finishedIn, finishedOf, Standing, Ready, Took, TookBehind}
+use Rattle.figures.specs.declared.Phase.{Phase}
+use Rattle.figures.specs.declared.Phase.TheVariants as phase
+use Rattle.figures.specs.declared.State.{State}
 
 -- ---- states ----
 
@@ -37,34 +37,34 @@ pub placed : (ph : Phase) (have : ℕ) (p : Progress) → p ≡ captures.started
 placed ph have p e = rw e
 
 pub without-ready : (ph : Phase) (have : ℕ) (b : List ℕ) → length b ≡ longest → Standing ph have captures.started b → Ready (without ph have) b
-without-ready ph have b h w = record { room = h; counted = started-ready b h .counted; standing = w }
+without-ready ph have b h w = record { room = h; counted = (started-ready b h).counted; standing = w }
 
 pub counting-ready : (q : ℕ) (features : List ℕ) (p : Progress) (b : List ℕ) → captures.Ready p b → Ready (counting q features p) b
-counting-ready q features p b w = record { room = w .room; counted = w .counted; standing = w }
+counting-ready q features p b w = record { room = w.room; counted = w.counted; standing = w }
 
 -- ---- captures ----
 
 pub captures-taken : (q : ℕ) (features : List ℕ) (p : Progress) (b chunk : List ℕ) (r : Progress) (after : List ℕ)
     → captures.Took q features p b chunk r after → Took (counting q features p) b chunk (counting q features r) after
 captures-taken q features p b chunk r after t =
-    record { ready = counting-ready q features r after (t .ready); same = λ l. ap textOf (t .same l) }
+    record { ready = counting-ready q features r after t.ready; same = λ l. ap text_of (t.same l) }
 
 -- ---- the setup has come whole ----
 
-refused-as : (a : ReadAnswer) (s : Setup) (l : List ℕ) → (readNumber a ≡ 0 → ⊥) → refusedText ≡ sheetAs a s l
-refused-as Done s l h = absurd (h refl)
-refused-as Version2 s l h = refl
-refused-as Refused s l h = refl
+refused_as : (a : ReadAnswer) (s : Setup) (l : List ℕ) → (readNumber a ≡ 0 → ⊥) → refusedText ≡ sheetAs a s l
+refused_as Done s l h = absurd (h refl)
+refused_as Version2 s l h = refl
+refused_as Refused s l h = refl
 
-taken-as : (a : ReadAnswer) (s : Setup) (l : List ℕ) → readNumber a ≡ 0 → sheetAs Done s l ≡ sheetAs a s l
-taken-as Done s l h = refl
-taken-as Version2 s l h = absurd (omega arith)
-taken-as Refused s l h = absurd (omega arith)
+taken_as : (a : ReadAnswer) (s : Setup) (l : List ℕ) → readNumber a ≡ 0 → sheetAs Done s l ≡ sheetAs a s l
+taken_as Done s l h = refl
+taken_as Version2 s l h = absurd (omega arith)
+taken_as Refused s l h = absurd (omega arith)
 
 -- x is a setup, l what follows it
 pub sheet-behind : (x l : List ℕ) → length x ≡ setupSize → sheetOf (x ++ l) ≡ sheetUnder (readVersion1 x) l
 unfolding sheetOf
-sheet-behind x l e = rw (take-at x l setupSize e, drop-at x l setupSize e)
+sheet-behind x l e = rw (take_at x l setupSize e, drop_at x l setupSize e)
 
 module _ (b rest : List ℕ) (h : length b ≡ longest) where
   setup-room : setupSize ≤ length b
@@ -73,40 +73,40 @@ module _ (b rest : List ℕ) (h : length b ≡ longest) where
   pub open-ready : (q : ℕ) (features : List ℕ) (p : Progress) → p ≡ captures.started → Ready (counting q features p) b
   open-ready q features p e = rw e (counting-ready q features captures.started b (started-ready b h))
 
-  module _ (o : ReadOutcome) (e : o ≡ readVersion1 (take setupSize b)) (n : ℕ) (f : n ≡ readNumber (o .answer)) where
+  module _ (o : ReadOutcome) (e : o ≡ readVersion1 (take setupSize b)) (n : ℕ) (f : n ≡ readNumber o.answer) where
     front : (l : List ℕ) → sheetUnder o l ≡ sheetOf (take setupSize b ++ l)
     front l = rw e (sym (sheet-behind (take setupSize b) l (length-take-le setupSize b setup-room)))
 
     pub open-refused : (r : State) → r ≡ refused → (n ≡ 0 → ⊥) → TookBehind b rest r b
     open-refused r z k = rw z (record {
       ready = without-ready phase.Refused 0 b h tt;
-      same = λ l. refused-as (o .answer) (o .setup) (rest ++ l) (λ g. k (f ∙ g)) ∙ front (rest ++ l);
+      same = λ l. refused_as o.answer o.setup (rest ++ l) (λ g. k (f ∙ g)) ∙ front (rest ++ l);
     })
 
     pub open-taken : (p : Progress) (r : State) (after : List ℕ) → p ≡ captures.started
-        → Took (counting (firstCount (o .setup)) (o .setup .features) p) b rest r after → n ≡ 0 → TookBehind b rest r after
+        → Took (counting (firstCount o.setup) o.setup.features p) b rest r after → n ≡ 0 → TookBehind b rest r after
     open-taken p r after z t k = record {
-      ready = t .ready;
+      ready = t.ready;
       same = λ l.
-          t .same l ∙ ap (λ x. sheetFrom (counting (firstCount (o .setup)) (o .setup .features) x) b (rest ++ l)) z
-          ∙ ap textOf (from-start (firstCount (o .setup)) (o .setup .features) b (rest ++ l))
-          ∙ taken-as (o .answer) (o .setup) (rest ++ l) (sym f ∙ k) ∙ front (rest ++ l);
+          t.same l ∙ ap (λ x. sheetFrom (counting (firstCount o.setup) o.setup.features x) b (rest ++ l)) z
+          ∙ ap text_of (from_start (firstCount o.setup) o.setup.features b (rest ++ l))
+          ∙ taken_as o.answer o.setup (rest ++ l) (sym f ∙ k) ∙ front (rest ++ l);
     }
 
 -- ---- the phase under way ----
 
-finished-short : (ph : Phase) (s : State) → Counted (s .progress .counts) → length (finishedIn ph s) ≤ sheetRoom
+finished-short : (ph : Phase) (s : State) → Counted s.progress.counts → length (finishedIn ph s) ≤ sheetRoom
 unfolding captures.finishedOf
 finished-short phase.Setup s w = omega arith
-finished-short phase.Captures s w = text-short (s .progress .counts) (counts-fit (s .progress .counts) w) (captures.ended (s .progress))
+finished-short phase.Captures s w = text-short s.progress.counts (counts-fit s.progress.counts w) (captures.ended s.progress)
 finished-short phase.Refused s w = omega arith
 
-module _ (s : State) (ph : Phase) (e : s .phase ≡ ph) where
+module _ (s : State) (ph : Phase) (e : s.phase ≡ ph) where
   pub sheet-is : (b l : List ℕ) → sheetFrom s b l ≡ sheetIn ph s b l
   sheet-is b l = ap (λ x. sheetIn x s b l) e
 
-  pub standing-is : (b : List ℕ) → Ready s b → Standing ph (s .have) (s .progress) b
-  standing-is b w = rw e at (w .standing)
+  pub standing-is : (b : List ℕ) → Ready s b → Standing ph s.have s.progress b
+  standing-is b w = rw e at w.standing
 
   pub finish-put : (out after : List ℕ) → after ≡ put 0 (finishedIn ph s) out → after ≡ put 0 (finishedOf s) out
   finish-put out after f = f ∙ ap (λ x. put 0 (finishedIn x s) out) (sym e)
@@ -114,78 +114,78 @@ module _ (s : State) (ph : Phase) (e : s .phase ≡ ph) where
   pub finish-length : (r : ℕ) → r ≡ length (finishedIn ph s) → r ≡ length (finishedOf s)
   finish-length r f = f ∙ ap (λ x. length (finishedIn x s)) (sym e)
 
-  pub finish-fits : (r : ℕ) → r ≡ length (finishedIn ph s) → Counted (s .progress .counts) → r ≤ sheetRoom
+  pub finish-fits : (r : ℕ) → r ≡ length (finishedIn ph s) → Counted s.progress.counts → r ≤ sheetRoom
   finish-fits r f w = rw f (finished-short ph s w)
 
 module _ (s : State) (b chunk : List ℕ) (w : Ready s b) where
-  pub captures-ready : s .phase ≡ phase.Captures → Ready (counting (s .queues) (s .features) (s .progress)) b
-  captures-ready e = counting-ready (s .queues) (s .features) (s .progress) b (standing-is s phase.Captures e b w)
+  pub captures-ready : s.phase ≡ phase.Captures → Ready (counting s.queues s.features s.progress) b
+  captures-ready e = counting-ready s.queues s.features s.progress b (standing-is s phase.Captures e b w)
 
-  pub feed-captures : (r : State) (after : List ℕ) → s .phase ≡ phase.Captures
-      → Took (counting (s .queues) (s .features) (s .progress)) b chunk r after → Took s b chunk r after
-  feed-captures r after e t = record { ready = t .ready; same = λ l. t .same l ∙ sym (sheet-is s phase.Captures e b (chunk ++ l)) }
+  pub feed-captures : (r : State) (after : List ℕ) → s.phase ≡ phase.Captures
+      → Took (counting s.queues s.features s.progress) b chunk r after → Took s b chunk r after
+  feed-captures r after e t = record { ready = t.ready; same = λ l. t.same l ∙ sym (sheet-is s phase.Captures e b (chunk ++ l)) }
 
-  pub feed-refused : s .phase ≡ phase.Refused → Took s b chunk s b
+  pub feed-refused : s.phase ≡ phase.Refused → Took s b chunk s b
   feed-refused e = record { ready = w; same = λ l. sheet-is s phase.Refused e b l ∙ sym (sheet-is s phase.Refused e b (chunk ++ l)) }
 
   -- ---- bytes of the setup ----
 
-  module _ (e : s .phase ≡ phase.Setup) where
-    have-less : s .have < setupSize
+  module _ (e : s.phase ≡ phase.Setup) where
+    have-less : s.have < setupSize
     have-less = standing-is s phase.Setup e b w
 
-    pub setup-left : s .have ≤ setupSize
+    pub setup-left : s.have ≤ setupSize
     setup-left = omega (arith, have-less)
 
-    short-room : length chunk < setupSize - s .have → s .have + length chunk ≤ length b
-    short-room k = omega (arith, w .room)
+    short-room : length chunk < setupSize - s.have → s.have + length chunk ≤ length b
+    short-room k = omega (arith, w.room)
 
-    pub setup-more : (after : List ℕ) (r : State) → after ≡ put (s .have) chunk b → r ≡ waiting (s .have + length chunk)
-        → length chunk < setupSize - s .have → Took s b chunk r after
+    pub setup-more : (after : List ℕ) (r : State) → after ≡ put s.have chunk b → r ≡ waiting (s.have + length chunk)
+        → length chunk < setupSize - s.have → Took s b chunk r after
     setup-more after r put-there z k =
-        let held = held-more (s .have) chunk b after put-there (short-room k) in
+        let held = held_more s.have chunk b after put-there (short-room k) in
         rw z (record {
-          ready = without-ready phase.Setup (s .have + length chunk) after (rw (put-there, length-put) (w .room)) (omega arith);
-          same = λ l. rw (held, append-assoc) (sym (sheet-is s phase.Setup e b (chunk ++ l)));
+          ready = without-ready phase.Setup (s.have + length chunk) after (rw (put-there, length-put) w.room) (omega arith);
+          same = λ l. rw (held, append_assoc) (sym (sheet-is s phase.Setup e b (chunk ++ l)));
         })
 
-    module _ (k : setupSize - s .have ≤ length chunk) where
+    module _ (k : setupSize - s.have ≤ length chunk) where
       -- the part of the chunk that is still of the setup
       abbrev piece : List ℕ
-      piece = take (setupSize - s .have - 0) chunk
+      piece = take (setupSize - s.have - 0) chunk
 
-      piece-is : piece ≡ take (setupSize - s .have) chunk
-      piece-is = rw sub-zero
+      piece_is : piece ≡ take (setupSize - s.have) chunk
+      piece_is = rw sub-zero
 
       -- and what follows it
       abbrev rest : List ℕ
-      rest = take (length chunk - (setupSize - s .have)) (drop (setupSize - s .have) chunk)
+      rest = take (length chunk - (setupSize - s.have)) (drop (setupSize - s.have) chunk)
 
-      rest-is : rest ≡ drop (setupSize - s .have) chunk
-      rest-is = tail-is (setupSize - s .have) chunk
+      rest-is : rest ≡ drop (setupSize - s.have) chunk
+      rest-is = tail-is (setupSize - s.have) chunk
 
       chunk-is : piece ++ rest ≡ chunk
-      chunk-is = rw (piece-is, rest-is) (take-append-drop (setupSize - s .have) chunk)
+      chunk-is = rw (piece_is, rest-is) (take-append-drop (setupSize - s.have) chunk)
 
-      piece-long : length piece ≡ setupSize - s .have
-      piece-long = rw sub-zero (length-take-le (setupSize - s .have) chunk k)
+      piece-long : length piece ≡ setupSize - s.have
+      piece-long = rw sub-zero (length-take-le (setupSize - s.have) chunk k)
 
-      pub whole-room : s .have + length piece ≤ length b
-      whole-room = omega (arith, w .room, piece-long, have-less)
+      pub whole_room : s.have + length piece ≤ length b
+      whole_room = omega (arith, w.room, piece-long, have-less)
 
-      module _ (after : List ℕ) (put-there : after ≡ put (s .have) piece b) where
-        setup-held : take setupSize after ≡ take (s .have) b ++ piece
+      module _ (after : List ℕ) (put-there : after ≡ put s.have piece b) where
+        setup-held : take setupSize after ≡ take s.have b ++ piece
         setup-held =
-            let n : s .have + length piece ≡ setupSize = omega (arith, piece-long, have-less) in
-            rw n at (held-more (s .have) piece b after put-there whole-room)
+            let n : s.have + length piece ≡ setupSize = omega (arith, piece-long, have-less) in
+            rw n at (held_more s.have piece b after put-there whole_room)
 
         pub setup-whole : (r : State) (end : List ℕ) → TookBehind after rest r end → Took s b chunk r end
         setup-whole r end t = record {
-          ready = t .ready;
-          same = λ l. t .same l ∙ ap sheetOf (joined-there l) ∙ sym (sheet-is s phase.Setup e b (chunk ++ l));
+          ready = t.ready;
+          same = λ l. t.same l ∙ ap sheetOf (joined-there l) ∙ sym (sheet-is s phase.Setup e b (chunk ++ l));
         }
           where
-            joined-there : (l : List ℕ) → take setupSize after ++ (rest ++ l) ≡ take (s .have) b ++ (chunk ++ l)
+            joined-there : (l : List ℕ) → take setupSize after ++ (rest ++ l) ≡ take s.have b ++ (chunk ++ l)
             joined-there l =
-                ap (_++ (rest ++ l)) setup-held ∙ append-assoc (take (s .have) b) piece (rest ++ l)
-                ∙ ap (take (s .have) b ++_) (sym (append-assoc piece rest l) ∙ ap (_++ l) chunk-is)
+                ap (◌++ (rest ++ l)) setup-held ∙ append_assoc (take s.have b) piece (rest ++ l)
+                ∙ ap (take s.have b ++◌) (sym (append_assoc piece rest l) ∙ ap (◌++ l) chunk-is)

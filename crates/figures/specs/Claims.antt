@@ -1,23 +1,18 @@
 -- WHAT IS CLAIMED of a stream and its sheet: 02, request 11; of the captures that it counts: Encoding.antt.
 -- ../proofs/Example.antt has chunks that meet the hypotheses. Assumes nothing.
-use mathlib.Core.Path.{_≡_}
-use mathlib.Core.Logic.{_≢_}
-use mathlib.Core.Bool.{Bool, true}
-use mathlib.Core.List.{List, [], _∷_, _++_}
-use Prim.Native.Nat.{ℕ, _+_, _-_, _*_, _<_}
-use lib.ListN.{length, getD, take, drop}
-use Rattle·theory.specs.Logic.{_and_, within}
-use Rattle·decimal.specs.Decimal.{decimal}
-use Rattle·setups.specs.declared.ReadAnswer.the-variants.{Done}
-use Rattle·setups.specs.Reading.{readVersion1}
-use Rattle·setups.specs.Examples.{bench}
-use Rattle·tally.specs.Rows.{longest}
-use Rattle·stream.specs.Stream.{Captures}
-use Rattle·stream.specs.Totals.{totals}
-use Rattle·figures·specs.specs.Sheet.{sheetOf}
-use Rattle·figures·specs.specs.State.{waiting, finishedOf, over, Ready, Took}
-use Rattle·figures·specs.specs.Examples.{everyKind, everyKindSheet, bareSheet, refusedSheet}
-use Rattle·figures·specs.specs.declared.State.{State}
+use Rattle.std.specs.Prelude.{◌≡◌, ◌≢◌, Bool, true, List, [], ◌∷◌, ◌++◌, ℕ, ◌+◌, ◌-◌, ◌*◌, ◌<◌, length, get_or, take, drop}
+use Rattle.theory.specs.Logic.{◌and◌, within}
+use Rattle.decimal.specs.Decimal.{decimal}
+use Rattle.setups.specs.declared.ReadAnswer.TheVariants.{Done}
+use Rattle.setups.specs.Reading.{readVersion1}
+use Rattle.setups.specs.Examples.{bench}
+use Rattle.tally.specs.Rows.{longest}
+use Rattle.stream.specs.Stream.{Captures}
+use Rattle.stream.specs.Totals.{totals}
+use Rattle.figures.specs.Sheet.{sheetOf}
+use Rattle.figures.specs.State.{waiting, finishedOf, over, Ready, Took}
+use Rattle.figures.specs.Examples.{everyKind, everyKindSheet, bareSheet, refusedSheet}
+use Rattle.figures.specs.declared.State.{State}
 
 -- ---- however a stream is cut into chunks, feeding them and finishing gives the sheet of the whole ----
 
@@ -54,7 +49,7 @@ sum (n ∷ ns) = n + sum ns
 -- each capture that is read is accepted or has one cause: the first number is the sum of the eight that follow it
 abbrev pub AddsUp : Type 0
 AddsUp = (queues : ℕ) (features : List ℕ) (cs : Captures)
-    → getD (totals queues features cs) 0 0 ≡ sum (take 8 (drop 1 (totals queues features cs)))
+    → get_or (totals queues features cs) 0 0 ≡ sum (take 8 (drop 1 (totals queues features cs)))
 
 -- ---- numbers are exact: the digits of each are its decimal digits, without leading zeros ----
 
@@ -70,7 +65,7 @@ valueFrom n (d ∷ ds) = valueFrom (10 * n + (d - 48)) ds
 pub record Exact (n : ℕ) : Type 0 where
   pub digits : areDigits (decimal n) ≡ true
   pub value : valueFrom 0 (decimal n) ≡ n
-  pub leading : 0 < n → 48 < getD (decimal n) 0 0
+  pub leading : 0 < n → 48 < get_or (decimal n) 0 0
 
 abbrev pub ExactNumbers : Type 0
 ExactNumbers = (n : ℕ) → Exact n
@@ -82,6 +77,6 @@ pub record Sheets : Type 0 where
   pub bare : sheetOf bench ≡ bareSheet
   -- a setup that the reader of version 1 does not take: `setup refused` alone, whatever follows. Example: version-2 in
   -- ../proofs/Sheets.antt
-  pub refused : (l : List ℕ) → readVersion1 (take 19 l) .answer ≢ Done → sheetOf l ≡ refusedSheet
+  pub refused : (l : List ℕ) → (readVersion1 (take 19 l)).answer ≢ Done → sheetOf l ≡ refusedSheet
   -- captures of each cause, long and accepted ones: no line has the number of another
   pub everyLine : sheetOf everyKind ≡ everyKindSheet

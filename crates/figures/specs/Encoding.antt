@@ -1,24 +1,19 @@
 -- WHAT IS CLAIMED of a sheet and the captures that it counts, each a plain list of bytes: 02, request 11. The numbers, names and
 -- words of 02 stand here as 02 has them, apart from the definitions that the contracts cite. ../proofs/EncodingExample.antt has
 -- streams that meet the hypotheses. Assumes nothing.
-use mathlib.Core.Path.{_≡_}
-use mathlib.Core.Bool.{Bool, true, false, not}
-use mathlib.Core.List.{List, [], _∷_, _++_}
-use Prim.Native.Nat.{ℕ, _+_, _≤_, _<_}
-use lib.Dec.{eqb, ltb}
-use lib.ListN.{length, getD}
-use Rattle·theory.specs.Logic.{if_then_else_, _and_, indicator}
-use Rattle·wire.specs.Le.{bytes, number}
-use Rattle·decimal.specs.Decimal.{decimal}
-use Rattle·setups.specs.declared.Setup.{Setup}
-use Rattle·setups.specs.Reading.{readAs, readVersion1}
-use Rattle·parts.specs.declared.ListForm.the-variants.{Parts}
-use Rattle·parts.specs.List.{partsOf}
-use Rattle·rules.specs.declared.Cause.{Cause}
-use Rattle·rules.specs.declared.Cause.the-variants.{Accepted, Cut, Unknown, Length, Size, Features, Twice}
-use Rattle·rules.specs.Rules.{causeOf}
-use Rattle·tally.specs.Rows.{causeLine, partsOfType}
-use Rattle·figures·specs.specs.Sheet.{firstCount, sheetOf}
+use Rattle.std.specs.Prelude.{◌≡◌, Bool, true, false, not, List, [], ◌∷◌, ◌++◌, ℕ, ◌+◌, ◌≤◌, ◌<◌, eqb, ltb, length, get_or}
+use Rattle.theory.specs.Logic.{if◌then◌else◌, ◌and◌, indicator}
+use Rattle.wire.specs.Le.{bytes, number}
+use Rattle.decimal.specs.Decimal.{decimal}
+use Rattle.setups.specs.declared.Setup.{Setup}
+use Rattle.setups.specs.Reading.{readAs, readVersion1}
+use Rattle.parts.specs.declared.ListForm.TheVariants.{Parts}
+use Rattle.parts.specs.List.{parts_of}
+use Rattle.rules.specs.declared.Cause.{Cause}
+use Rattle.rules.specs.declared.Cause.TheVariants.{Accepted, Cut, Unknown, Length, Size, Features, Twice}
+use Rattle.rules.specs.Rules.{causeOf}
+use Rattle.tally.specs.Rows.{causeLine, partsOfType}
+use Rattle.figures.specs.Sheet.{firstCount, sheetOf}
 
 -- ---- captures joined ----
 
@@ -29,7 +24,7 @@ encoded (c ∷ cs) = bytes 4 (length c) ++ (c ++ encoded cs)
 
 -- each length is one of four bytes
 pub record Encodable (cs : List (List ℕ)) : Type 0 where
-  pub at : (i : ℕ) → length (getD cs i []) < 4294967296
+  pub at : (i : ℕ) → length (get_or cs i []) < 4294967296
 
 -- what follows them where the stream ends, and whether it is whole then: nothing; or the stream ends inside a length, or inside a
 -- capture
@@ -45,13 +40,13 @@ pub data Ending : ℕ → List (List ℕ) → List ℕ → Bool → Type 0 where
 
 -- ---- the sixteen numbers of captures ----
 
-unfoldable pub sumOf : (List ℕ → ℕ) → List (List ℕ) → ℕ
-sumOf f [] = 0
-sumOf f (c ∷ cs) = f c + sumOf f cs
+unfoldable pub sum_of : (List ℕ → ℕ) → List (List ℕ) → ℕ
+sum_of f [] = 0
+sum_of f (c ∷ cs) = f c + sum_of f cs
 
 -- how many pass a test
-unfoldable pub countOf : (List ℕ → Bool) → List (List ℕ) → ℕ
-countOf test cs = sumOf (λ c. indicator (test c)) cs
+unfoldable pub count_of : (List ℕ → Bool) → List (List ℕ) → ℕ
+count_of test cs = sum_of (λ c. indicator (test c)) cs
 
 unfoldable pub isLong : List ℕ → Bool
 isLong c = ltb 4064 (length c)
@@ -62,26 +57,26 @@ isUnder queues features k c = not (isLong c) and eqb (causeLine (causeOf queues 
 
 -- over accepted captures
 unfoldable pub acceptedSum : ℕ → List ℕ → (List ℕ → ℕ) → List (List ℕ) → ℕ
-acceptedSum queues features f cs = sumOf (λ c. if isUnder queues features Accepted c then f c else 0) cs
+acceptedSum queues features f cs = sum_of (λ c. if isUnder queues features Accepted c then f c else 0) cs
 
 -- line by line
 unfoldable pub numbers : ℕ → List ℕ → List (List ℕ) → List ℕ
 numbers queues features cs =
     length cs
-    ∷ countOf (isUnder queues features Accepted) cs
-    ∷ countOf (isUnder queues features Cut) cs
-    ∷ countOf (isUnder queues features Unknown) cs
-    ∷ countOf (isUnder queues features Length) cs
-    ∷ countOf (isUnder queues features Size) cs
-    ∷ countOf (isUnder queues features Features) cs
-    ∷ countOf (isUnder queues features Twice) cs
-    ∷ countOf isLong cs
-    ∷ acceptedSum queues features (λ c. partsOfType queues 0x100 (partsOf Parts c)) cs
-    ∷ acceptedSum queues features (λ c. partsOfType queues 0x101 (partsOf Parts c)) cs
-    ∷ acceptedSum queues features (λ c. partsOfType queues 0x102 (partsOf Parts c)) cs
-    ∷ acceptedSum queues features (λ c. partsOfType queues 0x103 (partsOf Parts c)) cs
-    ∷ acceptedSum queues features (λ c. partsOfType queues 0x104 (partsOf Parts c)) cs
-    ∷ acceptedSum queues features (λ c. partsOfType queues 0x105 (partsOf Parts c)) cs
+    ∷ count_of (isUnder queues features Accepted) cs
+    ∷ count_of (isUnder queues features Cut) cs
+    ∷ count_of (isUnder queues features Unknown) cs
+    ∷ count_of (isUnder queues features Length) cs
+    ∷ count_of (isUnder queues features Size) cs
+    ∷ count_of (isUnder queues features Features) cs
+    ∷ count_of (isUnder queues features Twice) cs
+    ∷ count_of isLong cs
+    ∷ acceptedSum queues features (λ c. partsOfType queues 0x100 (parts_of Parts c)) cs
+    ∷ acceptedSum queues features (λ c. partsOfType queues 0x101 (parts_of Parts c)) cs
+    ∷ acceptedSum queues features (λ c. partsOfType queues 0x102 (parts_of Parts c)) cs
+    ∷ acceptedSum queues features (λ c. partsOfType queues 0x103 (parts_of Parts c)) cs
+    ∷ acceptedSum queues features (λ c. partsOfType queues 0x104 (parts_of Parts c)) cs
+    ∷ acceptedSum queues features (λ c. partsOfType queues 0x105 (parts_of Parts c)) cs
     ∷ acceptedSum queues features length cs
     ∷ []
 
@@ -109,10 +104,10 @@ names =
     ∷ []
 
 -- a name, a space, the digits of a number, a line feed
-unfoldable pub linesOf : List (List ℕ) → List ℕ → List ℕ
-linesOf [] ns = []
-linesOf (x ∷ xs) [] = []
-linesOf (x ∷ xs) (n ∷ ns) = (x ++ (32 ∷ (decimal n ++ (10 ∷ [])))) ++ linesOf xs ns
+unfoldable pub lines_of : List (List ℕ) → List ℕ → List ℕ
+lines_of [] ns = []
+lines_of (x ∷ xs) [] = []
+lines_of (x ∷ xs) (n ∷ ns) = (x ++ (32 ∷ (decimal n ++ (10 ∷ [])))) ++ lines_of xs ns
 
 -- `end whole`, `end torn`
 abbrev pub endWhole : List ℕ
@@ -153,13 +148,13 @@ pub record SheetOfCaptures : Type 0 where
   -- the sheet has the numbers of the captures before the end, and says how the stream ended
   pub sheet : (x : List ℕ) (s : Setup) (cs : List (List ℕ)) (rest : List ℕ) (ended : Bool)
       → length x ≡ 19 → readVersion1 x ≡ readAs s → Encodable cs → Ending 4294967295 cs rest ended
-      → sheetOf (x ++ (encoded cs ++ rest)) ≡ linesOf names (numbers (firstCount s) (s .features) cs) ++ lastLine ended
+      → sheetOf (x ++ (encoded cs ++ rest)) ≡ lines_of names (numbers (firstCount s) s.features cs) ++ lastLine ended
   -- there is no other stream
-  pub every : (l : List ℕ) → ((i : ℕ) → getD l i 0 < 256) → Apart 4294967295 l
+  pub every : (l : List ℕ) → ((i : ℕ) → get_or l i 0 < 256) → Apart 4294967295 l
   -- its last line is `end whole` exactly if it is whole, and else `end torn`
   pub whole : (x : List ℕ) (s : Setup) (l : List ℕ) → length x ≡ 19 → readVersion1 x ≡ readAs s
       → Whole l → EndsIn endWhole (sheetOf (x ++ l))
   pub onlyWhole : (x : List ℕ) (s : Setup) (l : List ℕ) → length x ≡ 19 → readVersion1 x ≡ readAs s
-      → ((i : ℕ) → getD l i 0 < 256) → EndsIn endWhole (sheetOf (x ++ l)) → Whole l
+      → ((i : ℕ) → get_or l i 0 < 256) → EndsIn endWhole (sheetOf (x ++ l)) → Whole l
   pub torn : (x : List ℕ) (s : Setup) (l : List ℕ) → length x ≡ 19 → readVersion1 x ≡ readAs s
-      → ((i : ℕ) → getD l i 0 < 256) → (Whole l → ⊥) → EndsIn endTorn (sheetOf (x ++ l))
+      → ((i : ℕ) → get_or l i 0 < 256) → (Whole l → ⊥) → EndsIn endTorn (sheetOf (x ++ l))

@@ -1,11 +1,9 @@
 -- WORKED EXAMPLES of a stream and its sheet: 02, request 11. The texts stand as bytes, apart from the definitions. Assumes
 -- nothing.
-use mathlib.Core.List.{List, [], _∷_, _++_}
-use Prim.Native.Nat.{ℕ}
-use lib.ListN.{length, replicate}
-use Rattle·wire.specs.Le.{bytes}
-use Rattle·setups.specs.Examples.{features}
-use Rattle·figures·specs.specs.Encoding.{encoded}
+use Rattle.std.specs.Prelude.{List, [], ◌∷◌, ◌++◌, ℕ, length, replicate}
+use Rattle.wire.specs.Le.{bytes}
+use Rattle.setups.specs.Examples.{features}
+use Rattle.figures.specs.Encoding.{encoded}
 
 -- ---- a stream with captures of every kind ----
 

@@ -1,19 +1,15 @@
 -- How far a stream is taken. Assumes nothing.
-use mathlib.Core.Path.{_≡_}
-use mathlib.Core.Bool.{Bool, true, false}
-use mathlib.Core.List.{List, _++_}
-use Prim.Native.Nat.{ℕ, _<_}
-use lib.ListN.{length, take, replicate}
-use Rattle·setups.specs.Setup.{featuresSize}
-use Rattle·tally.specs.Rows.{longest}
-use Rattle·sheet.specs.Text.{textOf}
-use Rattle·stream.specs.declared.Progress.{Progress}
-use Rattle·stream.specs.Progress.{figuresFrom, stopped, Counted}
-use Rattle·stream.specs.Progress as captures
-use Rattle·figures·specs.specs.Sheet.{setupSize, refusedText, sheetOf}
-use Rattle·figures·specs.specs.declared.Phase.{Phase}
-use Rattle·figures·specs.specs.declared.Phase.the-variants as phase
-use Rattle·figures·specs.specs.declared.State.{State}
+use Rattle.std.specs.Prelude.{◌≡◌, Bool, true, false, List, ◌++◌, ℕ, ◌<◌, length, take, replicate}
+use Rattle.setups.specs.Setup.{featuresSize}
+use Rattle.tally.specs.Rows.{longest}
+use Rattle.sheet.specs.Text.{text_of}
+use Rattle.stream.specs.declared.Progress.{Progress}
+use Rattle.stream.specs.Progress.{figuresFrom, stopped, Counted}
+use Rattle.stream.specs.Progress as captures
+use Rattle.figures.specs.Sheet.{setupSize, refusedText, sheetOf}
+use Rattle.figures.specs.declared.Phase.{Phase}
+use Rattle.figures.specs.declared.Phase.TheVariants as phase
+use Rattle.figures.specs.declared.State.{State}
 
 -- nothing is said of members yet, and no capture is taken
 abbrev pub without : Phase → ℕ → State
@@ -34,30 +30,30 @@ counting queues features p =
 
 -- the sheet of the whole stream, where as many of the buffer's bytes are held as the state has, and l follows
 abbrev pub sheetIn : Phase → State → List ℕ → List ℕ → List ℕ
-sheetIn phase.Setup s buffer l = sheetOf (take (s .have) buffer ++ l)
-sheetIn phase.Captures s buffer l = textOf (figuresFrom (s .queues) (s .features) (s .progress) buffer l)
+sheetIn phase.Setup s buffer l = sheetOf (take s.have buffer ++ l)
+sheetIn phase.Captures s buffer l = text_of (figuresFrom s.queues s.features s.progress buffer l)
 sheetIn phase.Refused s buffer l = refusedText
 
 abbrev pub sheetFrom : State → List ℕ → List ℕ → List ℕ
-sheetFrom s buffer l = sheetIn (s .phase) s buffer l
+sheetFrom s buffer l = sheetIn s.phase s buffer l
 
 -- the sheet of a stream that ends here
 abbrev pub finishedIn : Phase → State → List ℕ
 finishedIn phase.Setup s = refusedText
-finishedIn phase.Captures s = captures.finishedOf (s .progress)
+finishedIn phase.Captures s = captures.finishedOf s.progress
 finishedIn phase.Refused s = refusedText
 
 abbrev pub finishedOf : State → List ℕ
-finishedOf s = finishedIn (s .phase) s
+finishedOf s = finishedIn s.phase s
 
 -- nothing more is taken, whatever follows
 abbrev pub overIn : Phase → State → Bool
 overIn phase.Setup s = false
-overIn phase.Captures s = stopped (s .progress)
+overIn phase.Captures s = stopped s.progress
 overIn phase.Refused s = true
 
 abbrev pub over : State → Bool
-over s = overIn (s .phase) s
+over s = overIn s.phase s
 
 -- ---- what holds of every state ----
 
@@ -68,8 +64,8 @@ Standing phase.Refused have p buffer = Unit {0}
 
 pub record Ready (s : State) (buffer : List ℕ) : Type 0 where
   pub room : length buffer ≡ longest
-  pub counted : Counted (s .progress .counts)
-  pub standing : Standing (s .phase) (s .have) (s .progress) buffer
+  pub counted : Counted s.progress.counts
+  pub standing : Standing s.phase s.have s.progress buffer
 
 -- a chunk was taken: whatever follows, the sheet is that of the chunk and what follows
 pub record Took (s : State) (buffer chunk : List ℕ) (r : State) (after : List ℕ) : Type 0 where

@@ -1,15 +1,14 @@
 // The sheet of a stream, 02, request 11: a setup of version 1, then captures. The stream is taken in chunks that end
 // anywhere: the state by value, the bytes of what is under way in a lent buffer.
-ghost use mathlib.Core.Path.{_≡_};
-ghost use Prim.Native.Nat.{_≤_};
-ghost use lib.ListN.{length};
-ghost use Rattle·theory.specs.Bytes.{put};
-ghost use Rattle·tally.specs.Rows.{longest};
-ghost use Rattle·sheet.specs.Text.{sheetRoom};
-ghost use Rattle·stream.specs.Progress.{Counted};
-ghost use Rattle·figures·specs.specs.declared.Phase.the-variants.{Setup};
-ghost use Rattle·figures·specs.specs.Sheet.{refusedText};
-ghost use Rattle·figures·specs.specs.State.{waiting, refused, counting, over, finishedOf, Ready, Took, TookBehind};
+ghost use Rattle.std.specs.Prelude.{◌≡◌, ◌≤◌, length};
+ghost use Rattle.theory.specs.Bytes.{put};
+ghost use Rattle.tally.specs.Rows.{longest};
+ghost use Rattle.sheet.specs.Text.{sheetRoom};
+ghost use Rattle.stream.specs.Progress.{Counted};
+ghost use Rattle.figures.specs.declared.Phase.TheVariants.{Setup};
+ghost use Rattle.figures.specs.Sheet.{refusedText};
+ghost use Rattle.figures.specs.State.{waiting, refused, counting, over, finishedOf, Ready, Took, TookBehind};
+
 use setups::FEATURES_SIZE;
 use stream::Progress;
 
@@ -17,6 +16,7 @@ use stream::Progress;
 const SETUP_SIZE: usize = 19;
 
 // What the stream is in the middle of: its setup, or its captures. Or its setup is refused.
+#[derive(Drop)]
 pub enum Phase {
     Setup,
     Captures,
@@ -24,6 +24,7 @@ pub enum Phase {
 }
 
 // How many bytes of the setup are held; then what it says, and how far the captures are taken.
+#[derive(Drop)]
 pub struct State {
     pub phase: Phase,
     pub have: usize,
@@ -36,7 +37,7 @@ pub struct State {
 
 // So many bytes of the setup are held.
 fn await_setup(have: usize) -> State
-    ensures { λ r. ⌜ r ≡ waiting have ⌝ }
+    ensures { result ≡ waiting have }
 {
     State {
         phase: Phase::Setup,
@@ -48,7 +49,7 @@ fn await_setup(have: usize) -> State
 }
 
 fn refuse() -> State
-    ensures { λ r. ⌜ r ≡ refused ⌝ }
+    ensures { result ≡ refused }
 {
     State {
         phase: Phase::Refused,
@@ -69,8 +70,8 @@ fn take_captures(
     buffer: &mut [u8],
     chunk: &[u8],
 ) -> State
-    requires { ⌜ Ready (counting queues features p) (now buffer) ⌝ }
-    ensures { λ r. ⌜ Took (counting queues features p) (now (buffer .entry)) (now (chunk .entry)) r (now (buffer .exit)) ⌝ }
+    requires { Ready (counting queues features p) buffer.old }
+    ensures { Took (counting queues features p) buffer.old chunk.now result buffer.new }
 {
     let progress = stream::feed(p, queues, &features, buffer, chunk);
     State {
@@ -84,8 +85,8 @@ fn take_captures(
 
 // The setup has come whole, at the front of the buffer, and this follows it.
 fn open_captures(buffer: &mut [u8], rest: &[u8]) -> State
-    requires { ⌜ length (now buffer) ≡ longest ⌝ }
-    ensures { λ r. ⌜ TookBehind (now (buffer .entry)) (now (rest .entry)) r (now (buffer .exit)) ⌝ }
+    requires { length buffer.old ≡ longest }
+    ensures { TookBehind buffer.old rest.now result buffer.new }
 {
     let outcome = setups::read_version_1(&buffer[0..SETUP_SIZE]);
     let answer = outcome.answer;
@@ -100,8 +101,8 @@ fn open_captures(buffer: &mut [u8], rest: &[u8]) -> State
 
 // Bytes of the setup, and what follows it.
 fn take_setup(s: State, buffer: &mut [u8], chunk: &[u8]) -> State
-    requires { ⌜ Ready s (now buffer) × (s .phase ≡ Setup) ⌝ }
-    ensures { λ r. ⌜ Took s (now (buffer .entry)) (now (chunk .entry)) r (now (buffer .exit)) ⌝ }
+    requires { Ready s buffer.old × (s.phase ≡ Setup) }
+    ensures { Took s buffer.old chunk.now result buffer.new }
 {
     let have = s.have;
     let left = SETUP_SIZE - have;
@@ -117,15 +118,15 @@ fn take_setup(s: State, buffer: &mut [u8], chunk: &[u8]) -> State
 
 // Nothing is taken yet.
 pub fn start() -> State
-    ensures { λ r. ⌜ r ≡ waiting 0 ⌝ }
+    ensures { result ≡ waiting 0 }
 {
     await_setup(0)
 }
 
 // A chunk, wherever it ends. The buffer is the one of the chunks before it.
 pub fn feed(s: State, buffer: &mut [u8], chunk: &[u8]) -> State
-    requires { ⌜ Ready s (now buffer) ⌝ }
-    ensures { λ r. ⌜ Took s (now (buffer .entry)) (now (chunk .entry)) r (now (buffer .exit)) ⌝ }
+    requires { Ready s buffer.old }
+    ensures { Took s buffer.old chunk.now result buffer.new }
 {
     let phase = s.phase;
     match phase {
@@ -142,7 +143,7 @@ pub fn feed(s: State, buffer: &mut [u8], chunk: &[u8]) -> State
 
 // Whether nothing more is taken, whatever follows.
 pub fn is_over(s: State) -> bool
-    ensures { λ r. ⌜ r ≡ over s ⌝ }
+    ensures { result ≡ over s }
 {
     let phase = s.phase;
     let progress = s.progress;
@@ -155,8 +156,8 @@ pub fn is_over(s: State) -> bool
 
 // That the setup is refused, from the start of the buffer. Answers how long that is.
 fn write_refused(out: &mut [u8]) -> usize
-    requires { ⌜ sheetRoom ≤ length (now out) ⌝ }
-    ensures { λ r. ⌜ (now (out .exit) ≡ put 0 refusedText (now (out .entry))) × (r ≡ length refusedText) ⌝ }
+    requires { sheetRoom ≤ length out.old }
+    ensures { (out.new ≡ put 0 refusedText out.old) × (result ≡ length refusedText) }
 {
     wire::copy(out, 0, b"setup refused\n");
     14
@@ -164,8 +165,8 @@ fn write_refused(out: &mut [u8]) -> usize
 
 // The stream has ended: its sheet, from the start of the buffer. Answers how long it is.
 pub fn finish(s: State, out: &mut [u8]) -> usize
-    requires { ⌜ Counted (s .progress .counts) × (sheetRoom ≤ length (now out)) ⌝ }
-    ensures { λ r. ⌜ (now (out .exit) ≡ put 0 (finishedOf s) (now (out .entry))) × (r ≡ length (finishedOf s)) × (r ≤ sheetRoom) ⌝ }
+    requires { Counted s.progress.counts × (sheetRoom ≤ length out.old) }
+    ensures { (out.new ≡ put 0 (finishedOf s) out.old) × (result ≡ length (finishedOf s)) × (result ≤ sheetRoom) }
 {
     let phase = s.phase;
     let progress = s.progress;

@@ -1,25 +1,25 @@
 -- What is known of a request by what it asks: whom it names, and that its fields are in range. Isolation and soundness
 -- start from here. Assumes nothing.
-use mathlib.Core.Path.{_≡_, refl}
+use mathlib.Core.Path.{◌≡◌, refl}
 use mathlib.Core.Bool.{Bool, true, false, not}
 use mathlib.Core.List.{List}
-use Prim.Native.Nat.{ℕ, _≤_, _<_}
+use Prim.Native.Nat.{ℕ, ◌≤◌, ◌<◌}
 use borrow.Author.Tests.{ltb-true, eqb-true, eqb-false, not-true}
 use lib.Dec.{eqb, lit<}
 use lib.ListN.{length}
-use Rattle·theory.specs.Logic.{if_then_else_, unless_answer_then_, within}
-use Rattle·theory.proofs.Tests.{if-cases, unless-cases, both, either, below, within-low, within-high, tests}
-use Rattle·protocol.specs.declared.Answer.{Answer}
-use Rattle·protocol.specs.declared.ReadOp.{ReadOp}
-use Rattle·protocol.specs.declared.ReadOp.the-variants.{QueryObject, GetMetadata, GetSelected, GetAll}
-use Rattle·protocol.specs.Opcodes.{supported, supportedOnly, namesMember}
-use Rattle·protocol.proofs.Operations.{IdBelow}
-use Rattle·frame·proofs.proofs.Steps.{names-one}
-use Rattle·frame·specs.specs.declared.Ask.{Ask}
-use Rattle·frame·specs.specs.declared.Ask.the-variants.{Refused, QueryList, UseList, Read, Change}
-use Rattle·frame·specs.specs.Frame.{dataAt, longest, opcodeOf, groupOf, targetOf, dataOf}
-use Rattle·frame·specs.specs.Fields.{idOf, objectValid, kindValid, createIn, modifyIn, queryIn, destroyIn, metadataIn, getIn, setIn, modeIn, useIn, fieldsOf}
-use Rattle·frame·specs.specs.Ask.{usable, reaches, attended, framedOf, askOf}
+use Rattle.theory.specs.Logic.{if◌then◌else◌, unless◌answer◌then◌, within}
+use Rattle.theory.proofs.Tests.{if-cases, unless-cases, both, either, below, within_low, within-high, tests}
+use Rattle.protocol.specs.declared.Answer.{Answer}
+use Rattle.protocol.specs.declared.ReadOp.{ReadOp}
+use Rattle.protocol.specs.declared.ReadOp.TheVariants.{QueryObject, GetMetadata, GetSelected, GetAll}
+use Rattle.protocol.specs.Opcodes.{supported, supportedOnly, namesMember}
+use Rattle.protocol.proofs.Operations.{IdBelow}
+use Rattle.frame.proofs.Steps.{names-one}
+use Rattle.frame.specs.declared.Ask.{Ask}
+use Rattle.frame.specs.declared.Ask.TheVariants.{Refused, QueryList, UseList, Read, Change}
+use Rattle.frame.specs.Frame.{dataAt, longest, opcode_of, group_of, target_of, data_of}
+use Rattle.frame.specs.Fields.{id_of, objectValid, kindValid, createIn, modifyIn, queryIn, destroyIn, metadataIn, getIn, setIn, modeIn, useIn, fields_of}
+use Rattle.frame.specs.Ask.{usable, reaches, attended, framedOf, askOf}
 
 -- the object id in an operation is below ids
 abbrev pub ReadBelow : ℕ → ReadOp → Type 0
@@ -32,9 +32,9 @@ ReadBelow ids (GetAll id) = id < ids
 pub record Named (members : ℕ) (marked : Bool) (r : List ℕ) (m : ℕ) : Type 0 where
   pub long : dataAt ≤ length r
   pub short : length r ≤ longest
-  pub group : groupOf r ≡ 1
-  pub opcode : namesMember (opcodeOf r) ≡ true
-  pub target : targetOf r ≡ m
+  pub group : group_of r ≡ 1
+  pub opcode : namesMember (opcode_of r) ≡ true
+  pub target : target_of r ≡ m
   pub low : 1 ≤ m
   pub high : m ≤ members
   pub unmarked : marked ≡ false
@@ -42,19 +42,19 @@ pub record Named (members : ℕ) (marked : Bool) (r : List ℕ) (m : ℕ) : Type
 -- what each thing that is asked says of the request
 abbrev pub Facts : ℕ → ℕ → Bool → List ℕ → Ask → Type 0
 Facts members ids marked r (Refused a) = Unit {0}
-Facts members ids marked r QueryList = namesMember (opcodeOf r) ≡ false
-Facts members ids marked r (UseList mask) = (namesMember (opcodeOf r) ≡ false) × (supportedOnly mask ≡ true)
+Facts members ids marked r QueryList = namesMember (opcode_of r) ≡ false
+Facts members ids marked r (UseList mask) = (namesMember (opcode_of r) ≡ false) × (supportedOnly mask ≡ true)
 Facts members ids marked r (Read m op) = Named members marked r m × ReadBelow ids op
 Facts members ids marked r (Change m op) = Named members marked r m × IdBelow ids op
 
 -- the id in an object header that passes
-id-below : (ids : ℕ) (d : List ℕ) → objectValid ids d ≡ true → idOf d < ids
+id_below : (ids : ℕ) (d : List ℕ) → objectValid ids d ≡ true → id_of d < ids
 unfolding objectValid
-id-below ids d e = ltb-true _ _ (both _ _ e .1)
+id_below ids d e = ltb-true _ _ (both _ _ e).1
 
-kind-below : (ids : ℕ) (d : List ℕ) → kindValid ids d ≡ true → idOf d < ids
+kind-below : (ids : ℕ) (d : List ℕ) → kindValid ids d ≡ true → id_of d < ids
 unfolding kindValid
-kind-below ids d e = id-below ids d (both _ _ (both _ _ e .0) .0)
+kind-below ids d e = id_below ids d (both _ _ (both _ _ e).0).0
 
 -- the two commands on the list
 names-none : (op k : ℕ) → eqb op k ≡ true → k < 0x0a → namesMember op ≡ false
@@ -70,46 +70,46 @@ module _ (members ids : ℕ) (marked : Bool) (r : List ℕ) where
   branch t x y f g = if-cases (Facts members ids marked r) t x y (λ e. f) (λ e. g)
 
   -- step 7
-  fields-told : (m op : ℕ) (d : List ℕ) → op ≡ opcodeOf r → supported op ≡ true
-      → (namesMember op ≡ true → Named members marked r m) → Facts members ids marked r (fieldsOf ids m op d)
-  unfolding fieldsOf createIn modifyIn queryIn destroyIn metadataIn getIn setIn modeIn useIn
-  fields-told m op d o s f =
+  fields_told : (m op : ℕ) (d : List ℕ) → op ≡ opcode_of r → supported op ≡ true
+      → (namesMember op ≡ true → Named members marked r m) → Facts members ids marked r (fields_of ids m op d)
+  unfolding fields_of createIn modifyIn queryIn destroyIn metadataIn getIn setIn modeIn useIn
+  fields_told m op d o s f =
       if-cases (Facts members ids marked r) _ _ _ (λ e. rw o at (names-none op 0 e (lit< tt)))
       (λ n0. if-cases (Facts members ids marked r) _ _ _
       (λ e. guarded _ _ _ (λ t. (rw o at (names-none op 1 e (lit< tt)), t)))
       (λ n1. let n = f (names-one op s (eqb-false _ _ n0) (eqb-false _ _ n1)) in
       branch _ _ _ (guarded _ _ _ (λ e. (n, kind-below ids d e)))
       (branch _ _ _ (guarded _ _ _ (λ e. (n, kind-below ids d e)))
-      (branch _ _ _ (guarded _ _ _ (λ e. (n, id-below ids d (both _ _ e .0))))
-      (branch _ _ _ (guarded _ _ _ (λ e. (n, id-below ids d e)))
-      (branch _ _ _ (guarded _ _ _ (λ e. (n, id-below ids d (both _ _ e .0))))
-      (branch _ _ _ (guarded _ _ _ (λ e. let b = id-below ids d e in branch _ _ _ (n, b) (guarded _ _ _ (λ _. (n, b)))))
-      (branch _ _ _ (guarded _ _ _ (λ e. (n, id-below ids d e)))
+      (branch _ _ _ (guarded _ _ _ (λ e. (n, id_below ids d (both _ _ e).0)))
+      (branch _ _ _ (guarded _ _ _ (λ e. (n, id_below ids d e)))
+      (branch _ _ _ (guarded _ _ _ (λ e. (n, id_below ids d (both _ _ e).0)))
+      (branch _ _ _ (guarded _ _ _ (λ e. let b = id_below ids d e in branch _ _ _ (n, b) (guarded _ _ _ (λ _. (n, b)))))
+      (branch _ _ _ (guarded _ _ _ (λ e. (n, id_below ids d e)))
       (guarded _ _ _ (λ e. (n, tt)))))))))))
 
-  named : within dataAt longest (length r) ≡ true → eqb (groupOf r) 1 ≡ true → reaches members (opcodeOf r) (targetOf r) ≡ true
-      → attended marked (opcodeOf r) ≡ true → namesMember (opcodeOf r) ≡ true → Named members marked r (targetOf r)
+  named : within dataAt longest (length r) ≡ true → eqb (group_of r) 1 ≡ true → reaches members (opcode_of r) (target_of r) ≡ true
+      → attended marked (opcode_of r) ≡ true → namesMember (opcode_of r) ≡ true → Named members marked r (target_of r)
   unfolding reaches attended
   named l g t a n =
-      let w : within 1 members (targetOf r) ≡ true = either (not (namesMember (opcodeOf r))) _ t (λ e. cc) (λ e. e) in
+      let w : within 1 members (target_of r) ≡ true = either (not (namesMember (opcode_of r))) _ t (λ e. cc) (λ e. e) in
       record {
-        long = within-low _ _ _ l;
+        long = within_low _ _ _ l;
         short = within-high _ _ _ l;
         group = eqb-true _ _ g;
         opcode = n;
         target = refl;
-        low = within-low _ _ _ w;
+        low = within_low _ _ _ w;
         high = within-high _ _ _ w;
         unmarked = either (not marked) _ a (λ e. not-true marked e) (λ e. cc);
       }
 
   -- the tests of steps 2 to 5 passed
-  passed : (inUse : ℕ) → within dataAt longest (length r) ≡ true → eqb (groupOf r) 1 ≡ true → usable inUse (opcodeOf r) ≡ true
-      → reaches members (opcodeOf r) (targetOf r) ≡ true → attended marked (opcodeOf r) ≡ true
-      → Facts members ids marked r (fieldsOf ids (targetOf r) (opcodeOf r) (dataOf r))
+  passed : (inUse : ℕ) → within dataAt longest (length r) ≡ true → eqb (group_of r) 1 ≡ true → usable inUse (opcode_of r) ≡ true
+      → reaches members (opcode_of r) (target_of r) ≡ true → attended marked (opcode_of r) ≡ true
+      → Facts members ids marked r (fields_of ids (target_of r) (opcode_of r) (data_of r))
   unfolding usable
   passed inUse l g u t a =
-      fields-told (targetOf r) (opcodeOf r) (dataOf r) refl (both _ _ u .0) (named l g t a)
+      fields_told (target_of r) (opcode_of r) (data_of r) refl (both _ _ u).0 (named l g t a)
 
   facts : (inUse : ℕ) → Facts members ids marked r (askOf members ids inUse marked r)
   unfolding askOf framedOf

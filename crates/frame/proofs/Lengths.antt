@@ -1,62 +1,62 @@
 -- Data of any length: bytes past the fixed fields are ignored where no list follows, and missing ones read as zero, which is
 -- how the code reads short data. Assumes nothing.
-use mathlib.Core.Path.{_≡_, refl, ap, sym, _∙_}
+use mathlib.Core.Path.{◌≡◌, refl, ap, sym, ◌∙◌}
 use mathlib.Core.Bool.{Bool, true, false}
-use mathlib.Core.List.{List, [], _∷_, _++_}
-use Prim.Native.Nat.{ℕ, zero, suc, _+_, _-_, _≤_, _<_}
+use mathlib.Core.List.{List, [], ◌∷◌, ◌++◌}
+use Prim.Native.Nat.{ℕ, zero, suc, ◌+◌, ◌-◌, ◌≤◌, ◌<◌}
 use native.Mathlib.Nat.{sub-zero}
 use native.Mathlib.Omega.{arith}
 use borrow.Author.Tests.{eqb-true, eqb-false, le-leb}
 use lib.Dec.{leb, eqb}
-use lib.ListN.{length, getD, take, drop, replicate, length-append, length-replicate, List·getD-append}
+use lib.ListN.{length, get_or, take, drop, replicate, length-append, length-replicate, get_or-append}
 use lib.Seq.{drop-append-le}
-use Rattle·theory.specs.Logic.{if_then_else_, unless_answer_then_, _and_}
-use Rattle·theory.specs.Bytes.{put}
-use Rattle·theory.proofs.Tests.{by-cases, inside, tests}
-use Rattle·theory.proofs.Bytes.{put-nil, length-bytesAt}
-use Rattle·theory.proofs.Lists.{getD-same, take-replicate}
-use Rattle·wire.proofs.Le.{le-alike, number-alike}
-use Rattle·wire.specs.Le.{le, number}
-use Rattle·protocol.specs.Opcodes.{opcodeRows, opcodeRow, supported, fixedSize, longestFixed}
-use Rattle·protocol.proofs.Rows.{fixed-is, fixed-longest, data-long}
-use Rattle·frame·specs.specs.declared.Ask.{Ask}
-use Rattle·frame·specs.specs.Frame.{groupAt, memberAt, dataAt, longest, opcodeOf, groupOf, targetOf, dataOf, idAt, objectSize, flagsAt, kindAt, typeAt, headersAt}
-use Rattle·frame·specs.specs.Fields.{idOf, objectValid, flagsValid, kindValid, createIn, modifyIn, queryIn, destroyIn, metadataIn, getIn, setIn, modeIn, useIn, fieldsOf}
-use Rattle·frame·specs.specs.Ask.{usable, framedOf, askOf}
-use Rattle·frame·proofs.proofs.Steps.{last-long}
+use Rattle.theory.specs.Logic.{if◌then◌else◌, unless◌answer◌then◌, ◌and◌}
+use Rattle.theory.specs.Bytes.{put}
+use Rattle.theory.proofs.Tests.{by_cases, inside, tests}
+use Rattle.theory.proofs.Bytes.{put-nil, length-bytesAt}
+use Rattle.theory.proofs.Lists.{getD-same, take-replicate}
+use Rattle.wire.proofs.Le.{le-alike, number-alike}
+use Rattle.wire.specs.Le.{le, number}
+use Rattle.protocol.specs.Opcodes.{opcodeRows, opcodeRow, supported, fixedSize, longestFixed}
+use Rattle.protocol.proofs.Rows.{fixed-is, fixed-longest, data-long}
+use Rattle.frame.specs.declared.Ask.{Ask}
+use Rattle.frame.specs.Frame.{groupAt, memberAt, dataAt, longest, opcode_of, group_of, target_of, data_of, id_at, objectSize, flagsAt, kind_at, type_at, headersAt}
+use Rattle.frame.specs.Fields.{id_of, objectValid, flagsValid, kindValid, createIn, modifyIn, queryIn, destroyIn, metadataIn, getIn, setIn, modeIn, useIn, fields_of}
+use Rattle.frame.specs.Ask.{usable, framedOf, askOf}
+use Rattle.frame.proofs.Steps.{last-long}
 
 -- ---- data that reads alike in its first k bytes asks the same ----
 
-choice : (t : Bool) (x x′ y y′ : Ask) → (t ≡ true → x ≡ x′) → (t ≡ false → y ≡ y′) → (if t then x else y) ≡ (if t then x′ else y′)
-unfolding if_then_else_
-choice true x x′ y y′ f g = f refl
-choice false x x′ y y′ f g = g refl
+choice : (t : Bool) (x x' y y' : Ask) → (t ≡ true → x ≡ x') → (t ≡ false → y ≡ y') → (if t then x else y) ≡ (if t then x' else y')
+unfolding if◌then◌else◌
+choice true x x' y y' f g = f refl
+choice false x x' y y' f g = g refl
 
-module _ (k : ℕ) (a d : List ℕ) (f : (i : ℕ) → i < k → getD a i 0 ≡ getD d i 0) (ids m : ℕ) where
-  id-alike : objectSize ≤ k → idOf a ≡ idOf d
-  id-alike h = number-alike k a d f 4 idAt h
+module _ (k : ℕ) (a d : List ℕ) (f : (i : ℕ) → i < k → get_or a i 0 ≡ get_or d i 0) (ids m : ℕ) where
+  id-alike : objectSize ≤ k → id_of a ≡ id_of d
+  id-alike h = number-alike k a d f 4 id_at h
 
   object-alike : objectSize ≤ k → objectValid ids a ≡ objectValid ids d
   unfolding objectValid
   object-alike h = rw (number-alike k a d f 2 0 (omega arith), id-alike h)
 
-  flags-alike : kindAt ≤ k → flagsValid a ≡ flagsValid d
+  flags-alike : kind_at ≤ k → flagsValid a ≡ flagsValid d
   unfolding flagsValid
   flags-alike h = rw (number-alike k a d f 8 flagsAt h)
 
-  kind-alike : kindAt < k → kindValid ids a ≡ kindValid ids d
+  kind-alike : kind_at < k → kindValid ids a ≡ kindValid ids d
   unfolding kindValid
-  kind-alike h = rw (object-alike (omega arith), flags-alike (omega arith), f kindAt h)
+  kind-alike h = rw (object-alike (omega arith), flags-alike (omega arith), f kind_at h)
 
-  create-alike : kindAt < k → createIn ids m a ≡ createIn ids m d
+  create-alike : kind_at < k → createIn ids m a ≡ createIn ids m d
   unfolding createIn
-  create-alike h = rw (kind-alike h, id-alike (omega arith), f kindAt h)
+  create-alike h = rw (kind-alike h, id-alike (omega arith), f kind_at h)
 
-  modify-alike : kindAt < k → modifyIn ids m a ≡ modifyIn ids m d
+  modify-alike : kind_at < k → modifyIn ids m a ≡ modifyIn ids m d
   unfolding modifyIn
-  modify-alike h = rw (kind-alike h, id-alike (omega arith), f kindAt h)
+  modify-alike h = rw (kind-alike h, id-alike (omega arith), f kind_at h)
 
-  query-alike : kindAt ≤ k → queryIn ids m a ≡ queryIn ids m d
+  query-alike : kind_at ≤ k → queryIn ids m a ≡ queryIn ids m d
   unfolding queryIn
   query-alike h = rw (object-alike (omega arith), flags-alike h, id-alike (omega arith))
 
@@ -66,11 +66,11 @@ module _ (k : ℕ) (a d : List ℕ) (f : (i : ℕ) → i < k → getD a i 0 ≡ 
 
   metadata-alike : headersAt ≤ k → metadataIn ids m a ≡ metadataIn ids m d
   unfolding metadataIn
-  metadata-alike h = rw (object-alike (omega arith), id-alike (omega arith), f typeAt (omega arith))
+  metadata-alike h = rw (object-alike (omega arith), id-alike (omega arith), f type_at (omega arith))
 
-  get-alike : headersAt ≤ k → leb (length a) headersAt ≡ leb (length d) headersAt → getIn ids m a ≡ getIn ids m d
+  get_alike : headersAt ≤ k → leb (length a) headersAt ≡ leb (length d) headersAt → getIn ids m a ≡ getIn ids m d
   unfolding getIn
-  get-alike h l = rw (object-alike (omega arith), id-alike (omega arith), f typeAt (omega arith), l)
+  get_alike h l = rw (object-alike (omega arith), id-alike (omega arith), f type_at (omega arith), l)
 
   set-alike : objectSize ≤ k → setIn ids m a ≡ setIn ids m d
   unfolding setIn
@@ -86,18 +86,18 @@ module _ (k : ℕ) (a d : List ℕ) (f : (i : ℕ) → i < k → getD a i 0 ≡ 
 
   -- these bytes hold the fixed fields; list use reads all bytes, and parts get asks whether any follow
   fields-alike : (op : ℕ) → supported op ≡ true → fixedSize op ≤ k → (op ≡ 0x01 → le a ≡ le d)
-      → (op ≡ 0x0f → leb (length a) headersAt ≡ leb (length d) headersAt) → fieldsOf ids m op a ≡ fieldsOf ids m op d
-  unfolding fieldsOf opcodeRows
+      → (op ≡ 0x0f → leb (length a) headersAt ≡ leb (length d) headersAt) → fields_of ids m op a ≡ fields_of ids m op d
+  unfolding fields_of opcodeRows
   fields-alike op s h u l =
       choice (eqb op 0x00) _ _ _ _ (λ e. refl) (λ n0.
       choice (eqb op 0x01) _ _ _ _ (λ e. use-alike (u (eqb-true op 0x01 e))) (λ n1.
       choice (eqb op 0x0a) _ _ _ _ (λ e. create-alike (data-long op 0x0a k 17 h (eqb-true op 0x0a e) tt)) (λ na.
       choice (eqb op 0x0b) _ _ _ _ (λ e. modify-alike (data-long op 0x0b k 17 h (eqb-true op 0x0b e) tt)) (λ nb.
-      choice (eqb op 0x0c) _ _ _ _ (λ e. query-alike (data-long op 0x0c k kindAt h (eqb-true op 0x0c e) tt)) (λ nc.
+      choice (eqb op 0x0c) _ _ _ _ (λ e. query-alike (data-long op 0x0c k kind_at h (eqb-true op 0x0c e) tt)) (λ nc.
       choice (eqb op 0x0d) _ _ _ _ (λ e. destroy-alike (data-long op 0x0d k objectSize h (eqb-true op 0x0d e) tt)) (λ nd.
       choice (eqb op 0x0e) _ _ _ _ (λ e. metadata-alike (data-long op 0x0e k headersAt h (eqb-true op 0x0e e) tt)) (λ ne.
       choice (eqb op 0x0f) _ _ _ _
-      (λ e. let o = eqb-true op 0x0f e in get-alike (data-long op 0x0f k headersAt h o tt) (l o)) (λ nf.
+      (λ e. let o = eqb-true op 0x0f e in get_alike (data-long op 0x0f k headersAt h o tt) (l o)) (λ nf.
       choice (eqb op 0x10) _ _ _ _ (λ e. set-alike (data-long op 0x10 k objectSize h (eqb-true op 0x10 e) tt)) (λ ng.
       mode-alike
       (last-long op s (eqb-false op 0x00 n0) (eqb-false op 0x01 n1) (eqb-false op 0x0a na) (eqb-false op 0x0b nb)
@@ -107,21 +107,21 @@ module _ (k : ℕ) (a d : List ℕ) (f : (i : ℕ) → i < k → getD a i 0 ≡ 
 -- ---- bytes more at the end of data ----
 
 -- what follows the fixed fields is ignored where no list does: SPEC 13.2
-pub rest-ignored : (ids m op : ℕ) (d x : List ℕ) → supported op ≡ true → opcodeRow op .listed ≡ false → fixedSize op ≤ length d
-    → fieldsOf ids m op (d ++ x) ≡ fieldsOf ids m op d
+pub rest-ignored : (ids m op : ℕ) (d x : List ℕ) → supported op ≡ true → (opcodeRow op).listed ≡ false → fixedSize op ≤ length d
+    → fields_of ids m op (d ++ x) ≡ fields_of ids m op d
 unfolding opcodeRow opcodeRows
 rest-ignored ids m op d x s o h =
-    fields-alike (fixedSize op) (d ++ x) d (λ i l. List·getD-append d x 0 i (omega arith)) ids m op s (omega arith)
+    fields-alike (fixedSize op) (d ++ x) d (λ i l. get_or-append d x 0 i (omega arith)) ids m op s (omega arith)
     (λ e. let z = rw e at o in cc) (λ e. let z = rw e at o in cc)
 
-zeros-read : (d : List ℕ) (n i : ℕ) → getD (d ++ replicate n 0) i 0 ≡ getD d i 0
+zeros-read : (d : List ℕ) (n i : ℕ) → get_or (d ++ replicate n 0) i 0 ≡ get_or d i 0
 zeros-read [] n i = getD-same n i 0
 zeros-read (b ∷ d) n zero = refl
 zeros-read (b ∷ d) n (suc i) = zeros-read d n i
 
 -- each byte that is missing of the fixed fields reads as zero: SPEC 13.2
 pub missing-zero : (ids m op n : ℕ) (d : List ℕ) → supported op ≡ true → length d + n ≤ fixedSize op
-    → fieldsOf ids m op (d ++ replicate n 0) ≡ fieldsOf ids m op d
+    → fields_of ids m op (d ++ replicate n 0) ≡ fields_of ids m op d
 unfolding opcodeRows
 missing-zero ids m op n d s h =
     fields-alike (fixedSize op) (d ++ replicate n 0) d (λ i l. zeros-read d n i) ids m op s (omega arith)
@@ -133,32 +133,32 @@ missing-zero ids m op n d s h =
 
 -- ---- bytes more at the end of a request ----
 
-framed-alike : (members ids inUse : ℕ) (marked : Bool) (group op m : ℕ) (a d : List ℕ)
-    → (supported op ≡ true → fieldsOf ids m op a ≡ fieldsOf ids m op d)
+framed_alike : (members ids inUse : ℕ) (marked : Bool) (group op m : ℕ) (a d : List ℕ)
+    → (supported op ≡ true → fields_of ids m op a ≡ fields_of ids m op d)
     → framedOf members ids inUse marked group op m a ≡ framedOf members ids inUse marked group op m d
-unfolding framedOf usable _and_ unless_answer_then_
-framed-alike members ids inUse marked group op m a d f = by-cases (supported op) (λ e. rw (f e)) (λ e. rw e)
+unfolding framedOf usable ◌and◌ unless◌answer◌then◌
+framed_alike members ids inUse marked group op m a d f = by_cases (supported op) (λ e. rw (f e)) (λ e. rw e)
 
 module _ (r x : List ℕ) (long : dataAt ≤ length r) where
-  pub number-more : (n at : ℕ) → at + n ≤ dataAt → number at n (r ++ x) ≡ number at n r
-  number-more n at h = number-alike dataAt (r ++ x) r (λ i l. List·getD-append r x 0 i (omega arith)) n at h
+  pub number_more : (n at : ℕ) → at + n ≤ dataAt → number at n (r ++ x) ≡ number at n r
+  number_more n at h = number-alike dataAt (r ++ x) r (λ i l. get_or-append r x 0 i (omega arith)) n at h
 
   pub ask-more : (members ids inUse : ℕ) (marked : Bool) → length (r ++ x) ≤ longest
-      → (supported (opcodeOf r) ≡ true
-      → fieldsOf ids (targetOf r) (opcodeOf r) (dataOf r ++ x) ≡ fieldsOf ids (targetOf r) (opcodeOf r) (dataOf r))
+      → (supported (opcode_of r) ≡ true
+      → fields_of ids (target_of r) (opcode_of r) (data_of r ++ x) ≡ fields_of ids (target_of r) (opcode_of r) (data_of r))
       → askOf members ids inUse marked (r ++ x) ≡ askOf members ids inUse marked r
-  unfolding askOf unless_answer_then_
+  unfolding askOf unless◌answer◌then◌
   ask-more members ids inUse marked h f =
       let l = length-append r x in
       rw (
         inside dataAt longest (length (r ++ x)) (omega arith) h,
         inside dataAt longest (length r) long (omega arith),
-        number-more 2 0 (omega arith),
-        number-more 2 groupAt (omega arith),
-        number-more 8 memberAt (omega arith),
+        number_more 2 0 (omega arith),
+        number_more 2 groupAt (omega arith),
+        number_more 8 memberAt (omega arith),
         drop-append-le dataAt r x long,
       )
-      (framed-alike members ids inUse marked (groupOf r) (opcodeOf r) (targetOf r) (dataOf r ++ x) (dataOf r) f)
+      (framed_alike members ids inUse marked (group_of r) (opcode_of r) (target_of r) (data_of r ++ x) (data_of r) f)
 
 -- ---- what the code reads ----
 
@@ -170,7 +170,7 @@ padded-cut (b ∷ d) zero k h l = absurd (omega arith)
 padded-cut (b ∷ d) (suc n) zero h l = absurd (omega arith)
 padded-cut (b ∷ d) (suc n) (suc k) h l =
     let e : suc n - suc (length d) ≡ n - length d = omega arith in
-    rw e (ap (b ∷_) (padded-cut d n k (omega arith) (omega arith)))
+    rw e (ap (b ∷◌) (padded-cut d n k (omega arith) (omega arith)))
 
 -- the padded data is long enough to be cut to the fixed fields
 pub fixed-inside : (op n k : ℕ) → n ≡ fixedSize op → k ≡ longestFixed → n ≤ k
@@ -179,21 +179,21 @@ fixed-inside op n k e l = omega (arith, fixed-longest op)
 -- n bytes of the padded data where the data is short, else the data
 module _ (op n : ℕ) (d padded whole : List ℕ) (e : n ≡ fixedSize op)
     (q : whole ≡ (if leb n (length d) then d else take (n - 0) (drop 0 padded))) where
-  pub whole-long : length padded ≡ longestFixed → fixedSize op ≤ length whole
-  unfolding if_then_else_
-  whole-long l =
+  pub whole_long : length padded ≡ longestFixed → fixedSize op ≤ length whole
+  unfolding if◌then◌else◌
+  whole_long l =
       let most = fixed-longest op in
-      by-cases (leb n (length d))
+      by_cases (leb n (length d))
       (λ t. rw (q, t) (omega tests))
       (λ t. rw (q, t, sub-zero, length-bytesAt 0 n padded (omega arith)) (omega arith))
 
   pub whole-read : (ids m : ℕ) (x : Ask)
       → padded ≡ (if leb n (length d) then replicate longestFixed 0 else put 0 d (replicate longestFixed 0))
-      → x ≡ fieldsOf ids m op whole → supported op ≡ true → x ≡ fieldsOf ids m op d
-  unfolding if_then_else_
+      → x ≡ fields_of ids m op whole → supported op ≡ true → x ≡ fields_of ids m op d
+  unfolding if◌then◌else◌
   whole-read ids m x w r s =
       let most = fixed-longest op in
-      by-cases (leb n (length d))
+      by_cases (leb n (length d))
       (λ t. r ∙ rw (q, t))
       (λ t. r ∙ rw (q, w, t, sub-zero, padded-cut d n longestFixed (omega tests) (omega arith))
       (missing-zero ids m op (n - length d) d s (omega tests)))

@@ -1,29 +1,29 @@
 -- What the returns of the code need, beside the laws of the ladder. Assumes nothing.
-use mathlib.Core.Path.{_≡_, refl, sym, _∙_}
+use mathlib.Core.Path.{◌≡◌, refl, sym, ◌∙◌}
 use mathlib.Core.Bool.{Bool, true, false, not}
 use mathlib.Core.List.{List}
-use Prim.Native.Nat.{ℕ, zero, suc, _+_, _*_, _-_, _^_, _≤_}
-use native.Mathlib.Nat.{le-antisymm}
+use Prim.Native.Nat.{ℕ, zero, suc, ◌+◌, ◌*◌, ◌-◌, ◌^◌, ◌≤◌}
+use native.Mathlib.Nat.{le_antisymm}
 use native.Mathlib.Omega.{arith}
-use borrow.Author.Tests.{not-false, eq-eqb, ne-eqb}
+use borrow.Author.Tests.{not-false, eq-eqb, ne_eqb}
 use lib.Dec.{ltb, eqb}
-use lib.ListN.{length, getD, take, drop, drop-of-length-le}
-use Rattle·theory.specs.Logic.{if_then_else_, unless_answer_then_}
-use Rattle·theory.proofs.Tests.{by-cases, both, either, inside, within-low, within-high, tests}
-use Rattle·theory.proofs.Ladder.{pass, stop, and-right, said-true, said-false}
-use Rattle·theory.proofs.Lent.{tail-is}
-use Rattle·wire.proofs.Le.{le-step, le-split}
-use Rattle·wire.specs.Le.{le, number}
-use Rattle·protocol.specs.declared.Answer.the-variants.{BadField}
-use Rattle·protocol.specs.declared.ObjectKind.the-variants.{Set}
-use Rattle·protocol.specs.declared.Metadata.the-variants.{HeaderList}
-use Rattle·protocol.specs.Opcodes.{opcodeRows, supported, supportedOnly, fixedSize, namesMember}
-use Rattle·protocol.proofs.Rows.{supported-is, data-long}
-use Rattle·frame·specs.specs.declared.Ask.{Ask}
-use Rattle·frame·specs.specs.declared.Ask.the-variants.{Refused, UseList}
-use Rattle·frame·specs.specs.Frame.{dataAt, longest, opcodeOf, groupOf, targetOf, dataOf}
-use Rattle·frame·specs.specs.Fields.{kindIn, metadataIs, modeIn, useIn, fieldsOf}
-use Rattle·frame·specs.specs.Ask.{usable, framedOf, askOf}
+use lib.ListN.{length, get_or, take, drop, drop_of_length-le}
+use Rattle.theory.specs.Logic.{if◌then◌else◌, unless◌answer◌then◌}
+use Rattle.theory.proofs.Tests.{by_cases, both, either, inside, within_low, within-high, tests}
+use Rattle.theory.proofs.Ladder.{pass, stop, and_right, said-true, said-false}
+use Rattle.theory.proofs.Lent.{tail-is}
+use Rattle.wire.proofs.Le.{le_step, le_split}
+use Rattle.wire.specs.Le.{le, number}
+use Rattle.protocol.specs.declared.Answer.TheVariants.{BadField}
+use Rattle.protocol.specs.declared.ObjectKind.TheVariants.{Set}
+use Rattle.protocol.specs.declared.Metadata.TheVariants.{HeaderList}
+use Rattle.protocol.specs.Opcodes.{opcodeRows, supported, supportedOnly, fixedSize, namesMember}
+use Rattle.protocol.proofs.Rows.{supported-is, data-long}
+use Rattle.frame.specs.declared.Ask.{Ask}
+use Rattle.frame.specs.declared.Ask.TheVariants.{Refused, UseList}
+use Rattle.frame.specs.Frame.{dataAt, longest, opcode_of, group_of, target_of, data_of}
+use Rattle.frame.specs.Fields.{kindIn, metadataIs, modeIn, useIn, fields_of}
+use Rattle.frame.specs.Ask.{usable, framedOf, askOf}
 
 -- a byte other than those before
 pub kind-set : (b : ℕ) → (b ≡ 0 → ⊥) → Set ≡ kindIn b
@@ -37,19 +37,19 @@ metadata-list (suc (suc b)) n o = refl
 
 -- no bit from a place on: a byte that is 0 leaves it to those after it, any other decides, and so does the end
 module _ (d : List ℕ) (at i : ℕ) (e : eqb (le (drop at d)) 0 ≡ eqb (le (drop i d)) 0) where
-  pub zero-on : getD d i 0 ≡ 0 → eqb (le (drop at d)) 0 ≡ eqb (le (drop (i + 1) d)) 0
+  pub zero-on : get_or d i 0 ≡ 0 → eqb (le (drop at d)) 0 ≡ eqb (le (drop (i + 1) d)) 0
   zero-on h =
-      let s : le (drop i d) ≡ 256 * le (drop (i + 1) d) = omega (arith, le-step d i) in
-      e ∙ by-cases (eqb (le (drop (i + 1) d)) 0)
+      let s : le (drop i d) ≡ 256 * le (drop (i + 1) d) = omega (arith, le_step d i) in
+      e ∙ by_cases (eqb (le (drop (i + 1) d)) 0)
       (λ t. eq-eqb (le (drop i d)) 0 (omega tests) ∙ sym t)
-      (λ t. ne-eqb (le (drop i d)) 0 (λ z. omega tests) ∙ sym t)
+      (λ t. ne_eqb (le (drop i d)) 0 (λ z. omega tests) ∙ sym t)
 
-  pub zero-not : (getD d i 0 ≡ 0 → ⊥) → false ≡ eqb (le (drop at d)) 0
-  zero-not h = sym (e ∙ ne-eqb (le (drop i d)) 0 (λ (z : le (drop i d) ≡ 0). h (omega (arith, le-step d i))))
+  pub zero-not : (get_or d i 0 ≡ 0 → ⊥) → false ≡ eqb (le (drop at d)) 0
+  zero-not h = sym (e ∙ ne_eqb (le (drop i d)) 0 (λ (z : le (drop i d) ≡ 0). h (omega (arith, le_step d i))))
 
   pub zero-end : length d ≤ i → true ≡ eqb (le (drop at d)) 0
   unfolding le
-  zero-end h = sym (e ∙ rw (drop-of-length-le d h))
+  zero-end h = sym (e ∙ rw (drop_of_length-le d h))
 
 -- the long mask: a bit after the first word is not supported, and without one the word is the mask
 module _ (d : List ℕ) (t : Bool) (e : t ≡ eqb (le (drop 8 d)) 0) where
@@ -57,19 +57,19 @@ module _ (d : List ℕ) (t : Bool) (e : t ≡ eqb (le (drop 8 d)) 0) where
   unfolding useIn supportedOnly
   mask-long h =
       let n : eqb (le (drop 8 d)) 0 ≡ false = said-false _ t e h in
-      let over : ltb (le d) (2 ^ 18) ≡ false = omega (tests, le-split 8 d) in
-      stop _ _ _ _ (and-right _ _ over) refl
+      let over : ltb (le d) (2 ^ 18) ≡ false = omega (tests, le_split 8 d) in
+      stop _ _ _ _ (and_right _ _ over) refl
 
   pub mask-read : (mask : ℕ) (x : Ask) → not t ≡ false → mask ≡ number 0 8 d
       → x ≡ unless supportedOnly mask answer Refused BadField then UseList mask → x ≡ useIn d
   unfolding useIn
   mask-read mask x h r k =
       let z : eqb (le (drop 8 d)) 0 ≡ true = said-true _ t e h in
-      let m : le d ≡ mask = omega (tests, le-split 8 d) in
+      let m : le d ≡ mask = omega (tests, le_split 8 d) in
       rw m k
 
 -- step 7, at an opcode that was found
-pub at-opcode : (ids m op o : ℕ) (d : List ℕ) (x : Ask) → op ≡ o → x ≡ fieldsOf ids m o d → x ≡ fieldsOf ids m op d
+pub at-opcode : (ids m op o : ℕ) (d : List ℕ) (x : Ask) → op ≡ o → x ≡ fields_of ids m o d → x ≡ fields_of ids m op d
 at-opcode ids m op o d x e h = rw e h
 
 -- and at the last one, which none of the others is
@@ -82,29 +82,29 @@ past op k h n = omega arith
 module _ (op : ℕ) (s : supported op ≡ true) (n0 : op ≡ 0x00 → ⊥) (n1 : op ≡ 0x01 → ⊥) (na : op ≡ 0x0a → ⊥)
     (nb : op ≡ 0x0b → ⊥) (nc : op ≡ 0x0c → ⊥) (nd : op ≡ 0x0d → ⊥) (ne : op ≡ 0x0e → ⊥) (nf : op ≡ 0x0f → ⊥)
     (ng : op ≡ 0x10 → ⊥) where
-  is-last : op ≡ 0x11
+  is_last : op ≡ 0x11
   unfolding namesMember
-  is-last =
+  is_last =
       let n = names-one op s n0 n1 in
-      le-antisymm (within-high _ _ _ n)
-      (past _ _ (past _ _ (past _ _ (past _ _ (past _ _ (past _ _ (past _ _ (within-low _ _ _ n) na) nb) nc) nd) ne) nf) ng)
+      le_antisymm (within-high _ _ _ n)
+      (past _ _ (past _ _ (past _ _ (past _ _ (past _ _ (past _ _ (past _ _ (within_low _ _ _ n) na) nb) nc) nd) ne) nf) ng)
 
   pub last-long : (n : ℕ) → fixedSize op ≤ n → 1 ≤ n
   unfolding opcodeRows
-  last-long n f = data-long op 0x11 n 1 f is-last tt
+  last-long n f = data-long op 0x11 n 1 f is_last tt
 
-  pub at-last-opcode : (ids m : ℕ) (d : List ℕ) (x : Ask) → x ≡ modeIn m d → x ≡ fieldsOf ids m op d
-  unfolding fieldsOf if_then_else_
-  at-last-opcode ids m d x h = rw is-last h
+  pub at-last-opcode : (ids m : ℕ) (d : List ℕ) (x : Ask) → x ≡ modeIn m d → x ≡ fields_of ids m op d
+  unfolding fields_of if◌then◌else◌
+  at-last-opcode ids m d x h = rw is_last h
 
 pub usable-supported : (used op : ℕ) (b : Bool) → b ≡ usable used op → not b ≡ false → supported op ≡ true
 unfolding usable
-usable-supported used op b e h = both _ _ (sym e ∙ not-false b h) .0
+usable-supported used op b e h = (both _ _ (sym e ∙ not-false b h)).0
 
 -- the numbers that were read, and the data
-pub framed-is : (members ids used g op m : ℕ) (marked : Bool) (r : List ℕ) (x : Ask) → dataAt ≤ length r → length r ≤ longest
-    → g ≡ groupOf r → op ≡ opcodeOf r → m ≡ targetOf r
-    → x ≡ framedOf members ids used marked g op m (take (length r - dataAt) (dataOf r)) → x ≡ askOf members ids used marked r
+pub framed_is : (members ids used g op m : ℕ) (marked : Bool) (r : List ℕ) (x : Ask) → dataAt ≤ length r → length r ≤ longest
+    → g ≡ group_of r → op ≡ opcode_of r → m ≡ target_of r
+    → x ≡ framedOf members ids used marked g op m (take (length r - dataAt) (data_of r)) → x ≡ askOf members ids used marked r
 unfolding askOf
-framed-is members ids used g op m marked r x a b eg eo em h =
+framed_is members ids used g op m marked r x a b eg eo em h =
     pass _ _ _ x (inside dataAt longest (length r) a b) (h ∙ rw (eg, eo, em, tail-is dataAt r))

@@ -1,18 +1,14 @@
 -- What a request asks: steps 2 to 7 of SPEC 6.1, of which there is no step 6, since no length of the data is refused: SPEC 13.2.
 -- It depends on the setup, the list in use and whether the member named is marked, and on nothing else of a member's record.
 -- Assumes nothing.
-use mathlib.Core.Bool.{Bool, not}
-use mathlib.Core.List.{List}
-use Prim.Native.Nat.{ℕ}
-use lib.Dec.{eqb}
-use lib.ListN.{length}
-use Rattle·theory.specs.Logic.{unless_answer_then_, _and_, _or_, within}
-use Rattle·protocol.specs.declared.Answer.the-variants.{BadLength, BadGroup, BadOpcode, NoMember, Marked}
-use Rattle·protocol.specs.Opcodes.{supported, bit, namesMember}
-use Rattle·frame·specs.specs.declared.Ask.{Ask}
-use Rattle·frame·specs.specs.declared.Ask.the-variants.{Refused}
-use Rattle·frame·specs.specs.Frame.{dataAt, longest, opcodeOf, groupOf, targetOf, dataOf}
-use Rattle·frame·specs.specs.Fields.{fieldsOf}
+use Rattle.std.specs.Prelude.{Bool, not, List, ℕ, eqb, length}
+use Rattle.theory.specs.Logic.{unless◌answer◌then◌, ◌and◌, ◌or◌, within}
+use Rattle.protocol.specs.declared.Answer.TheVariants.{BadLength, BadGroup, BadOpcode, NoMember, Marked}
+use Rattle.protocol.specs.Opcodes.{supported, bit, namesMember}
+use Rattle.frame.specs.declared.Ask.{Ask}
+use Rattle.frame.specs.declared.Ask.TheVariants.{Refused}
+use Rattle.frame.specs.Frame.{dataAt, longest, opcode_of, group_of, target_of, data_of}
+use Rattle.frame.specs.Fields.{fields_of}
 
 -- step 4: supported and in use
 unfoldable pub usable : ℕ → ℕ → Bool
@@ -33,10 +29,10 @@ framedOf members ids inUse marked group op m d =
     unless usable inUse op answer Refused BadOpcode then  -- 4
     unless reaches members op m answer Refused NoMember then  -- 5
     unless attended marked op answer Refused Marked then
-    fieldsOf ids m op d  -- 7
+    fields_of ids m op d  -- 7
 
 -- steps 2 to 7, on the bytes of a request; ids is G + S
 unfoldable pub askOf : ℕ → ℕ → ℕ → Bool → List ℕ → Ask
 askOf members ids inUse marked r =
     unless within dataAt longest (length r) answer Refused BadLength then  -- 2
-    framedOf members ids inUse marked (groupOf r) (opcodeOf r) (targetOf r) (dataOf r)
+    framedOf members ids inUse marked (group_of r) (opcode_of r) (target_of r) (data_of r)

@@ -1,39 +1,35 @@
 -- Step 7 of SPEC 6.1, the fields of each command's data: SPEC 4. ids is G + S, m the member that the request names, d the
--- data, of any length, SPEC 13.2: `number` and `getD` read each missing byte as zero, and only list use and parts get read
+-- data, of any length, SPEC 13.2: `number` and `get_or` read each missing byte as zero, and only list use and parts get read
 -- past their fixed fields. Assumes nothing.
-use mathlib.Core.Bool.{Bool}
-use mathlib.Core.List.{List}
-use Prim.Native.Nat.{ℕ, zero, suc}
-use lib.Dec.{leb, ltb, eqb}
-use lib.ListN.{length, getD}
-use Rattle·theory.specs.Logic.{if_then_else_, unless_answer_then_, _and_}
-use Rattle·wire.specs.Le.{le, number}
-use Rattle·protocol.specs.declared.Answer.the-variants.{BadField}
-use Rattle·protocol.specs.declared.ObjectKind.{ObjectKind}
-use Rattle·protocol.specs.declared.ObjectKind.the-variants.{Get, Set}
-use Rattle·protocol.specs.declared.Metadata.{Metadata}
-use Rattle·protocol.specs.declared.Metadata.the-variants.{Size, Count, HeaderList}
-use Rattle·protocol.specs.declared.ReadOp.the-variants.{QueryObject, GetMetadata, GetSelected, GetAll}
-use Rattle·protocol.specs.declared.ChangeOp.the-variants.{Create, Modify, Destroy, SetParts, SetMode}
-use Rattle·protocol.specs.Answers.{modeOf}
-use Rattle·protocol.specs.Opcodes.{supportedOnly}
-use Rattle·frame·specs.specs.Frame.{idAt, flagsAt, kindAt, typeAt, headersAt}
-use Rattle·frame·specs.specs.declared.Ask.{Ask}
-use Rattle·frame·specs.specs.declared.Ask.the-variants.{Refused, QueryList, UseList, Read, Change}
+use Rattle.std.specs.Prelude.{Bool, List, ℕ, zero, suc, leb, ltb, eqb, length, get_or}
+use Rattle.theory.specs.Logic.{if◌then◌else◌, unless◌answer◌then◌, ◌and◌}
+use Rattle.wire.specs.Le.{le, number}
+use Rattle.protocol.specs.declared.Answer.TheVariants.{BadField}
+use Rattle.protocol.specs.declared.ObjectKind.{ObjectKind}
+use Rattle.protocol.specs.declared.ObjectKind.TheVariants.{Get, Set}
+use Rattle.protocol.specs.declared.Metadata.{Metadata}
+use Rattle.protocol.specs.declared.Metadata.TheVariants.{Size, Count, HeaderList}
+use Rattle.protocol.specs.declared.ReadOp.TheVariants.{QueryObject, GetMetadata, GetSelected, GetAll}
+use Rattle.protocol.specs.declared.ChangeOp.TheVariants.{Create, Modify, Destroy, SetParts, SetMode}
+use Rattle.protocol.specs.Answers.{mode_of}
+use Rattle.protocol.specs.Opcodes.{supportedOnly}
+use Rattle.frame.specs.Frame.{id_at, flagsAt, kind_at, type_at, headersAt}
+use Rattle.frame.specs.declared.Ask.{Ask}
+use Rattle.frame.specs.declared.Ask.TheVariants.{Refused, QueryList, UseList, Read, Change}
 
 -- the object header: its type is 0, its id below G + S
-abbrev pub idOf : List ℕ → ℕ
-idOf d = number idAt 4 d
+abbrev pub id_of : List ℕ → ℕ
+id_of d = number id_at 4 d
 
 unfoldable pub objectValid : ℕ → List ℕ → Bool
-objectValid ids d = eqb (number 0 2 d) 0 and ltb (idOf d) ids
+objectValid ids d = eqb (number 0 2 d) 0 and ltb (id_of d) ids
 
 -- the flags of create, modify and query are 0; the kind of create and modify: 0 get, 1 set
 unfoldable pub flagsValid : List ℕ → Bool
 flagsValid d = eqb (number flagsAt 8 d) 0
 
 unfoldable pub kindValid : ℕ → List ℕ → Bool
-kindValid ids d = objectValid ids d and flagsValid d and leb (getD d kindAt 0) 1
+kindValid ids d = objectValid ids d and flagsValid d and leb (get_or d kind_at 0) 1
 
 abbrev pub kindIn : ℕ → ObjectKind
 kindIn zero = Get
@@ -42,22 +38,22 @@ kindIn (suc n) = Set
 unfoldable pub createIn : ℕ → ℕ → List ℕ → Ask
 createIn ids m d =
     unless kindValid ids d answer Refused BadField then
-    Change m (Create (idOf d) (kindIn (getD d kindAt 0)))
+    Change m (Create (id_of d) (kindIn (get_or d kind_at 0)))
 
 unfoldable pub modifyIn : ℕ → ℕ → List ℕ → Ask
 modifyIn ids m d =
     unless kindValid ids d answer Refused BadField then
-    Change m (Modify (idOf d) (kindIn (getD d kindAt 0)))
+    Change m (Modify (id_of d) (kindIn (get_or d kind_at 0)))
 
 unfoldable pub queryIn : ℕ → ℕ → List ℕ → Ask
 queryIn ids m d =
     unless objectValid ids d and flagsValid d answer Refused BadField then
-    Read m (QueryObject (idOf d))
+    Read m (QueryObject (id_of d))
 
 unfoldable pub destroyIn : ℕ → ℕ → List ℕ → Ask
 destroyIn ids m d =
     unless objectValid ids d answer Refused BadField then
-    Change m (Destroy (idOf d))
+    Change m (Destroy (id_of d))
 
 -- the type of metadata: 0 size, 1 count, 2 list
 abbrev pub metadataIs : ℕ → Metadata
@@ -67,28 +63,28 @@ metadataIs (suc (suc n)) = HeaderList
 
 unfoldable pub metadataIn : ℕ → ℕ → List ℕ → Ask
 metadataIn ids m d =
-    unless objectValid ids d and leb (getD d typeAt 0) 2 answer Refused BadField then
-    Read m (GetMetadata (idOf d) (metadataIs (getD d typeAt 0)))
+    unless objectValid ids d and leb (get_or d type_at 0) 2 answer Refused BadField then
+    Read m (GetMetadata (id_of d) (metadataIs (get_or d type_at 0)))
 
 -- the type of parts get: 0 selected, 1 all; headers with selected only, and any byte after the fixed fields counts as
 -- headers given
 unfoldable pub getIn : ℕ → ℕ → List ℕ → Ask
 getIn ids m d =
     unless objectValid ids d answer Refused BadField then
-    if eqb (getD d typeAt 0) 0 then Read m (GetSelected (idOf d)) else
-    unless eqb (getD d typeAt 0) 1 and leb (length d) headersAt answer Refused BadField then
-    Read m (GetAll (idOf d))
+    if eqb (get_or d type_at 0) 0 then Read m (GetSelected (id_of d)) else
+    unless eqb (get_or d type_at 0) 1 and leb (length d) headersAt answer Refused BadField then
+    Read m (GetAll (id_of d))
 
 unfoldable pub setIn : ℕ → ℕ → List ℕ → Ask
 setIn ids m d =
     unless objectValid ids d answer Refused BadField then
-    Change m (SetParts (idOf d))
+    Change m (SetParts (id_of d))
 
 -- mode set: bit 0 set stops, clear resumes; bits 1 to 7 are 0
 unfoldable pub modeIn : ℕ → List ℕ → Ask
 modeIn m d =
-    unless leb (getD d 0 0) 1 answer Refused BadField then
-    Change m (SetMode (modeOf (getD d 0 0)))
+    unless leb (get_or d 0 0) 1 answer Refused BadField then
+    Change m (SetMode (mode_of (get_or d 0 0)))
 
 -- list use: all bytes are one long mask, and it has supported bits only
 unfoldable pub useIn : List ℕ → Ask
@@ -97,8 +93,8 @@ useIn d =
     UseList (le d)
 
 -- by opcode; the last is 0x11, since no other passes step 4
-unfoldable pub fieldsOf : ℕ → ℕ → ℕ → List ℕ → Ask
-fieldsOf ids m op d =
+unfoldable pub fields_of : ℕ → ℕ → ℕ → List ℕ → Ask
+fields_of ids m op d =
     if eqb op 0x00 then QueryList else
     if eqb op 0x01 then useIn d else
     if eqb op 0x0a then createIn ids m d else

@@ -1,8 +1,6 @@
 -- The fields of a request, SPEC 3.2, and of its data, SPEC 4. Assumes nothing.
-use mathlib.Core.List.{List}
-use Prim.Native.Nat.{ℕ, _+_}
-use lib.ListN.{drop}
-use Rattle·wire.specs.Le.{number}
+use Rattle.std.specs.Prelude.{List, ℕ, ◌+◌, drop}
+use Rattle.wire.specs.Le.{number}
 
 -- opcode 2 bytes, group type 2, reserved 12, member 8, then the data
 abbrev pub groupAt : ℕ
@@ -18,21 +16,21 @@ dataAt = 24
 abbrev pub longest : ℕ
 longest = 4096
 
-abbrev pub opcodeOf : List ℕ → ℕ
-opcodeOf r = number 0 2 r
+abbrev pub opcode_of : List ℕ → ℕ
+opcode_of r = number 0 2 r
 
-abbrev pub groupOf : List ℕ → ℕ
-groupOf r = number groupAt 2 r
+abbrev pub group_of : List ℕ → ℕ
+group_of r = number groupAt 2 r
 
-abbrev pub targetOf : List ℕ → ℕ
-targetOf r = number memberAt 8 r
+abbrev pub target_of : List ℕ → ℕ
+target_of r = number memberAt 8 r
 
-abbrev pub dataOf : List ℕ → List ℕ
-dataOf r = drop dataAt r
+abbrev pub data_of : List ℕ → List ℕ
+data_of r = drop dataAt r
 
 -- data starts with the object header: type 2 bytes, reserved 2, id 4
-abbrev pub idAt : ℕ
-idAt = 4
+abbrev pub id_at : ℕ
+id_at = 4
 
 abbrev pub objectSize : ℕ
 objectSize = 8
@@ -41,15 +39,15 @@ objectSize = 8
 abbrev pub flagsAt : ℕ
 flagsAt = objectSize
 
-abbrev pub kindAt : ℕ
-kindAt = flagsAt + 8
+abbrev pub kind_at : ℕ
+kind_at = flagsAt + 8
 
 -- metadata and parts get go on with type 1 byte and reserved 7, parts get then with headers
-abbrev pub typeAt : ℕ
-typeAt = objectSize
+abbrev pub type_at : ℕ
+type_at = objectSize
 
 abbrev pub headersAt : ℕ
-headersAt = typeAt + 8
+headersAt = type_at + 8
 
 -- the list of a request: the headers asked for by parts get, the parts given to parts set
 abbrev pub askedAt : ℕ

@@ -1,35 +1,23 @@
 // Step 7 of SPEC 6.1: the fields of each command's data, SPEC 4. Data may have any length, SPEC 13.2: what is missing of the
 // fixed fields reads as zero.
-ghost use mathlib.Core.Path.{_≡_};
-ghost use mathlib.Core.Bool.{true};
-ghost use Prim.Native.Nat.{_≤_, _<_};
-ghost use lib.Dec.{leb, eqb};
-ghost use lib.ListN.{length, drop, replicate};
-ghost use Rattle·theory.specs.Logic.{if_then_else_};
-ghost use Rattle·theory.specs.Bytes.{put};
-ghost use Rattle·wire.specs.Le.{le};
-ghost use Rattle·protocol.specs.Opcodes.{supported, fixedSize, longestFixed};
-ghost use Rattle·frame·specs.specs.Frame.{objectSize, kindAt, headersAt};
-ghost use Rattle·frame·specs.specs.Fields.{idOf, objectValid, flagsValid, kindValid, kindIn, metadataIs, createIn, modifyIn, queryIn, destroyIn, metadataIn, getIn, setIn, modeIn, useIn, fieldsOf};
-use super::Ask;
-use super::FLAGS_AT;
-use super::HEADERS_AT;
-use super::ID_AT;
-use super::KIND_AT;
-use super::TYPE_AT;
-use protocol::Answer;
-use protocol::ChangeOp;
-use protocol::Metadata;
-use protocol::ObjectKind;
-use protocol::ReadOp;
+ghost use Rattle.std.specs.Prelude.{◌≡◌, true, ◌≤◌, ◌<◌, leb, eqb, length, drop, replicate};
+ghost use Rattle.theory.specs.Logic.{if◌then◌else◌};
+ghost use Rattle.theory.specs.Bytes.{put};
+ghost use Rattle.wire.specs.Le.{le};
+ghost use Rattle.protocol.specs.Opcodes.{supported, fixedSize, longestFixed};
+ghost use Rattle.frame.specs.Frame.{objectSize, kind_at, headersAt};
+ghost use Rattle.frame.specs.Fields.{id_of, objectValid, flagsValid, kindValid, kindIn, metadataIs, createIn, modifyIn, queryIn, destroyIn, metadataIn, getIn, setIn, modeIn, useIn, fields_of};
+
+use super::{Ask, FLAGS_AT, HEADERS_AT, ID_AT, KIND_AT, TYPE_AT};
+use protocol::{Answer, ChangeOp, Metadata, ObjectKind, ReadOp};
 
 // The first word of a mask has all its supported bits.
 const WORD_SIZE: usize = 8;
 
 // The object header: type 0, and an id below G + S.
 fn object_valid(ids: u8, d: &[u8]) -> bool
-    requires { ⌜ objectSize ≤ length (now d) ⌝ }
-    ensures { λ r. ⌜ r ≡ objectValid ids (now (d .entry)) ⌝ }
+    requires { objectSize ≤ length d.now }
+    ensures { result ≡ objectValid ids d.now }
 {
     if wire::read_u16(d, 0) != 0 {
         return false;
@@ -38,15 +26,15 @@ fn object_valid(ids: u8, d: &[u8]) -> bool
 }
 
 fn flags_valid(d: &[u8]) -> bool
-    requires { ⌜ kindAt ≤ length (now d) ⌝ }
-    ensures { λ r. ⌜ r ≡ flagsValid (now (d .entry)) ⌝ }
+    requires { kind_at ≤ length d.now }
+    ensures { result ≡ flagsValid d.now }
 {
     wire::read_u64(d, FLAGS_AT) == 0
 }
 
 fn kind_valid(ids: u8, d: &[u8]) -> bool
-    requires { ⌜ kindAt < length (now d) ⌝ }
-    ensures { λ r. ⌜ r ≡ kindValid ids (now (d .entry)) ⌝ }
+    requires { kind_at < length d.now }
+    ensures { result ≡ kindValid ids d.now }
 {
     if !object_valid(ids, d) {
         return false;
@@ -58,14 +46,14 @@ fn kind_valid(ids: u8, d: &[u8]) -> bool
 }
 
 fn id_of(d: &[u8]) -> usize
-    requires { ⌜ objectSize ≤ length (now d) ⌝ }
-    ensures { λ r. ⌜ r ≡ idOf (now (d .entry)) ⌝ }
+    requires { objectSize ≤ length d.now }
+    ensures { result ≡ id_of d.now }
 {
     wire::read_u32(d, ID_AT) as usize
 }
 
 fn kind_in(b: u8) -> ObjectKind
-    ensures { λ r. ⌜ r ≡ kindIn b ⌝ }
+    ensures { result ≡ kindIn b }
 {
     if b == 0 {
         ObjectKind::Get
@@ -75,8 +63,8 @@ fn kind_in(b: u8) -> ObjectKind
 }
 
 fn create_in(ids: u8, m: u64, d: &[u8]) -> Ask
-    requires { ⌜ kindAt < length (now d) ⌝ }
-    ensures { λ r. ⌜ r ≡ createIn ids m (now (d .entry)) ⌝ }
+    requires { kind_at < length d.now }
+    ensures { result ≡ createIn ids m d.now }
 {
     if !kind_valid(ids, d) {
         return Ask::Refused(Answer::BadField);
@@ -85,8 +73,8 @@ fn create_in(ids: u8, m: u64, d: &[u8]) -> Ask
 }
 
 fn modify_in(ids: u8, m: u64, d: &[u8]) -> Ask
-    requires { ⌜ kindAt < length (now d) ⌝ }
-    ensures { λ r. ⌜ r ≡ modifyIn ids m (now (d .entry)) ⌝ }
+    requires { kind_at < length d.now }
+    ensures { result ≡ modifyIn ids m d.now }
 {
     if !kind_valid(ids, d) {
         return Ask::Refused(Answer::BadField);
@@ -95,8 +83,8 @@ fn modify_in(ids: u8, m: u64, d: &[u8]) -> Ask
 }
 
 fn query_in(ids: u8, m: u64, d: &[u8]) -> Ask
-    requires { ⌜ kindAt ≤ length (now d) ⌝ }
-    ensures { λ r. ⌜ r ≡ queryIn ids m (now (d .entry)) ⌝ }
+    requires { kind_at ≤ length d.now }
+    ensures { result ≡ queryIn ids m d.now }
 {
     if !object_valid(ids, d) {
         return Ask::Refused(Answer::BadField);
@@ -108,8 +96,8 @@ fn query_in(ids: u8, m: u64, d: &[u8]) -> Ask
 }
 
 fn destroy_in(ids: u8, m: u64, d: &[u8]) -> Ask
-    requires { ⌜ objectSize ≤ length (now d) ⌝ }
-    ensures { λ r. ⌜ r ≡ destroyIn ids m (now (d .entry)) ⌝ }
+    requires { objectSize ≤ length d.now }
+    ensures { result ≡ destroyIn ids m d.now }
 {
     if !object_valid(ids, d) {
         return Ask::Refused(Answer::BadField);
@@ -118,7 +106,7 @@ fn destroy_in(ids: u8, m: u64, d: &[u8]) -> Ask
 }
 
 fn metadata_is(b: u8) -> Metadata
-    ensures { λ r. ⌜ r ≡ metadataIs b ⌝ }
+    ensures { result ≡ metadataIs b }
 {
     match b {
         0 => Metadata::Size,
@@ -128,8 +116,8 @@ fn metadata_is(b: u8) -> Metadata
 }
 
 fn metadata_in(ids: u8, m: u64, d: &[u8]) -> Ask
-    requires { ⌜ headersAt ≤ length (now d) ⌝ }
-    ensures { λ r. ⌜ r ≡ metadataIn ids m (now (d .entry)) ⌝ }
+    requires { headersAt ≤ length d.now }
+    ensures { result ≡ metadataIn ids m d.now }
 {
     if !object_valid(ids, d) {
         return Ask::Refused(Answer::BadField);
@@ -141,8 +129,8 @@ fn metadata_in(ids: u8, m: u64, d: &[u8]) -> Ask
 }
 
 fn get_in(ids: u8, m: u64, d: &[u8]) -> Ask
-    requires { ⌜ headersAt ≤ length (now d) ⌝ }
-    ensures { λ r. ⌜ r ≡ getIn ids m (now (d .entry)) ⌝ }
+    requires { headersAt ≤ length d.now }
+    ensures { result ≡ getIn ids m d.now }
 {
     if !object_valid(ids, d) {
         return Ask::Refused(Answer::BadField);
@@ -160,8 +148,8 @@ fn get_in(ids: u8, m: u64, d: &[u8]) -> Ask
 }
 
 fn set_in(ids: u8, m: u64, d: &[u8]) -> Ask
-    requires { ⌜ objectSize ≤ length (now d) ⌝ }
-    ensures { λ r. ⌜ r ≡ setIn ids m (now (d .entry)) ⌝ }
+    requires { objectSize ≤ length d.now }
+    ensures { result ≡ setIn ids m d.now }
 {
     if !object_valid(ids, d) {
         return Ask::Refused(Answer::BadField);
@@ -170,8 +158,8 @@ fn set_in(ids: u8, m: u64, d: &[u8]) -> Ask
 }
 
 fn mode_in(m: u64, d: &[u8]) -> Ask
-    requires { ⌜ 1 ≤ length (now d) ⌝ }
-    ensures { λ r. ⌜ r ≡ modeIn m (now (d .entry)) ⌝ }
+    requires { 1 ≤ length d.now }
+    ensures { result ≡ modeIn m d.now }
 {
     if 1 < d[0] {
         return Ask::Refused(Answer::BadField);
@@ -181,7 +169,7 @@ fn mode_in(m: u64, d: &[u8]) -> Ask
 
 // No bit is set from a place on.
 fn is_zero_from(d: &[u8], at: usize) -> bool
-    ensures { λ r. ⌜ r ≡ eqb (le (drop at (now (d .entry)))) 0 ⌝ }
+    ensures { result ≡ eqb (le (drop at d.now)) 0 }
 {
     let mut i = at;
     while i < d.len() {
@@ -194,8 +182,8 @@ fn is_zero_from(d: &[u8], at: usize) -> bool
 }
 
 fn use_in(d: &[u8]) -> Ask
-    requires { ⌜ 8 ≤ length (now d) ⌝ }
-    ensures { λ r. ⌜ r ≡ useIn (now (d .entry)) ⌝ }
+    requires { 8 ≤ length d.now }
+    ensures { result ≡ useIn d.now }
 {
     if !is_zero_from(d, WORD_SIZE) {
         return Ask::Refused(Answer::BadField);
@@ -209,8 +197,8 @@ fn use_in(d: &[u8]) -> Ask
 
 // Step 7 of data that holds all fixed fields of its command.
 fn whole_fields(ids: u8, m: u64, op: usize, d: &[u8]) -> Ask
-    requires { ⌜ (supported op ≡ true) × (fixedSize op ≤ length (now d)) ⌝ }
-    ensures { λ r. ⌜ r ≡ fieldsOf ids m op (now (d .entry)) ⌝ }
+    requires { (supported op ≡ true) × (fixedSize op ≤ length d.now) }
+    ensures { result ≡ fields_of ids m op d.now }
 {
     match op {
         0x00 => Ask::QueryList,
@@ -228,8 +216,8 @@ fn whole_fields(ids: u8, m: u64, op: usize, d: &[u8]) -> Ask
 
 // Data that ends within the fixed fields, over zeros. Other data is not copied.
 fn padded(fixed: usize, d: &[u8]) -> [u8; protocol::LONGEST_FIXED]
-    requires { ⌜ fixed ≤ longestFixed ⌝ }
-    ensures { λ r. ⌜ r ≡ (if leb fixed (length (now (d .entry))) then replicate longestFixed 0 else put 0 (now (d .entry)) (replicate longestFixed 0)) ⌝ }
+    requires { fixed ≤ longestFixed }
+    ensures { result ≡ (if leb fixed (length d.now) then replicate longestFixed 0 else put 0 d.now (replicate longestFixed 0)) }
 {
     let mut zeros = [0u8; protocol::LONGEST_FIXED];
     if fixed <= d.len() {
@@ -241,7 +229,7 @@ fn padded(fixed: usize, d: &[u8]) -> [u8; protocol::LONGEST_FIXED]
 
 // The data where it holds all fixed fields, else the bytes that stand in for it.
 fn complete<'a>(fixed: usize, d: &'a [u8], instead: &'a [u8]) -> &'a [u8]
-    ensures { λ r. ⌜ now r ≡ (if leb fixed (length (now (d .entry))) then now (d .entry) else now (instead .entry)) ⌝ }
+    ensures { result.now ≡ (if leb fixed (length d.now) then d.now else instead.now) }
 {
     if d.len() < fixed {
         return instead;
@@ -252,8 +240,8 @@ fn complete<'a>(fixed: usize, d: &'a [u8], instead: &'a [u8]) -> &'a [u8]
 // Step 7: the fields of each command's data. They are read in one place, whether the data is short or not, so that the
 // compiler keeps the reading inline.
 pub fn fields(ids: u8, m: u64, op: usize, d: &[u8]) -> Ask
-    requires { ⌜ supported op ≡ true ⌝ }
-    ensures { λ r. ⌜ r ≡ fieldsOf ids m op (now (d .entry)) ⌝ }
+    requires { supported op ≡ true }
+    ensures { result ≡ fields_of ids m op d.now }
 {
     let fixed = protocol::fixed_size(op);
     let short = padded(fixed, d);

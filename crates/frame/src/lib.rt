@@ -1,15 +1,12 @@
 // From the bytes of a request, SPEC 3.2, to what it asks: steps 2 to 7 of SPEC 6.1.
 mod fields;
 
-ghost use mathlib.Core.Path.{_≡_};
-ghost use lib.Dec.{leb};
-ghost use lib.ListN.{length};
-ghost use Rattle·theory.specs.Logic.{if_then_else_};
-ghost use Rattle·frame·specs.specs.Frame.{dataAt, targetOf};
-ghost use Rattle·frame·specs.specs.Ask.{usable, reaches, attended, framedOf, askOf};
-use protocol::Answer;
-use protocol::ChangeOp;
-use protocol::ReadOp;
+ghost use Rattle.std.specs.Prelude.{◌≡◌, leb, length};
+ghost use Rattle.theory.specs.Logic.{if◌then◌else◌};
+ghost use Rattle.frame.specs.Frame.{dataAt, target_of};
+ghost use Rattle.frame.specs.Ask.{usable, reaches, attended, framedOf, askOf};
+
+use protocol::{Answer, ChangeOp, ReadOp};
 
 // Opcode 2 bytes, group type 2, reserved 12, member 8, data; at most 4,096 bytes.
 const GROUP_AT: usize = 2;
@@ -40,6 +37,7 @@ pub const ASKED_AT: usize = DATA_AT + HEADERS_AT;
 pub const GIVEN_AT: usize = DATA_AT + OBJECT_SIZE;
 
 // What a request asks. Read and Change name a member of the card.
+#[derive(Drop)]
 pub enum Ask {
     Refused(Answer),
     QueryList,
@@ -50,7 +48,7 @@ pub enum Ask {
 
 // Step 4: supported and in use.
 fn usable(in_use: u64, op: usize) -> bool
-    ensures { λ r. ⌜ r ≡ usable in_use op ⌝ }
+    ensures { result ≡ usable in_use op }
 {
     if !protocol::supported(op) {
         return false;
@@ -60,7 +58,7 @@ fn usable(in_use: u64, op: usize) -> bool
 
 // Step 5: a command that names a member names one of the card's.
 fn reaches(members: u8, op: usize, m: u64) -> bool
-    ensures { λ r. ⌜ r ≡ reaches members op m ⌝ }
+    ensures { result ≡ reaches members op m }
 {
     if !protocol::names_member(op) {
         return true;
@@ -73,7 +71,7 @@ fn reaches(members: u8, op: usize, m: u64) -> bool
 
 // Right after step 5: a command that names a member names one that is not marked.
 fn attended(marked: bool, op: usize) -> bool
-    ensures { λ r. ⌜ r ≡ attended marked op ⌝ }
+    ensures { result ≡ attended marked op }
 {
     if !marked {
         return true;
@@ -92,7 +90,7 @@ fn framed(
     m: u64,
     d: &[u8],
 ) -> Ask
-    ensures { λ r. ⌜ r ≡ framedOf members ids in_use marked group op m (now (d .entry)) ⌝ }
+    ensures { result ≡ framedOf members ids in_use marked group op m d.now }
 {
     if group != 1 {
         return Ask::Refused(Answer::BadGroup);
@@ -111,7 +109,7 @@ fn framed(
 
 // The member field of a request; 0, which is no member, where it is too short to be one.
 pub fn member_of(request: &[u8]) -> u64
-    ensures { λ r. ⌜ r ≡ (if leb dataAt (length (now (request .entry))) then targetOf (now (request .entry)) else 0) ⌝ }
+    ensures { result ≡ (if leb dataAt (length request.now) then target_of request.now else 0) }
 {
     if request.len() < DATA_AT {
         return 0;
@@ -121,7 +119,7 @@ pub fn member_of(request: &[u8]) -> u64
 
 // Steps 2 to 7: what a request asks of a card with these members, ids and opcodes in use; marked says whether its member is.
 pub fn decode(members: u8, ids: u8, in_use: u64, marked: bool, request: &[u8]) -> Ask
-    ensures { λ r. ⌜ r ≡ askOf members ids in_use marked (now (request .entry)) ⌝ }
+    ensures { result ≡ askOf members ids in_use marked request.now }
 {
     if request.len() < DATA_AT {
         return Ask::Refused(Answer::BadLength);

@@ -1,8 +1,9 @@
 // For the programs: reads and writes that go on until all has moved. A call that a signal interrupts before it moves a byte
 // is made again, and an input that fails is told from one that ends.
-ghost use Rattle·io.specs.Counts.{Counts};
+ghost use Rattle.io.specs.Counts.{IsPrefixLen};
 
 // What was read: so many bytes at the start of the buffer, up to its end or the input's, unless a read failed.
+#[derive(Drop)]
 pub struct Input {
     pub failed: bool,
     pub len: usize,
@@ -19,7 +20,7 @@ pub fn has_failed(moved: isize) -> bool {
 // Reads until the buffer is full, the input ends or a read fails. A proved loop has to end, so it counts its turns down, from
 // a number that no run uses up; so does the next one.
 pub fn read_full(fd: i32, buf: &mut [u8]) -> Input
-    ensures { λ r. ⌜ Counts (r .len) (now (buf .exit)) ⌝ }
+    ensures { IsPrefixLen result.len buf.new }
 {
     let mut done = 0;
     let mut turns = u64::MAX;

@@ -1,24 +1,24 @@
 -- The bytes of a request: the opcode rows give their lengths, and what went into them comes out again. Assumes nothing.
-use mathlib.Core.Path.{_≡_, refl}
+use mathlib.Core.Path.{◌≡◌, refl}
 use mathlib.Core.Bool.{Bool, true}
-use mathlib.Core.List.{List, [], _++_}
-use Prim.Native.Nat.{ℕ, _+_, _^_, _≤_, _<_}
+use mathlib.Core.List.{List, [], ◌++◌}
+use Prim.Native.Nat.{ℕ, ◌+◌, ◌^◌, ◌≤◌, ◌<◌}
 use native.Mathlib.Omega.{arith}
 use borrow.Author.Tests.{leb-true}
 use lib.Dec.{leb}
 use lib.ListN.{length, replicate, length-append}
 use lib.Seq.{length-take-le}
-use Rattle·theory.specs.Logic.{if_then_else_, _and_}
-use Rattle·theory.proofs.Tests.{by-cases, both}
-use Rattle·wire.specs.Le.{bytes, number}
-use Rattle·wire.proofs.Le.{le-bytes, length-bytes}
-use Rattle·protocol.specs.Opcodes.{longestFixed, opcodeRows, opcodeRow, supported, fixedSize}
-use Rattle·protocol.proofs.Rows.{supported-below, fixed-longest}
-use Rattle·frame.specs.Frame.{dataAt, kindAt, opcodeOf, groupOf, targetOf, dataOf}
-use Rattle·host·specs.specs.declared.Command.{Command}
-use Rattle·host·specs.specs.declared.Command.the-variants.{ListQuery, ListUse, Create, Modify, Query, Destroy, Metadata, Get, Set, SetMode}
-use Rattle·host·specs.specs.declared.Sent.{Sent}
-use Rattle·host·specs.specs.Request.{sentOf, objectHeader, before, fixedOf, listFor, request, startWith, startOf, requestOf}
+use Rattle.theory.specs.Logic.{if◌then◌else◌, ◌and◌}
+use Rattle.theory.proofs.Tests.{by_cases, both}
+use Rattle.wire.specs.Le.{bytes, number}
+use Rattle.wire.proofs.Le.{le_bytes, length-bytes}
+use Rattle.protocol.specs.Opcodes.{longestFixed, opcodeRows, opcodeRow, supported, fixedSize}
+use Rattle.protocol.proofs.Rows.{supported-below, fixed-longest}
+use Rattle.frame.specs.Frame.{dataAt, kind_at, opcode_of, group_of, target_of, data_of}
+use Rattle.host.specs.declared.Command.{Command}
+use Rattle.host.specs.declared.Command.TheVariants.{ListQuery, ListUse, Create, Modify, Query, Destroy, Metadata, Get, Set, SetMode}
+use Rattle.host.specs.declared.Sent.{Sent}
+use Rattle.host.specs.Request.{sentOf, objectHeader, before, fixed_of, listFor, request, startWith, start_of, requestOf}
 
 -- ---- the frame ----
 
@@ -27,19 +27,19 @@ module _ (op group m : ℕ) (d : List ℕ) where
   unfolding request bytes
   length-request = omega arith
 
-  pub opcode-request : op < 256 ^ 2 → opcodeOf (request op group m d) ≡ op
+  pub opcode-request : op < 256 ^ 2 → opcode_of (request op group m d) ≡ op
   unfolding request bytes number
-  opcode-request h = le-bytes 2 op h
+  opcode-request h = le_bytes 2 op h
 
-  pub group-request : group < 256 ^ 2 → groupOf (request op group m d) ≡ group
+  pub group-request : group < 256 ^ 2 → group_of (request op group m d) ≡ group
   unfolding request bytes number
-  group-request h = le-bytes 2 group h
+  group-request h = le_bytes 2 group h
 
-  pub target-request : m < 256 ^ 8 → targetOf (request op group m d) ≡ m
+  pub target-request : m < 256 ^ 8 → target_of (request op group m d) ≡ m
   unfolding request bytes number
-  target-request h = le-bytes 8 m h
+  target-request h = le_bytes 8 m h
 
-  pub data-request : dataOf (request op group m d) ≡ d
+  pub data-request : data_of (request op group m d) ≡ d
   unfolding request bytes
   data-request = refl
 
@@ -51,64 +51,64 @@ module _ (op group m : ℕ) (d : List ℕ) where
 
 -- the opcode is supported, and the last field stands within the fixed fields and not behind more than the flags
 abbrev stands : Sent → Bool
-stands s = supported (s .opcode) and leb (s .place) (fixedSize (s .opcode)) and leb (s .place) kindAt
+stands s = supported s.opcode and leb s.place (fixedSize s.opcode) and leb s.place kind_at
 
-each-stands : (x : Command) → stands (sentOf x) ≡ true
-unfolding sentOf supported fixedSize opcodeRow opcodeRows _and_
-each-stands ListQuery = refl
-each-stands (ListUse mask) = refl
-each-stands (Create m id kind) = refl
-each-stands (Modify m id kind) = refl
-each-stands (Query m id) = refl
-each-stands (Destroy m id) = refl
-each-stands (Metadata m id what) = refl
-each-stands (Get m id which) = refl
-each-stands (Set m id) = refl
-each-stands (SetMode m mode) = refl
+each_stands : (x : Command) → stands (sentOf x) ≡ true
+unfolding sentOf supported fixedSize opcodeRow opcodeRows ◌and◌
+each_stands ListQuery = refl
+each_stands (ListUse mask) = refl
+each_stands (Create m id kind) = refl
+each_stands (Modify m id kind) = refl
+each_stands (Query m id) = refl
+each_stands (Destroy m id) = refl
+each_stands (Metadata m id what) = refl
+each_stands (Get m id which) = refl
+each_stands (Set m id) = refl
+each_stands (SetMode m mode) = refl
 
 module _ (x : Command) where
-  pub command-supported : supported (sentOf x .opcode) ≡ true
-  command-supported = both _ _ (both _ _ (each-stands x) .0) .0
+  pub command-supported : supported (sentOf x).opcode ≡ true
+  command-supported = (both _ _ (both _ _ (each_stands x)).0).0
 
-  pub opcode-small : sentOf x .opcode < 256 ^ 2
-  opcode-small = let h = supported-below (sentOf x .opcode) command-supported in omega arith
+  pub opcode-small : (sentOf x).opcode < 256 ^ 2
+  opcode-small = let h = supported-below (sentOf x).opcode command-supported in omega arith
 
-  pub place-inside : sentOf x .place ≤ fixedSize (sentOf x .opcode)
-  place-inside = leb-true _ _ (both _ _ (both _ _ (each-stands x) .0) .1)
+  pub place_inside : (sentOf x).place ≤ fixedSize (sentOf x).opcode
+  place_inside = leb-true _ _ (both _ _ (both _ _ (each_stands x)).0).1
 
-  pub place-low : sentOf x .place ≤ kindAt
-  place-low = leb-true _ _ (both _ _ (each-stands x) .1)
+  pub place-low : (sentOf x).place ≤ kind_at
+  place-low = leb-true _ _ (both _ _ (each_stands x)).1
 
-  pub fixed-most : fixedSize (sentOf x .opcode) ≤ longestFixed
-  fixed-most = fixed-longest (sentOf x .opcode)
+  pub fixed-most : fixedSize (sentOf x).opcode ≤ longestFixed
+  fixed-most = fixed-longest (sentOf x).opcode
 
 -- ---- the data ----
 
-before-long : (s : Sent) → s .place ≤ kindAt → length (before s) ≡ s .place
+before-long : (s : Sent) → s.place ≤ kind_at → length (before s) ≡ s.place
 unfolding before objectHeader bytes
-before-long s h = length-take-le (s .place) (objectHeader (s .id) ++ replicate 8 0) h
+before-long s h = length-take-le s.place (objectHeader s.id ++ replicate 8 0) h
 
 -- THE LAW of the opcode rows: the fixed fields are as long as the opcode's row says
-pub fixed-long : (x : Command) → length (fixedOf (sentOf x)) ≡ fixedSize (sentOf x .opcode)
-unfolding fixedOf
+pub fixed-long : (x : Command) → length (fixed_of (sentOf x)) ≡ fixedSize (sentOf x).opcode
+unfolding fixed_of
 fixed-long x =
-    let h = place-inside x in
+    let h = place_inside x in
     rw (length-append, before-long (sentOf x) (place-low x), length-bytes) (omega arith)
 
-pub start-long : (x : Command) → length (startOf x) ≡ dataAt + fixedSize (sentOf x .opcode)
+pub start-long : (x : Command) → length (start_of x) ≡ dataAt + fixedSize (sentOf x).opcode
 unfolding startWith
 start-long x = rw (length-request, fixed-long x)
 
-pub request-long : (x : Command) (list : List ℕ) → length (requestOf x list) ≡ dataAt + fixedSize (sentOf x .opcode) + length (listFor x list)
+pub request-long : (x : Command) (list : List ℕ) → length (requestOf x list) ≡ dataAt + fixedSize (sentOf x).opcode + length (listFor x list)
 unfolding requestOf
 request-long x list = rw (length-append, start-long x)
 
 -- ---- the list ----
 
 pub list-none : (x : Command) → listFor x [] ≡ []
-unfolding listFor if_then_else_
-list-none x = by-cases (opcodeRow (sentOf x .opcode) .listed) (λ e. rw e) (λ e. rw e)
+unfolding listFor if◌then◌else◌
+list-none x = by_cases (opcodeRow (sentOf x).opcode).listed (λ e. rw e) (λ e. rw e)
 
-pub list-given : (x : Command) (list : List ℕ) → opcodeRow (sentOf x .opcode) .listed ≡ true → listFor x list ≡ list
-unfolding listFor if_then_else_
+pub list-given : (x : Command) (list : List ℕ) → (opcodeRow (sentOf x).opcode).listed ≡ true → listFor x list ≡ list
+unfolding listFor if◌then◌else◌
 list-given x list e = rw e

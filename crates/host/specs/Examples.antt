@@ -1,16 +1,13 @@
 -- WORKED EXAMPLES of the host's half: all bytes of a request of each command, and replies that are read and refused. What
 -- no card looks at, such as a reserved byte, and what no card sends, such as a status of its own, shows here alone.
 -- Assumes nothing.
-use mathlib.Core.Path.{_≡_}
-use mathlib.Core.List.{List, [], _∷_, _++_, map}
-use Prim.Native.Nat.{ℕ}
-use lib.ListN.{replicate}
-use Rattle·host·specs.specs.declared.Command.{Command}
-use Rattle·host·specs.specs.declared.Command.the-variants.{ListQuery, ListUse, Create, Modify, Query, Destroy, Metadata, Get, Set, SetMode}
-use Rattle·host·specs.specs.declared.Outcome.{Outcome}
-use Rattle·host·specs.specs.declared.Outcome.the-variants.{Refused}
-use Rattle·host·specs.specs.Request.{requestOf}
-use Rattle·host·specs.specs.Reply.{answered, readReply}
+use Rattle.std.specs.Prelude.{◌≡◌, List, [], ◌∷◌, ◌++◌, map, ℕ, replicate}
+use Rattle.host.specs.declared.Command.{Command}
+use Rattle.host.specs.declared.Command.TheVariants.{ListQuery, ListUse, Create, Modify, Query, Destroy, Metadata, Get, Set, SetMode}
+use Rattle.host.specs.declared.Outcome.{Outcome}
+use Rattle.host.specs.declared.Outcome.TheVariants.{Refused}
+use Rattle.host.specs.Request.{requestOf}
+use Rattle.host.specs.Reply.{answered, readReply}
 
 abbrev pub zeros : ℕ → List ℕ
 zeros n = replicate n 0
@@ -60,7 +57,7 @@ requests =
     ∷ []
 
 abbrev pub RequestsBuilt : Type 0
-RequestsBuilt = map (λ (b : Built). requestOf (b .command) (b .list)) requests ≡ map (λ (b : Built). b .bytes) requests
+RequestsBuilt = map (λ (b : Built). requestOf b.command b.list) requests ≡ map (λ (b : Built). b.bytes) requests
 
 -- ---- replies ----
 
@@ -121,4 +118,4 @@ replies =
     ∷ []
 
 abbrev pub RepliesRead : Type 0
-RepliesRead = map (λ (r : ReadBack). readReply (r .opcode) (r .type) (r .reply)) replies ≡ map (λ (r : ReadBack). r .outcome) replies
+RepliesRead = map (λ (r : ReadBack). readReply r.opcode r.type r.reply) replies ≡ map (λ (r : ReadBack). r.outcome) replies

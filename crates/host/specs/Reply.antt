@@ -1,20 +1,16 @@
 -- A reply read as the answer to the command sent: SPEC 3, 4 and 13.1. Assumes nothing.
-use mathlib.Core.Bool.{Bool}
-use mathlib.Core.List.{List}
-use Prim.Native.Nat.{ℕ, _+_, _*_}
-use lib.Dec.{leb, eqb}
-use lib.ListN.{length, drop}
-use Rattle·theory.specs.Logic.{if_then_else_, unless_answer_then_, _or_}
-use Rattle·wire.specs.Le.{number}
-use Rattle·protocol.specs.Opcodes.{supported}
-use Rattle·inventory.specs.Header.{headerSize}
-use Rattle·parts.specs.declared.ListForm.the-variants.{Parts}
-use Rattle·parts.specs.List.{partsOf, whole}
-use Rattle·reply.specs.Reply.{headSize}
-use Rattle·host·specs.specs.declared.ResultForm.{ResultForm}
-use Rattle·host·specs.specs.declared.ResultForm.the-variants.{Exactly, Counted, WholeParts}
-use Rattle·host·specs.specs.declared.Outcome.{Outcome}
-use Rattle·host·specs.specs.declared.Outcome.the-variants.{Refused, Answered}
+use Rattle.std.specs.Prelude.{Bool, List, ℕ, ◌+◌, ◌*◌, leb, eqb, length, drop}
+use Rattle.theory.specs.Logic.{if◌then◌else◌, unless◌answer◌then◌, ◌or◌}
+use Rattle.wire.specs.Le.{number}
+use Rattle.protocol.specs.Opcodes.{supported}
+use Rattle.inventory.specs.Header.{headerSize}
+use Rattle.parts.specs.declared.ListForm.TheVariants.{Parts}
+use Rattle.parts.specs.List.{parts_of, whole}
+use Rattle.reply.specs.Reply.{headSize}
+use Rattle.host.specs.declared.ResultForm.{ResultForm}
+use Rattle.host.specs.declared.ResultForm.TheVariants.{Exactly, Counted, WholeParts}
+use Rattle.host.specs.declared.Outcome.{Outcome}
+use Rattle.host.specs.declared.Outcome.TheVariants.{Refused, Answered}
 
 -- ---- the length of a reply ----
 
@@ -30,8 +26,8 @@ resultIn r = drop headSize r
 
 -- how long the result of a success is. what is the type byte of a metadata command, of which 2 asks for a list; it is
 -- not read with another command
-unfoldable pub formOf : ℕ → ℕ → ResultForm
-formOf op what =
+unfoldable pub form_of : ℕ → ℕ → ResultForm
+form_of op what =
     if eqb op 0x00 then Exactly 8 else
     if eqb op 0x0c then Exactly 8 else
     if eqb op 0x0e then (if eqb what 2 then Counted else Exactly 8) else
@@ -46,7 +42,7 @@ countFits x = eqb (length x) (8 + headerSize * number 0 4 x)
 unfoldable pub resultFits : ResultForm → List ℕ → Bool
 resultFits (Exactly n) x = eqb (length x) n
 resultFits Counted x = countFits x
-resultFits WholeParts x = whole (partsOf Parts x)
+resultFits WholeParts x = whole (parts_of Parts x)
 
 -- a success has a result of its form, any other status none
 unfoldable pub lengthRight : ResultForm → ℕ → List ℕ → Bool
@@ -72,8 +68,8 @@ abbrev pub answered : ℕ → ℕ → ℕ → ℕ → Outcome
 answered status qualifier sentStatus sentQualifier = Answered (record {
   status = status;
   qualifier = qualifier;
-  «sent_status» = sentStatus;
-  «sent_qualifier» = sentQualifier;
+  sent_status = sentStatus;
+  sent_qualifier = sentQualifier;
 })
 
 -- refused is a reply under 8 bytes or of the wrong length for its command and status; an opcode that is none of the ten
@@ -82,5 +78,5 @@ unfoldable pub readReply : ℕ → ℕ → List ℕ → Outcome
 readReply op what r =
     unless supported op answer Refused then
     unless leb headSize (length r) answer Refused then
-    unless lengthRight (formOf op what) (statusIn r) r answer Refused then
+    unless lengthRight (form_of op what) (statusIn r) r answer Refused then
     answered (handledStatus (statusIn r)) (handledQualifier (qualifierIn r)) (statusIn r) (qualifierIn r)

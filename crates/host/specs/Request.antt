@@ -1,17 +1,13 @@
 -- A command by its fields, and the bytes of its request: SPEC 3, 4 and 13.1. Assumes nothing.
-use mathlib.Core.Path.{_≡_}
-use mathlib.Core.List.{List, [], _++_}
-use Prim.Native.Nat.{ℕ, _+_, _-_, _≤_}
-use lib.Dec.{leb}
-use lib.ListN.{length, take, replicate}
-use Rattle·theory.specs.Logic.{if_then_else_, unless_answer_then_, _and_}
-use Rattle·theory.specs.Bytes.{put}
-use Rattle·wire.specs.Le.{bytes}
-use Rattle·protocol.specs.Opcodes.{opcodeRow, fixedSize}
-use Rattle·frame.specs.Frame.{dataAt, longest, objectSize, flagsAt, kindAt, typeAt}
-use Rattle·host·specs.specs.declared.Command.{Command}
-use Rattle·host·specs.specs.declared.Command.the-variants.{ListQuery, ListUse, Create, Modify, Query, Destroy, Metadata, Get, Set, SetMode}
-use Rattle·host·specs.specs.declared.Sent.{Sent}
+use Rattle.std.specs.Prelude.{◌≡◌, List, [], ◌++◌, ℕ, ◌+◌, ◌-◌, ◌≤◌, leb, length, take, replicate}
+use Rattle.theory.specs.Logic.{if◌then◌else◌, unless◌answer◌then◌, ◌and◌}
+use Rattle.theory.specs.Bytes.{put}
+use Rattle.wire.specs.Le.{bytes}
+use Rattle.protocol.specs.Opcodes.{opcodeRow, fixedSize}
+use Rattle.frame.specs.Frame.{dataAt, longest, objectSize, flagsAt, kind_at, type_at}
+use Rattle.host.specs.declared.Command.{Command}
+use Rattle.host.specs.declared.Command.TheVariants.{ListQuery, ListUse, Create, Modify, Query, Destroy, Metadata, Get, Set, SetMode}
+use Rattle.host.specs.declared.Sent.{Sent}
 
 -- ---- the fields of each command ----
 
@@ -24,12 +20,12 @@ sent op m id place x = record { opcode = op; member = m; id = id; place = place;
 unfoldable pub sentOf : Command → Sent
 sentOf ListQuery = sent 0x00 0 0 0 0
 sentOf (ListUse mask) = sent 0x01 0 0 0 mask
-sentOf (Create m id kind) = sent 0x0a m id kindAt kind
-sentOf (Modify m id kind) = sent 0x0b m id kindAt kind
+sentOf (Create m id kind) = sent 0x0a m id kind_at kind
+sentOf (Modify m id kind) = sent 0x0b m id kind_at kind
 sentOf (Query m id) = sent 0x0c m id flagsAt 0
 sentOf (Destroy m id) = sent 0x0d m id objectSize 0
-sentOf (Metadata m id what) = sent 0x0e m id typeAt what
-sentOf (Get m id which) = sent 0x0f m id typeAt which
+sentOf (Metadata m id what) = sent 0x0e m id type_at what
+sentOf (Get m id which) = sent 0x0f m id type_at which
 sentOf (Set m id) = sent 0x10 m id objectSize 0
 sentOf (SetMode m mode) = sent 0x11 m 0 0 mode
 
@@ -41,15 +37,15 @@ objectHeader id = replicate 4 0 ++ bytes 4 id
 
 -- what stands before the last field: the object header and flags of 0, as far as they reach
 unfoldable pub before : Sent → List ℕ
-before s = take (s .place) (objectHeader (s .id) ++ replicate 8 0)
+before s = take s.place (objectHeader s.id ++ replicate 8 0)
 
 -- the fixed fields, as long as the opcode's row says; what 01 does not read is zero
-unfoldable pub fixedOf : Sent → List ℕ
-fixedOf s = before s ++ bytes (fixedSize (s .opcode) - s .place) (s .value)
+unfoldable pub fixed_of : Sent → List ℕ
+fixed_of s = before s ++ bytes (fixedSize s.opcode - s.place) s.value
 
 -- the list goes in as given, where one follows
 unfoldable pub listFor : Command → List ℕ → List ℕ
-listFor command list = if opcodeRow (sentOf command .opcode) .listed then list else []
+listFor command list = if (opcodeRow (sentOf command).opcode).listed then list else []
 
 -- opcode 2 bytes, group type 2, reserved 12, member 8, data
 unfoldable pub request : ℕ → ℕ → ℕ → List ℕ → List ℕ
@@ -57,13 +53,13 @@ request op group m d = bytes 2 op ++ (bytes 2 group ++ (replicate 12 0 ++ (bytes
 
 -- the frame and the fixed fields
 unfoldable pub startWith : Sent → List ℕ
-startWith s = request (s .opcode) 1 (s .member) (fixedOf s)
+startWith s = request s.opcode 1 s.member (fixed_of s)
 
-abbrev pub startOf : Command → List ℕ
-startOf command = startWith (sentOf command)
+abbrev pub start_of : Command → List ℕ
+start_of command = startWith (sentOf command)
 
 unfoldable pub requestOf : Command → List ℕ → List ℕ
-requestOf command list = startOf command ++ listFor command list
+requestOf command list = start_of command ++ listFor command list
 
 -- the two requests of demand 2's round trip: all parts through a get object, and a list of parts through a set object
 abbrev pub getAll : ℕ → ℕ → List ℕ
@@ -84,7 +80,7 @@ built command list buffer = begun (length (requestOf command list)) (requestOf c
 
 -- what the code that writes the start asks: it is told the length of the fixed fields
 pub record StartFits (s : Sent) (fixed : ℕ) (buffer : List ℕ) : Type 0 where
-  pub told : fixed ≡ fixedSize (s .opcode)
-  pub inside : s .place ≤ fixed
-  pub object : s .place ≤ kindAt
+  pub told : fixed ≡ fixedSize s.opcode
+  pub inside : s.place ≤ fixed
+  pub object : s.place ≤ kind_at
   pub room : dataAt + fixed ≤ length buffer

@@ -1,25 +1,17 @@
 // The host's half: the request of a command from its fields, and a reply read as the answer to the command sent.
-ghost use mathlib.Core.Path.{_≡_};
-ghost use mathlib.Core.Bool.{true};
-ghost use mathlib.Core.List.{[]};
-ghost use Prim.Native.Nat.{_+_, _≤_};
-ghost use lib.ListN.{length};
-ghost use Rattle·theory.specs.Bytes.{put};
-ghost use Rattle·protocol.specs.Opcodes.{opcodeRow};
-ghost use Rattle·reply.specs.Reply.{headSize};
-ghost use Rattle·host·specs.specs.Request.{sent, sentOf, startWith, startOf, StartFits, begun, built};
-ghost use Rattle·host·specs.specs.Reply.{resultIn, formOf, countFits, resultFits, lengthRight, knownStatus, handledStatus, handledQualifier, readReply};
-use frame::DATA_AT;
-use frame::FLAGS_AT;
-use frame::KIND_AT;
-use frame::LONGEST;
-use frame::MEMBER_AT;
-use frame::OBJECT_SIZE;
-use frame::TYPE_AT;
+ghost use Rattle.std.specs.Prelude.{◌≡◌, true, [], ◌+◌, ◌≤◌, length};
+ghost use Rattle.theory.specs.Bytes.{put};
+ghost use Rattle.protocol.specs.Opcodes.{opcodeRow};
+ghost use Rattle.reply.specs.Reply.{headSize};
+ghost use Rattle.host.specs.Request.{sent, sentOf, startWith, start_of, StartFits, begun, built};
+ghost use Rattle.host.specs.Reply.{resultIn, form_of, countFits, resultFits, lengthRight, knownStatus, handledStatus, handledQualifier, readReply};
+
+use frame::{DATA_AT, FLAGS_AT, KIND_AT, LONGEST, MEMBER_AT, OBJECT_SIZE, TYPE_AT};
 use parts::ListForm;
 
 // A command by its fields: a member, an object id, and a kind, type or mode byte, or a mask. The list that parts get and
 // parts set have stands beside it.
+#[derive(Drop)]
 pub enum Command {
     ListQuery,
     ListUse(u64),
@@ -35,6 +27,7 @@ pub enum Command {
 
 // What a command puts into its request: the last field by its place in the data; before it stands the object header
 // with the id, if anything.
+#[derive(Drop)]
 struct Sent {
     opcode: u16,
     member: u64,
@@ -44,6 +37,7 @@ struct Sent {
 }
 
 // How long the result of a success is: so many bytes; a count and as many headers; whole parts.
+#[derive(Drop)]
 pub enum ResultForm {
     Exactly(usize),
     Counted,
@@ -51,6 +45,7 @@ pub enum ResultForm {
 }
 
 // Status and qualifier to act on, and both as they were sent.
+#[derive(Drop)]
 pub struct Head {
     pub status: u16,
     pub qualifier: u16,
@@ -59,13 +54,14 @@ pub struct Head {
 }
 
 // Refused is a reply under 8 bytes or of the wrong length for its command and status, and one to no command.
+#[derive(Drop)]
 pub enum Outcome {
     Refused,
     Answered(Head),
 }
 
 fn fields(opcode: u16, member: u64, id: u32, place: usize, value: u64) -> Sent
-    ensures { λ r. ⌜ r ≡ sent opcode member id place value ⌝ }
+    ensures { result ≡ sent opcode member id place value }
 {
     Sent {
         opcode: opcode,
@@ -77,7 +73,7 @@ fn fields(opcode: u16, member: u64, id: u32, place: usize, value: u64) -> Sent
 }
 
 fn sent_of(command: Command) -> Sent
-    ensures { λ r. ⌜ r ≡ sentOf command ⌝ }
+    ensures { result ≡ sentOf command }
 {
     match command {
         Command::ListQuery => fields(0x00, 0, 0, 0, 0),
@@ -95,8 +91,8 @@ fn sent_of(command: Command) -> Sent
 
 // The frame and the fixed fields, in as many bytes as they have.
 fn write_start(out: &mut [u8], s: Sent, fixed: usize)
-    requires { ⌜ StartFits s fixed (now out) ⌝ }
-    ensures { λ _. ⌜ now (out .exit) ≡ put 0 (startWith s) (now (out .entry)) ⌝ }
+    requires { StartFits s fixed out.old }
+    ensures { out.new ≡ put 0 (startWith s) out.old }
 {
     wire::write(out, 0, MEMBER_AT, 0x10000 + s.opcode as u64);
     wire::write(out, MEMBER_AT, 8, s.member);
@@ -106,7 +102,7 @@ fn write_start(out: &mut [u8], s: Sent, fixed: usize)
 
 // The start of a request, and its length with a list of so many bytes behind it; 0 where that is too long.
 fn begin(out: &mut [u8], command: Command, list: usize) -> usize
-    ensures { λ r. ⌜ (r, now (out .exit)) ≡ begun (length (startOf command) + list) (startOf command) (now (out .entry)) ⌝ }
+    ensures { (result, out.new) ≡ begun (length (start_of command) + list) (start_of command) out.old }
 {
     let s = sent_of(command);
     let fixed = protocol::fixed_size(s.opcode as usize);
@@ -122,8 +118,8 @@ fn begin(out: &mut [u8], command: Command, list: usize) -> usize
 }
 
 fn with_list(out: &mut [u8], command: Command, list: &[u8]) -> usize
-    requires { ⌜ opcodeRow (sentOf command .opcode) .listed ≡ true ⌝ }
-    ensures { λ r. ⌜ (r, now (out .exit)) ≡ built command (now (list .entry)) (now (out .entry)) ⌝ }
+    requires { (opcodeRow (sentOf command).opcode).listed ≡ true }
+    ensures { (result, out.new) ≡ built command list.now out.old }
 {
     let n = begin(out, command, list.len());
     if n == 0 {
@@ -136,64 +132,64 @@ fn with_list(out: &mut [u8], command: Command, list: &[u8]) -> usize
 // Each builder writes the request of its command at the front of `out` and answers its length; 0, with nothing written,
 // where it is over 4,096 bytes or too long for `out`. Numbers go in as given.
 pub fn list_query(out: &mut [u8]) -> usize
-    ensures { λ r. ⌜ (r, now (out .exit)) ≡ built Command.ListQuery [] (now (out .entry)) ⌝ }
+    ensures { (result, out.new) ≡ built Command.ListQuery [] out.old }
 {
     begin(out, Command::ListQuery, 0)
 }
 
 pub fn list_use(out: &mut [u8], mask: u64) -> usize
-    ensures { λ r. ⌜ (r, now (out .exit)) ≡ built (Command.ListUse mask) [] (now (out .entry)) ⌝ }
+    ensures { (result, out.new) ≡ built (Command.ListUse mask) [] out.old }
 {
     begin(out, Command::ListUse(mask), 0)
 }
 
 pub fn create(out: &mut [u8], member: u64, id: u32, kind: u8) -> usize
-    ensures { λ r. ⌜ (r, now (out .exit)) ≡ built (Command.Create member id kind) [] (now (out .entry)) ⌝ }
+    ensures { (result, out.new) ≡ built (Command.Create member id kind) [] out.old }
 {
     begin(out, Command::Create(member, id, kind), 0)
 }
 
 pub fn modify(out: &mut [u8], member: u64, id: u32, kind: u8) -> usize
-    ensures { λ r. ⌜ (r, now (out .exit)) ≡ built (Command.Modify member id kind) [] (now (out .entry)) ⌝ }
+    ensures { (result, out.new) ≡ built (Command.Modify member id kind) [] out.old }
 {
     begin(out, Command::Modify(member, id, kind), 0)
 }
 
 pub fn query(out: &mut [u8], member: u64, id: u32) -> usize
-    ensures { λ r. ⌜ (r, now (out .exit)) ≡ built (Command.Query member id) [] (now (out .entry)) ⌝ }
+    ensures { (result, out.new) ≡ built (Command.Query member id) [] out.old }
 {
     begin(out, Command::Query(member, id), 0)
 }
 
 pub fn destroy(out: &mut [u8], member: u64, id: u32) -> usize
-    ensures { λ r. ⌜ (r, now (out .exit)) ≡ built (Command.Destroy member id) [] (now (out .entry)) ⌝ }
+    ensures { (result, out.new) ≡ built (Command.Destroy member id) [] out.old }
 {
     begin(out, Command::Destroy(member, id), 0)
 }
 
 // what: 0 size, 1 count, 2 list.
 pub fn metadata(out: &mut [u8], member: u64, id: u32, what: u8) -> usize
-    ensures { λ r. ⌜ (r, now (out .exit)) ≡ built (Command.Metadata member id what) [] (now (out .entry)) ⌝ }
+    ensures { (result, out.new) ≡ built (Command.Metadata member id what) [] out.old }
 {
     begin(out, Command::Metadata(member, id, what), 0)
 }
 
 // which: 0 the parts whose headers are given, 1 all.
 pub fn get(out: &mut [u8], member: u64, id: u32, which: u8, headers: &[u8]) -> usize
-    ensures { λ r. ⌜ (r, now (out .exit)) ≡ built (Command.Get member id which) (now (headers .entry)) (now (out .entry)) ⌝ }
+    ensures { (result, out.new) ≡ built (Command.Get member id which) headers.now out.old }
 {
     with_list(out, Command::Get(member, id, which), headers)
 }
 
 pub fn set(out: &mut [u8], member: u64, id: u32, list: &[u8]) -> usize
-    ensures { λ r. ⌜ (r, now (out .exit)) ≡ built (Command.Set member id) (now (list .entry)) (now (out .entry)) ⌝ }
+    ensures { (result, out.new) ≡ built (Command.Set member id) list.now out.old }
 {
     with_list(out, Command::Set(member, id), list)
 }
 
 // mode: 1 stops, 0 resumes.
 pub fn set_mode(out: &mut [u8], member: u64, mode: u8) -> usize
-    ensures { λ r. ⌜ (r, now (out .exit)) ≡ built (Command.SetMode member mode) [] (now (out .entry)) ⌝ }
+    ensures { (result, out.new) ≡ built (Command.SetMode member mode) [] out.old }
 {
     begin(out, Command::SetMode(member, mode), 0)
 }
@@ -202,7 +198,7 @@ pub fn set_mode(out: &mut [u8], member: u64, mode: u8) -> usize
 
 // what is the type byte of a metadata command, of which 2 asks for a list.
 fn form_of(op: u16, what: u8) -> ResultForm
-    ensures { λ r. ⌜ r ≡ formOf op what ⌝ }
+    ensures { result ≡ form_of op what }
 {
     if op == 0x00 {
         return ResultForm::Exactly(8);
@@ -222,37 +218,37 @@ fn form_of(op: u16, what: u8) -> ResultForm
     ResultForm::Exactly(0)
 }
 
-fn count_fits(result: &[u8]) -> bool
-    ensures { λ r. ⌜ r ≡ countFits (now (result .entry)) ⌝ }
+fn count_fits(res: &[u8]) -> bool
+    ensures { result ≡ countFits res.now }
 {
-    if result.len() < 8 {
+    if res.len() < 8 {
         return false;
     }
-    let count = wire::read_u32(result, 0) as usize;
-    result.len() == 8 + inventory::HEADER_SIZE * count
+    let count = wire::read_u32(res, 0) as usize;
+    res.len() == 8 + inventory::HEADER_SIZE * count
 }
 
-fn result_fits(form: ResultForm, result: &[u8]) -> bool
-    ensures { λ r. ⌜ r ≡ resultFits form (now (result .entry)) ⌝ }
+fn result_fits(form: ResultForm, res: &[u8]) -> bool
+    ensures { result ≡ resultFits form res.now }
 {
     match form {
-        ResultForm::Exactly(n) => result.len() == n,
-        ResultForm::Counted => count_fits(result),
-        ResultForm::WholeParts => parts::is_whole(ListForm::Parts, result),
+        ResultForm::Exactly(n) => res.len() == n,
+        ResultForm::Counted => count_fits(res),
+        ResultForm::WholeParts => parts::is_whole(ListForm::Parts, res),
     }
 }
 
 // The result of a reply, as a part of it.
 pub fn result(reply: &[u8]) -> &[u8]
-    requires { ⌜ headSize ≤ length (now reply) ⌝ }
-    ensures { λ r. ⌜ now r ≡ resultIn (now (reply .entry)) ⌝ }
+    requires { headSize ≤ length reply.now }
+    ensures { result.now ≡ resultIn reply.now }
 {
     &reply[reply::HEAD_SIZE..]
 }
 
 fn length_right(form: ResultForm, status: u16, reply: &[u8]) -> bool
-    requires { ⌜ headSize ≤ length (now reply) ⌝ }
-    ensures { λ r. ⌜ r ≡ lengthRight form status (now (reply .entry)) ⌝ }
+    requires { headSize ≤ length reply.now }
+    ensures { result ≡ lengthRight form status reply.now }
 {
     if status == 0 {
         return result_fits(form, result(reply));
@@ -261,25 +257,25 @@ fn length_right(form: ResultForm, status: u16, reply: &[u8]) -> bool
 }
 
 fn known_status(n: u16) -> bool
-    ensures { λ r. ⌜ r ≡ knownStatus n ⌝ }
+    ensures { result ≡ knownStatus n }
 {
     (n == 0) | (n == 6) | (n == 11) | (n == 12) | (n == 17) | (n == 22) | (n == 28)
 }
 
 fn handled_status(n: u16) -> u16
-    ensures { λ r. ⌜ r ≡ handledStatus n ⌝ }
+    ensures { result ≡ handledStatus n }
 {
     if known_status(n) { n } else { 22 }
 }
 
 fn handled_qualifier(n: u16) -> u16
-    ensures { λ r. ⌜ r ≡ handledQualifier n ⌝ }
+    ensures { result ≡ handledQualifier n }
 {
     if n <= 7 { n } else { 1 }
 }
 
 pub fn read_reply(op: u16, what: u8, reply: &[u8]) -> Outcome
-    ensures { λ r. ⌜ r ≡ readReply op what (now (reply .entry)) ⌝ }
+    ensures { result ≡ readReply op what reply.now }
 {
     if !protocol::supported(op as usize) {
         return Outcome::Refused;

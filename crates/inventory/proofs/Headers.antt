@@ -1,25 +1,25 @@
 -- The header of a row's part, as the code makes it and as it is read back. Assumes nothing.
-use mathlib.Core.Path.{_≡_, refl, ap, sym, _∙_}
+use mathlib.Core.Path.{◌≡◌, refl, ap, sym, ◌∙◌}
 use mathlib.Core.Bool.{Bool, true, false}
-use mathlib.Core.List.{List, [], _∷_, _++_, append-assoc}
-use Prim.Native.Nat.{ℕ, _+_, _*_, _≤_, _<_, _^_}
+use mathlib.Core.List.{List, [], ◌∷◌, ◌++◌, append_assoc}
+use Prim.Native.Nat.{ℕ, ◌+◌, ◌*◌, ◌≤◌, ◌<◌, ◌^◌}
 use native.Mathlib.Omega.{arith}
-use mir.Val.{boolByte}
+use mir.Val.{bool_byte}
 use lib.Dec.{eqb}
-use lib.ListN.{getD}
-use Rattle·theory.specs.Logic.{indicator}
-use Rattle·theory.specs.Bytes.{put}
-use Rattle·theory.proofs.Tests.{bool-byte, indicator-le}
-use Rattle·theory.proofs.Bytes.{put-append, put-comm}
-use Rattle·wire.specs.Le.{bytes, number}
-use Rattle·wire.proofs.Le.{le-bytes, bytes-append}
-use Rattle·inventory·specs.specs.Inventory.{row, rowAt, rowCount, deviceFeatures}
-use Rattle·inventory·specs.specs.Header.{flagsAt, selectorAt, lengthAt, headerOf, flagsOf}
-use Rattle·inventory·proofs.proofs.Rules.{type-below, selector-below, size-below}
+use lib.ListN.{get_or}
+use Rattle.theory.specs.Logic.{indicator}
+use Rattle.theory.specs.Bytes.{put}
+use Rattle.theory.proofs.Tests.{bool-byte, indicator-le}
+use Rattle.theory.proofs.Bytes.{put-append, put-comm}
+use Rattle.wire.specs.Le.{bytes, number}
+use Rattle.wire.proofs.Le.{le_bytes, bytes-append}
+use Rattle.inventory.specs.Inventory.{row, row_at, rowCount, deviceFeatures}
+use Rattle.inventory.specs.Header.{flagsAt, selectorAt, length_at, headerOf, flags_of}
+use Rattle.inventory.proofs.Rules.{type-below, selector-below, size_below}
 
 -- ---- made of two words ----
 
-pub flags-low : (b : Bool) → boolByte b ≤ 1
+pub flags-low : (b : Bool) → bool_byte b ≤ 1
 flags-low b = rw (bool-byte b) (indicator-le b)
 
 flags-two : (b : Bool) → bytes 2 (indicator b) ≡ indicator b ∷ 0 ∷ []
@@ -31,20 +31,20 @@ module _ (t s n : ℕ) (h : t < 2 ^ 16) (k : s < 2 ^ 32) where
   abbrev flags : ℕ
   flags = indicator (eqb t deviceFeatures)
 
-  first-word : bytes 8 (t + 2 ^ 16 * (flags + 2 ^ 16 * s)) ≡ bytes 2 t ++ (flags ∷ 0 ∷ bytes 4 s)
-  first-word =
+  first_word : bytes 8 (t + 2 ^ 16 * (flags + 2 ^ 16 * s)) ≡ bytes 2 t ++ (flags ∷ 0 ∷ bytes 4 s)
+  first_word =
       bytes-append 2 6 t (flags + 2 ^ 16 * s) h
-      ∙ ap (bytes 2 t ++_) (bytes-append 2 4 flags s (omega (arith, indicator-le (eqb t deviceFeatures))) ∙ rw (flags-two (eqb t deviceFeatures)))
+      ∙ ap (bytes 2 t ++◌) (bytes-append 2 4 flags s (omega (arith, indicator-le (eqb t deviceFeatures))) ∙ rw (flags-two (eqb t deviceFeatures)))
 
-  second-word : bytes 8 (2 ^ 32 * n) ≡ bytes 4 0 ++ bytes 4 n
-  second-word = ap (bytes 8) (omega arith) ∙ bytes-append 4 4 0 n (omega arith)
+  second_word : bytes 8 (2 ^ 32 * n) ≡ bytes 4 0 ++ bytes 4 n
+  second_word = ap (bytes 8) (omega arith) ∙ bytes-append 4 4 0 n (omega arith)
 
   selector-wide : bytes 8 s ≡ bytes 4 s ++ bytes 4 0
   selector-wide = ap (bytes 8) (omega arith) ∙ bytes-append 4 4 s 0 (omega arith)
 
-  header-is : bytes 8 (t + 2 ^ 16 * (flags + 2 ^ 16 * s)) ++ bytes 8 (2 ^ 32 * n) ≡ headerOf (row t s n)
+  header_is : bytes 8 (t + 2 ^ 16 * (flags + 2 ^ 16 * s)) ++ bytes 8 (2 ^ 32 * n) ≡ headerOf (row t s n)
   unfolding headerOf
-  header-is = rw (first-word, second-word, selector-wide) (simp append-assoc)
+  header_is = rw (first_word, second_word, selector-wide) (simp append_assoc)
 
   pub header-put : (at : ℕ) (out out₁ out₂ : List ℕ) (w : ℕ) → w ≡ t + 2 ^ 16 * (flags + 2 ^ 16 * s)
       → out₁ ≡ put (at + 8) (bytes 8 (2 ^ 32 * n)) out → out₂ ≡ put at (bytes 8 w) out₁ → out₂ ≡ put at (headerOf (row t s n)) out
@@ -52,23 +52,23 @@ module _ (t s n : ℕ) (h : t < 2 ^ 16) (k : s < 2 ^ 32) where
   header-put at out out₁ out₂ w e p q =
       let x = bytes 8 (t + 2 ^ 16 * (flags + 2 ^ 16 * s)) in
       let y = bytes 8 (2 ^ 32 * n) in
-      q ∙ rw (p, e, ← header-is) (put-comm at x (at + 8) y out (omega arith) ∙ sym (put-append at x y out))
+      q ∙ rw (p, e, ← header_is) (put-comm at x (at + 8) y out (omega arith) ∙ sym (put-append at x y out))
 
 -- ---- read back from the front of a list ----
 
 module _ (i : ℕ) (h : i < rowCount) (rest : List ℕ) where
-  pub read-type : number 0 2 (headerOf (rowAt i) ++ rest) ≡ rowAt i .partType
+  pub read-type : number 0 2 (headerOf (row_at i) ++ rest) ≡ (row_at i).partType
   unfolding headerOf bytes number
-  read-type = le-bytes 2 (rowAt i .partType) (type-below i h)
+  read-type = le_bytes 2 (row_at i).partType (type-below i h)
 
-  pub read-flags : getD (headerOf (rowAt i) ++ rest) flagsAt 0 ≡ flagsOf (rowAt i)
+  pub read_flags : get_or (headerOf (row_at i) ++ rest) flagsAt 0 ≡ flags_of (row_at i)
   unfolding headerOf bytes
-  read-flags = refl
+  read_flags = refl
 
-  pub read-selector : number selectorAt 8 (headerOf (rowAt i) ++ rest) ≡ rowAt i .selector
+  pub read-selector : number selectorAt 8 (headerOf (row_at i) ++ rest) ≡ (row_at i).selector
   unfolding headerOf bytes number
-  read-selector = le-bytes 8 (rowAt i .selector) (omega (arith, selector-below i h))
+  read-selector = le_bytes 8 (row_at i).selector (omega (arith, selector-below i h))
 
-  pub read-size : number lengthAt 4 (headerOf (rowAt i) ++ rest) ≡ rowAt i .size
+  pub read-size : number length_at 4 (headerOf (row_at i) ++ rest) ≡ (row_at i).size
   unfolding headerOf bytes number
-  read-size = le-bytes 4 (rowAt i .size) (omega (arith, size-below i h))
+  read-size = le_bytes 4 (row_at i).size (omega (arith, size_below i h))

@@ -1,32 +1,32 @@
 -- Rules of the whole inventory: each is one test that antt computes over the table. Assumes nothing.
-use mathlib.Core.Path.{_≡_, refl}
+use mathlib.Core.Path.{◌≡◌, refl}
 use mathlib.Core.Bool.{Bool, true, not}
-use mathlib.Core.List.{List, [], _∷_}
-use Prim.Native.Nat.{ℕ, _+_, _<_, _≤_, _^_}
+use mathlib.Core.List.{List, [], ◌∷◌}
+use Prim.Native.Nat.{ℕ, ◌+◌, ◌<◌, ◌≤◌, ◌^◌}
 use borrow.Author.Tests.{eqb-true, ltb-true, leb-true, lt-leb, eq-eqb}
 use lib.Dec.{leb, ltb, eqb}
 use lib.ListN.{length}
-use Rattle·theory.specs.Logic.{_and_, _or_, indicator, if_then_else_}
-use Rattle·theory.proofs.Table.{every, at}
-use Rattle·wire.specs.Le.{bytes}
-use Rattle·inventory·specs.specs.Inventory.{Row, row, rows, rowAt, rowCount, featuresRow, deviceFeatures, featuresSize, present, offsetOf, valuesSize, selectorOf, isRow, seek, placeOf}
-use Rattle·inventory·specs.specs.Header.{headerOf, headerSize}
+use Rattle.theory.specs.Logic.{◌and◌, ◌or◌, indicator, if◌then◌else◌}
+use Rattle.theory.proofs.Table.{every, at}
+use Rattle.wire.specs.Le.{bytes}
+use Rattle.inventory.specs.Inventory.{Row, row, rows, row_at, rowCount, featuresRow, deviceFeatures, featuresSize, present, offset_of, valuesSize, selectorOf, is_row, seek, place_of}
+use Rattle.inventory.specs.Header.{headerOf, headerSize}
 
 -- what computes where a proof says `unfolding table`
 unfoldable pub table : Unit {0}
-unfolding rows rowAt present offsetOf selectorOf isRow seek placeOf every _and_ _or_ indicator if_then_else_
+unfolding rows row_at present offset_of selectorOf is_row seek place_of every ◌and◌ ◌or◌ indicator if◌then◌else◌
 table = tt
 
 -- ---- the numbers of the table ----
 
-row-count : length rows ≡ rowCount
+row_count : length rows ≡ rowCount
 unfolding rows
-row-count = refl
+row_count = refl
 
 -- a test of each row and its index holds at each
-pub every-row : (f : ℕ → Row → Bool) → every f 0 rows ≡ true → (i : ℕ) → i < rowCount → f i (rowAt i) ≡ true
-unfolding rowAt
-every-row f t i h = at f (row 0 0 0) rows t i (rw row-count h)
+pub every-row : (f : ℕ → Row → Bool) → every f 0 rows ≡ true → (i : ℕ) → i < rowCount → f i (row_at i) ≡ true
+unfolding row_at
+every-row f t i h = at f (row 0 0 0) rows t i (rw row_count h)
 
 -- and of each queue count
 abbrev counts : List ℕ
@@ -38,54 +38,54 @@ every-count f t q h = at (λ q x. f q) 0 counts t q h
 -- ---- numbers of a row ----
 
 module _ (i : ℕ) (h : i < rowCount) where
-  pub type-below : rowAt i .partType < 2 ^ 16
+  pub type-below : (row_at i).partType < 2 ^ 16
   unfolding table
-  type-below = ltb-true _ _ (every-row (λ k r. ltb (r .partType) (2 ^ 16)) refl i h)
+  type-below = ltb-true _ _ (every-row (λ k r. ltb r.partType (2 ^ 16)) refl i h)
 
-  pub selector-below : rowAt i .selector < 256
+  pub selector-below : (row_at i).selector < 256
   unfolding table
-  selector-below = ltb-true _ _ (every-row (λ k r. ltb (r .selector) 256) refl i h)
+  selector-below = ltb-true _ _ (every-row (λ k r. ltb r.selector 256) refl i h)
 
-  pub size-below : rowAt i .size < 256
+  pub size_below : (row_at i).size < 256
   unfolding table
-  size-below = ltb-true _ _ (every-row (λ k r. ltb (r .size) 256) refl i h)
+  size_below = ltb-true _ _ (every-row (λ k r. ltb r.size 256) refl i h)
 
   -- a row's selector is read whole
-  pub selector-own : selectorOf (rowAt i .partType) (rowAt i .selector) ≡ rowAt i .selector
+  pub selector-own : selectorOf (row_at i).partType (row_at i).selector ≡ (row_at i).selector
   unfolding table
-  selector-own = eqb-true _ _ (every-row (λ k r. eqb (selectorOf (r .partType) (r .selector)) (r .selector)) refl i h)
+  selector-own = eqb-true _ _ (every-row (λ k r. eqb (selectorOf r.partType r.selector) r.selector) refl i h)
 
   -- ---- places of values: running sums ----
 
-  pub offset-next : offsetOf (i + 1) ≡ offsetOf i + rowAt i .size
+  pub offset-next : offset_of (i + 1) ≡ offset_of i + (row_at i).size
   unfolding table
-  offset-next = eqb-true _ _ (every-row (λ k r. eqb (offsetOf (k + 1)) (offsetOf k + r .size)) refl i h)
+  offset-next = eqb-true _ _ (every-row (λ k r. eqb (offset_of (k + 1)) (offset_of k + r.size)) refl i h)
 
-  pub row-within : offsetOf i + rowAt i .size ≤ valuesSize
+  pub row_within : offset_of i + (row_at i).size ≤ valuesSize
   unfolding table
-  row-within = leb-true _ _ (every-row (λ k r. leb (offsetOf k + r .size) valuesSize) refl i h)
+  row_within = leb-true _ _ (every-row (λ k r. leb (offset_of k + r.size) valuesSize) refl i h)
 
   -- no two overlap
-  pub rows-apart : (j : ℕ) → j < rowCount → i < j → offsetOf i + rowAt i .size ≤ offsetOf j
+  pub rows_apart : (j : ℕ) → j < rowCount → i < j → offset_of i + (row_at i).size ≤ offset_of j
   unfolding table
-  rows-apart j l a =
-      let t = every-row (λ m s. every (λ k r. leb m k or leb (offsetOf k + r .size) (offsetOf m)) 0 rows) refl j l in
-      let u = every-row (λ k r. leb j k or leb (offsetOf k + r .size) (offsetOf j)) t i h in
+  rows_apart j l a =
+      let t = every-row (λ m s. every (λ k r. leb m k or leb (offset_of k + r.size) (offset_of m)) 0 rows) refl j l in
+      let u = every-row (λ k r. leb j k or leb (offset_of k + r.size) (offset_of j)) t i h in
       leb-true _ _ (rw (lt-leb j i a) at u)
 
   -- ---- device features ----
 
-  pub features-row : rowAt i .partType ≡ deviceFeatures → i ≡ featuresRow
+  pub features-row : (row_at i).partType ≡ deviceFeatures → i ≡ featuresRow
   unfolding table
   features-row e =
-      let t = every-row (λ k r. not (eqb (r .partType) deviceFeatures) or eqb k 0) refl i h in
+      let t = every-row (λ k r. not (eqb r.partType deviceFeatures) or eqb k 0) refl i h in
       eqb-true i 0 (rw (eq-eqb _ _ e) at t)
 
-pub row-zero : rowAt featuresRow ≡ row deviceFeatures 0 featuresSize
+pub row_zero : row_at featuresRow ≡ row deviceFeatures 0 featuresSize
 unfolding table
-row-zero = refl
+row_zero = refl
 
-pub offset-zero : offsetOf featuresRow ≡ 0
+pub offset-zero : offset_of featuresRow ≡ 0
 unfolding table
 offset-zero = refl
 

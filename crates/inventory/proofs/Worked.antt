@@ -1,38 +1,38 @@
 -- The row worked out from type and selector is the one that the search in the table finds: a law for each type, and one for
 -- every other number. Assumes nothing.
-use mathlib.Core.Path.{_≡_, refl, sym, _∙_}
-use mathlib.Core.Logic.{_≢_}
+use mathlib.Core.Path.{◌≡◌, refl, sym, ◌∙◌}
+use mathlib.Core.Logic.{◌≢◌}
 use mathlib.Core.Bool.{true, false}
-use Prim.Native.Nat.{ℕ, zero, suc, _+_, _<_, _≤_}
+use Prim.Native.Nat.{ℕ, zero, suc, ◌+◌, ◌<◌, ◌≤◌}
 use native.Mathlib.Omega.{arith}
-use borrow.Author.Tests.{eqb-true, eqb-false, ne-eqb, ltb-true, ltb-false, lt-ltb, le-ltb}
+use borrow.Author.Tests.{eqb-true, eqb-false, ne_eqb, ltb-true, ltb-false, lt-ltb, le-ltb}
 use lib.Dec.{ltb, eqb}
-use Rattle·theory.specs.Logic.{if_then_else_, _and_}
-use Rattle·theory.proofs.Tests.{by-cases}
-use Rattle·inventory·specs.specs.Inventory.{deviceFeatures, driverFeatures, pciCommon, deviceStatus, queue, queueNotify, placeOf}
-use Rattle·inventory·specs.specs.Worked.{nthOf, fieldAt, queueRows}
-use Rattle·inventory·specs.specs.declared.Place.{Place}
-use Rattle·inventory·specs.specs.declared.Place.the-variants.{At, Absent}
-use Rattle·inventory·proofs.proofs.Rules.{table}
+use Rattle.theory.specs.Logic.{if◌then◌else◌, ◌and◌}
+use Rattle.theory.proofs.Tests.{by_cases}
+use Rattle.inventory.specs.Inventory.{deviceFeatures, driverFeatures, pciCommon, deviceStatus, queue, queueNotify, place_of}
+use Rattle.inventory.specs.Worked.{nth_of, field_at, queueRows}
+use Rattle.inventory.specs.declared.Place.{Place}
+use Rattle.inventory.specs.declared.Place.TheVariants.{At, Absent}
+use Rattle.inventory.proofs.Rules.{table}
 
 -- the table's tests have the row's number first
 turned : (k n : ℕ) → n ≢ k → eqb k n ≡ false
-turned k n h = ne-eqb k n (λ e. h (sym e))
+turned k n h = ne_eqb k n (λ e. h (sym e))
 
 -- ---- the types of a queue ----
 
 -- a number below 4 is that of a queue with rows if it is that of a queue; no other one is
-below-rows : (q n : ℕ) → n < 4 → ltb n (queueRows q) ≡ ltb n q
-unfolding queueRows if_then_else_
-below-rows q n h =
-    by-cases (ltb q 4)
+below_rows : (q n : ℕ) → n < 4 → ltb n (queueRows q) ≡ ltb n q
+unfolding queueRows if◌then◌else◌
+below_rows q n h =
+    by_cases (ltb q 4)
     (λ e. rw e)
     (λ e. rw (e, lt-ltb n 4 h, lt-ltb n q (omega (arith, ltb-false q 4 e))))
 
 past-rows : (q n : ℕ) → 4 ≤ n → ltb n (queueRows q) ≡ false
-unfolding queueRows if_then_else_
+unfolding queueRows if◌then◌else◌
 past-rows q n h =
-    by-cases (ltb q 4)
+    by_cases (ltb q 4)
     (λ e. rw e (le-ltb n q (omega (arith, ltb-true q 4 e))))
     (λ e. rw e (le-ltb n 4 h))
 
@@ -45,17 +45,17 @@ among first q n =
     if eqb 3 n and ltb 3 q then At (first + 3) else
     Absent
 
-among-past : (first q n : ℕ) → 4 ≤ n → nthOf first (queueRows q) n ≡ among first q n
-unfolding among nthOf if_then_else_ _and_
+among-past : (first q n : ℕ) → 4 ≤ n → nth_of first (queueRows q) n ≡ among first q n
+unfolding among nth_of if◌then◌else◌ ◌and◌
 among-past first q n h =
     rw (past-rows q n h, turned 0 n (λ e. omega arith), turned 1 n (λ e. omega arith), turned 2 n (λ e. omega arith), turned 3 n (λ e. omega arith))
 
-among-is : (first q n : ℕ) → nthOf first (queueRows q) n ≡ among first q n
-unfolding among nthOf if_then_else_ _and_
-among-is first q zero = rw (below-rows q 0 (omega arith))
-among-is first q (suc zero) = rw (below-rows q 1 (omega arith))
-among-is first q (suc (suc zero)) = rw (below-rows q 2 (omega arith))
-among-is first q (suc (suc (suc zero))) = rw (below-rows q 3 (omega arith))
+among-is : (first q n : ℕ) → nth_of first (queueRows q) n ≡ among first q n
+unfolding among nth_of if◌then◌else◌ ◌and◌
+among-is first q zero = rw (below_rows q 0 (omega arith))
+among-is first q (suc zero) = rw (below_rows q 1 (omega arith))
+among-is first q (suc (suc zero)) = rw (below_rows q 2 (omega arith))
+among-is first q (suc (suc (suc zero))) = rw (below_rows q 3 (omega arith))
 among-is first q (suc (suc (suc (suc n)))) = among-past first q (suc (suc (suc (suc n)))) (omega arith)
 
 -- ---- a type with one row ----
@@ -63,47 +63,47 @@ among-is first q (suc (suc (suc (suc n)))) = among-past first q (suc (suc (suc (
 unfoldable alone : ℕ → ℕ → Place
 alone first n = if eqb 0 n and true then At (first + 0) else Absent
 
-alone-is : (first n : ℕ) → nthOf first 1 n ≡ alone first n
-unfolding alone nthOf if_then_else_ _and_
+alone-is : (first n : ℕ) → nth_of first 1 n ≡ alone first n
+unfolding alone nth_of if◌then◌else◌ ◌and◌
 alone-is first zero = refl
 alone-is first (suc n) = rw (le-ltb (suc n) 1 (omega arith), turned 0 (suc n) (λ e. omega arith))
 
 -- ---- what the code works out: r is what a callee answered for a type and selector ----
 
 module _ (q t n k : ℕ) (r : Place) where
-  pub in-queues : k ≡ queueRows q → r ≡ nthOf 7 k n → t ≡ queue → r ≡ placeOf q t n
+  pub in-queues : k ≡ queueRows q → r ≡ nth_of 7 k n → t ≡ queue → r ≡ place_of q t n
   unfolding among table
   in-queues e h i = h ∙ rw (e, i) (among-is 7 q n)
 
-  pub in-notifies : k ≡ queueRows q → r ≡ nthOf 11 k n → t ≡ queueNotify → r ≡ placeOf q t n
+  pub in-notifies : k ≡ queueRows q → r ≡ nth_of 11 k n → t ≡ queueNotify → r ≡ place_of q t n
   unfolding among table
   in-notifies e h i = h ∙ rw (e, i) (among-is 11 q n)
 
 module _ (q t n : ℕ) (r : Place) where
-  pub in-status : r ≡ nthOf 6 1 n → t ≡ deviceStatus → r ≡ placeOf q t n
+  pub in-status : r ≡ nth_of 6 1 n → t ≡ deviceStatus → r ≡ place_of q t n
   unfolding alone table
   in-status h i = h ∙ rw i (alone-is 6 n)
 
-  pub in-driver : r ≡ nthOf 1 1 n → t ≡ driverFeatures → r ≡ placeOf q t n
+  pub in-driver : r ≡ nth_of 1 1 n → t ≡ driverFeatures → r ≡ place_of q t n
   unfolding alone table
   in-driver h i = h ∙ rw i (alone-is 1 n)
 
-  pub in-features : r ≡ nthOf 0 1 n → t ≡ deviceFeatures → r ≡ placeOf q t n
+  pub in-features : r ≡ nth_of 0 1 n → t ≡ deviceFeatures → r ≡ place_of q t n
   unfolding alone table
   in-features h i = h ∙ rw i (alone-is 0 n)
 
-  pub in-fields : r ≡ fieldAt n → t ≡ pciCommon → r ≡ placeOf q t n
-  unfolding fieldAt table
+  pub in-fields : r ≡ field_at n → t ≡ pciCommon → r ≡ place_of q t n
+  unfolding field_at table
   in-fields h i =
       h ∙ rw i
-      (by-cases (eqb n 0) (λ e. rw (e, eqb-true n 0 e)) λ e₀.
-      by-cases (eqb n 8) (λ e. rw (e₀, e, eqb-true n 8 e)) λ e₁.
-      by-cases (eqb n 16) (λ e. rw (e₀, e₁, e, eqb-true n 16 e)) λ e₂.
-      by-cases (eqb n 22) (λ e. rw (e₀, e₁, e₂, e, eqb-true n 22 e)) λ e₃.
+      (by_cases (eqb n 0) (λ e. rw (e, eqb-true n 0 e)) λ e₀.
+      by_cases (eqb n 8) (λ e. rw (e₀, e, eqb-true n 8 e)) λ e₁.
+      by_cases (eqb n 16) (λ e. rw (e₀, e₁, e, eqb-true n 16 e)) λ e₂.
+      by_cases (eqb n 22) (λ e. rw (e₀, e₁, e₂, e, eqb-true n 22 e)) λ e₃.
       rw (e₀, e₁, e₂, e₃, turned 0 n (eqb-false n 0 e₀), turned 8 n (eqb-false n 8 e₁), turned 16 n (eqb-false n 16 e₂), turned 22 n (eqb-false n 22 e₃)))
 
 -- no other type has rows
-pub no-rows : (q t n : ℕ) → t ≢ queue → t ≢ queueNotify → t ≢ pciCommon → t ≢ deviceStatus → t ≢ driverFeatures → t ≢ deviceFeatures
-    → Absent ≡ placeOf q t n
+pub no_rows : (q t n : ℕ) → t ≢ queue → t ≢ queueNotify → t ≢ pciCommon → t ≢ deviceStatus → t ≢ driverFeatures → t ≢ deviceFeatures
+    → Absent ≡ place_of q t n
 unfolding table
-no-rows q t n a b c d e f = rw (turned _ t a, turned _ t b, turned _ t c, turned _ t d, turned _ t e, turned _ t f)
+no_rows q t n a b c d e f = rw (turned _ t a, turned _ t b, turned _ t c, turned _ t d, turned _ t e, turned _ t f)

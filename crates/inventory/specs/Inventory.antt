@@ -1,13 +1,9 @@
 -- The parts of a member and their order: SPEC 5.2 and 5.3; their selectors: SPEC 5.1. Assumes nothing.
-use mathlib.Core.Bool.{Bool}
-use mathlib.Core.List.{List, [], _∷_, map}
-use Prim.Native.Nat.{ℕ, _+_, _*_, _%_, _^_}
-use lib.Dec.{ltb, eqb}
-use lib.ListN.{getD, take}
-use Rattle·theory.specs.Logic.{if_then_else_, _and_, _or_}
-use Rattle·theory.specs.Bytes.{bytesAt}
-use Rattle·inventory·specs.specs.declared.Place.{Place}
-use Rattle·inventory·specs.specs.declared.Place.the-variants.{At, Absent}
+use Rattle.std.specs.Prelude.{Bool, List, [], ◌∷◌, map, ℕ, ◌+◌, ◌*◌, ◌%◌, ◌^◌, ltb, eqb, get_or, take}
+use Rattle.theory.specs.Logic.{if◌then◌else◌, ◌and◌, ◌or◌}
+use Rattle.theory.specs.Bytes.{bytes_at}
+use Rattle.inventory.specs.declared.Place.{Place}
+use Rattle.inventory.specs.declared.Place.TheVariants.{At, Absent}
 
 -- the types of parts
 abbrev pub deviceFeatures : ℕ
@@ -59,56 +55,56 @@ rowCount = 15
 abbrev pub featuresRow : ℕ
 featuresRow = 0
 
-unfoldable pub rowAt : ℕ → Row
-rowAt i = getD rows i (row 0 0 0)
+unfoldable pub row_at : ℕ → Row
+row_at i = get_or rows i (row 0 0 0)
 
 -- a member with so many queues has the part of a row: all but those of queues that it has not got
 unfoldable pub present : ℕ → Row → Bool
-present queues r = ltb (r .partType) queue or ltb (r .selector) queues
+present queues r = ltb r.partType queue or ltb r.selector queues
 
 -- a member's values stand one after the other, in the order of the table for four queues
 abbrev pub total : List ℕ → ℕ
 total [] = 0
 total (n ∷ ns) = n + total ns
 
-unfoldable pub offsetOf : ℕ → ℕ
-offsetOf i = total (take i (map (λ (r : Row). r .size) rows))
+unfoldable pub offset_of : ℕ → ℕ
+offset_of i = total (take i (map (λ (r : Row). r.size) rows))
 
 abbrev pub valuesSize : ℕ
 valuesSize = 205
 
 -- row i's value among them
-abbrev pub valueOf : List ℕ → ℕ → List ℕ
-valueOf values i = bytesAt (offsetOf i) (rowAt i .size) values
+abbrev pub value_of : List ℕ → ℕ → List ℕ
+value_of values i = bytes_at (offset_of i) (row_at i).size values
 
 -- how many parts a member with so many queues has, and their bytes, headers included
-abbrev pub partCount : ℕ → ℕ
-partCount queues = 7 + 2 * queues
+abbrev pub part_count : ℕ → ℕ
+part_count queues = 7 + 2 * queues
 
 abbrev pub partsSize : ℕ → ℕ
 partsSize queues = 157 + 72 * queues
 
 -- the n low bytes of a number, as a number
-abbrev pub lowBytes : ℕ → ℕ → ℕ
-lowBytes n x = x % 256 ^ n
+abbrev pub low_bytes : ℕ → ℕ → ℕ
+low_bytes n x = x % 256 ^ n
 
 -- of the eight selector bytes, as a number, those that the type names: an offset 4, a queue index 2, else none
 unfoldable pub selectorOf : ℕ → ℕ → ℕ
 selectorOf t s =
-    if eqb t pciCommon then lowBytes 4 s else
-    if eqb t queue or eqb t queueNotify then lowBytes 2 s else
+    if eqb t pciCommon then low_bytes 4 s else
+    if eqb t queue or eqb t queueNotify then low_bytes 2 s else
     0
 
 -- the row of a type and selector that a member with so many queues has
-unfoldable pub isRow : ℕ → ℕ → ℕ → Row → Bool
-isRow queues t s r = eqb (r .partType) t and eqb (r .selector) s and present queues r
+unfoldable pub is_row : ℕ → ℕ → ℕ → Row → Bool
+is_row queues t s r = eqb r.partType t and eqb r.selector s and present queues r
 
 unfoldable pub seek : ℕ → ℕ → ℕ → List Row → ℕ → Place
 seek queues t s [] i = Absent
-seek queues t s (r ∷ rs) i = if isRow queues t s r then At i else seek queues t s rs (i + 1)
+seek queues t s (r ∷ rs) i = if is_row queues t s r then At i else seek queues t s rs (i + 1)
 
-unfoldable pub placeOf : ℕ → ℕ → ℕ → Place
-placeOf queues t s = seek queues t s rows 0
+unfoldable pub place_of : ℕ → ℕ → ℕ → Place
+place_of queues t s = seek queues t s rows 0
 
 -- f of the row that has a part, or a where the member has not got the part
 abbrev pub onPlace {ℓ} : {A : Type ℓ} → Place → (ℕ → A) → A → A

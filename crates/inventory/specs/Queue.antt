@@ -1,13 +1,9 @@
 -- Queue sizes that a split ring has, SPEC 13.5: 02, request 5. Assumes nothing.
-use mathlib.Core.Bool.{Bool, true, false}
-use mathlib.Core.List.{List}
-use Prim.Native.Nat.{ℕ, zero, suc, _+_, _^_}
-use lib.Dec.{leb, eqb}
-use lib.ListN.{length}
-use Rattle·theory.specs.Logic.{unless_answer_then_, _and_, _or_}
-use Rattle·theory.specs.Bytes.{bytesAt}
-use Rattle·wire.specs.Le.{number}
-use Rattle·inventory·specs.specs.Inventory.{queue, offsetOf}
+use Rattle.std.specs.Prelude.{Bool, true, false, List, ℕ, zero, suc, ◌+◌, ◌^◌, leb, eqb, length}
+use Rattle.theory.specs.Logic.{unless◌answer◌then◌, ◌and◌, ◌or◌}
+use Rattle.theory.specs.Bytes.{bytes_at}
+use Rattle.wire.specs.Le.{number}
+use Rattle.inventory.specs.Inventory.{queue, offset_of}
 
 -- n is 2 to the k for a k below the bound
 unfoldable pub powerBelow : ℕ → ℕ → Bool
@@ -40,7 +36,7 @@ abbrev pub queueRow : ℕ → ℕ
 queueRow k = 7 + k
 
 abbrev pub queueValue : ℕ → List ℕ → List ℕ
-queueValue k values = bytesAt (offsetOf (queueRow k)) queueSize values
+queueValue k values = bytes_at (offset_of (queueRow k)) queueSize values
 
 -- queue k: a member with so many has not got it, so that nobody looks at its bytes, or its value is allowed
 abbrev pub absentOrAllowed : ℕ → ℕ → List ℕ → Bool

@@ -1,23 +1,20 @@
 -- The row of a part worked out from its type and selector, and the quick test of queues, for the private functions that do
 -- so. No public contract cites this. Assumes nothing.
-use mathlib.Core.Bool.{Bool}
-use mathlib.Core.List.{List}
-use Prim.Native.Nat.{ℕ, _+_, _-_, _%_, _^_}
-use lib.Dec.{ltb, eqb}
-use Rattle·theory.specs.Logic.{if_then_else_, _and_, _or_}
-use Rattle·wire.specs.Le.{number}
-use Rattle·inventory·specs.specs.Inventory.{offsetOf}
-use Rattle·inventory·specs.specs.Queue.{powerBelow, queueRow}
-use Rattle·inventory·specs.specs.declared.Place.{Place}
-use Rattle·inventory·specs.specs.declared.Place.the-variants.{At, Absent}
+use Rattle.std.specs.Prelude.{Bool, List, ℕ, ◌+◌, ◌-◌, ◌%◌, ◌^◌, ltb, eqb}
+use Rattle.theory.specs.Logic.{if◌then◌else◌, ◌and◌, ◌or◌}
+use Rattle.wire.specs.Le.{number}
+use Rattle.inventory.specs.Inventory.{offset_of}
+use Rattle.inventory.specs.Queue.{powerBelow, queueRow}
+use Rattle.inventory.specs.declared.Place.{Place}
+use Rattle.inventory.specs.declared.Place.TheVariants.{At, Absent}
 
 -- the n-th, from 0, of so many rows of one type, which stand one after another from the first
-unfoldable pub nthOf : ℕ → ℕ → ℕ → Place
-nthOf first count n = if ltb n count then At (first + n) else Absent
+unfoldable pub nth_of : ℕ → ℕ → ℕ → Place
+nth_of first count n = if ltb n count then At (first + n) else Absent
 
 -- the row of the PCI common field at an offset
-unfoldable pub fieldAt : ℕ → Place
-fieldAt offset =
+unfoldable pub field_at : ℕ → Place
+field_at offset =
     if eqb offset 0 then At 2 else
     if eqb offset 8 then At 3 else
     if eqb offset 16 then At 4 else
@@ -37,7 +34,7 @@ unfoldable pub plainQueue : ℕ → Bool
 plainQueue first = eqb first 0 or powerBelow 16 (first % 2 ^ 16)
 
 abbrev pub plainAt : ℕ → List ℕ → Bool
-plainAt k values = plainQueue (number (offsetOf (queueRow k)) 8 values)
+plainAt k values = plainQueue (number (offset_of (queueRow k)) 8 values)
 
 unfoldable pub plainQueues : List ℕ → Bool
 plainQueues values = plainAt 0 values and plainAt 1 values and plainAt 2 values and plainAt 3 values

@@ -2,16 +2,13 @@
 // binds the tables first, since each read of a constant table builds it anew.
 mod rings;
 
-ghost use mathlib.Core.Path.{_≡_};
-ghost use Prim.Native.Nat.{_+_, _*_, _^_, _≤_, _<_};
-ghost use lib.Dec.{eqb};
-ghost use lib.ListN.{length};
-ghost use Rattle·theory.specs.Logic.{indicator};
-ghost use Rattle·theory.specs.Bytes.{put};
-ghost use Rattle·inventory·specs.specs.Inventory.{row, rowAt, rowCount, deviceFeatures, offsetOf, present, selectorOf, placeOf, partCount, partsSize, valuesSize};
-ghost use Rattle·inventory·specs.specs.Worked.{nthOf, fieldAt, queueRows};
-ghost use Rattle·inventory·specs.specs.Header.{headerOf, headerSize};
-ghost use Rattle·inventory·specs.specs.Queue.{valueAllowed, queuesAllowed};
+ghost use Rattle.std.specs.Prelude.{◌≡◌, ◌+◌, ◌*◌, ◌^◌, ◌≤◌, ◌<◌, eqb, length};
+ghost use Rattle.theory.specs.Logic.{indicator};
+ghost use Rattle.theory.specs.Bytes.{put};
+ghost use Rattle.inventory.specs.Inventory.{row, row_at, rowCount, deviceFeatures, offset_of, present, selectorOf, place_of, part_count, partsSize, valuesSize};
+ghost use Rattle.inventory.specs.Worked.{nth_of, field_at, queueRows};
+ghost use Rattle.inventory.specs.Header.{headerOf, headerSize};
+ghost use Rattle.inventory.specs.Queue.{valueAllowed, queuesAllowed};
 
 // The types of parts.
 pub const DEVICE_FEATURES: u16 = 0x100;
@@ -83,46 +80,33 @@ pub const SIZES: [u8; ROWS] = [16, 16, 4, 4, 2, 2, 1, 32, 32, 32, 32, 8, 8, 8, 8
 
 // Where a row's value starts among a member's values: the sum of the sizes before it.
 pub const OFFSETS: [u8; ROWS] = [
-    0,
-    16,
-    32,
-    36,
-    40,
-    42,
-    44,
-    45,
-    77,
-    109,
-    141,
-    173,
-    181,
-    189,
-    197,
+    0, 16, 32, 36, 40, 42, 44, 45, 77, 109, 141, 173, 181, 189, 197,
 ];
 
 // The row of the inventory that has a part, or none.
+#[derive(Drop)]
 pub enum Place {
     At(usize),
     Absent,
 }
 
 pub fn size_of(i: usize) -> usize
-    requires { ⌜ i < rowCount ⌝ }
-    ensures { λ r. ⌜ r ≡ rowAt i .size ⌝ }
+    requires { i < rowCount }
+    ensures { result ≡ (row_at i).size }
 {
     SIZES[i] as usize
 }
 
 pub fn offset_of(i: usize) -> usize
-    requires { ⌜ i < rowCount ⌝ }
-    ensures { λ r. ⌜ r ≡ offsetOf i ⌝ }
+    requires { i < rowCount }
+    ensures { result ≡ offset_of i }
 {
     OFFSETS[i] as usize
 }
 
 // Whether a member with so many queues has the part of a row.
 pub fn is_present(queues: u8, row_type: u16, row_selector: u8) -> bool
-    ensures { λ r. ⌜ r ≡ present queues (row «row_type» «row_selector» 0) ⌝ }
+    ensures { result ≡ present queues (row row_type row_selector 0) }
 {
     if row_type < QUEUE {
         return true;
@@ -132,7 +116,7 @@ pub fn is_present(queues: u8, row_type: u16, row_selector: u8) -> bool
 
 // Of the eight selector bytes those that the type names.
 pub fn selector_of(t: u16, s: u64) -> u64
-    ensures { λ r. ⌜ r ≡ selectorOf t s ⌝ }
+    ensures { result ≡ selectorOf t s }
 {
     if t == PCI_COMMON {
         return s % FOUR_BYTES;
@@ -148,8 +132,8 @@ pub fn selector_of(t: u16, s: u64) -> u64
 
 // The row of a type's rows, which stand one after another from the first, by its number among them; none past their count.
 fn nth_of(first: usize, count: u8, n: u64) -> Place
-    requires { ⌜ first < rowCount ⌝ }
-    ensures { λ r. ⌜ r ≡ nthOf first count n ⌝ }
+    requires { first < rowCount }
+    ensures { result ≡ nth_of first count n }
 {
     if n < count as u64 {
         return Place::At(first + n as usize);
@@ -159,7 +143,7 @@ fn nth_of(first: usize, count: u8, n: u64) -> Place
 
 // The row of a PCI common field, by its offset.
 fn field_at(offset: u64) -> Place
-    ensures { λ r. ⌜ r ≡ fieldAt offset ⌝ }
+    ensures { result ≡ field_at offset }
 {
     if offset == 0 {
         return Place::At(FIRST_FIELD);
@@ -178,7 +162,7 @@ fn field_at(offset: u64) -> Place
 
 // The queues that have rows, of a member with so many.
 fn queue_rows(queues: u8) -> u8
-    ensures { λ r. ⌜ r ≡ queueRows queues ⌝ }
+    ensures { result ≡ queueRows queues }
 {
     if queues < MOST_QUEUES {
         return queues;
@@ -188,7 +172,7 @@ fn queue_rows(queues: u8) -> u8
 
 // The row of a type and selector that a member with so many queues has: worked out, with no search of the tables.
 pub fn place_of(queues: u8, t: u16, selector: u64) -> Place
-    ensures { λ r. ⌜ r ≡ placeOf queues t selector ⌝ }
+    ensures { result ≡ place_of queues t selector }
 {
     if t == QUEUE {
         return nth_of(FIRST_QUEUE, queue_rows(queues), selector);
@@ -213,7 +197,7 @@ pub fn place_of(queues: u8, t: u16, selector: u64) -> Place
 
 // The first eight bytes of a header, as a number: type, flags and selector, which takes no more than four of its bytes.
 fn first_word(row_type: u16, row_selector: u32) -> u64
-    ensures { λ r. ⌜ r ≡ «row_type» + 2 ^ 16 * (indicator (eqb «row_type» deviceFeatures) + 2 ^ 16 * «row_selector») ⌝ }
+    ensures { result ≡ row_type + 2 ^ 16 * (indicator (eqb row_type deviceFeatures) + 2 ^ 16 * row_selector) }
 {
     let flags = (row_type == DEVICE_FEATURES) as u64;
     row_type as u64 + TWO_BYTES * (flags + TWO_BYTES * (row_selector as u64))
@@ -221,8 +205,8 @@ fn first_word(row_type: u16, row_selector: u32) -> u64
 
 // The header of a row's part, written at a place: two words, the second first, since the compiler then needs fewer stores.
 pub fn write_header(out: &mut [u8], at: usize, row_type: u16, row_selector: u32, size: u8)
-    requires { ⌜ at + headerSize ≤ length (now out) ⌝ }
-    ensures { λ _. ⌜ now (out .exit) ≡ put at (headerOf (row «row_type» «row_selector» size)) (now (out .entry)) ⌝ }
+    requires { at + headerSize ≤ length out.old }
+    ensures { out.new ≡ put at (headerOf (row row_type row_selector size)) out.old }
 {
     wire::write(out, at + 8, 8, FOUR_BYTES * (size as u64));
     wire::write(out, at, 8, first_word(row_type, row_selector));
@@ -230,14 +214,14 @@ pub fn write_header(out: &mut [u8], at: usize, row_type: u16, row_selector: u32,
 
 // The number of parts that a member with so many queues has.
 pub fn part_count(queues: u8) -> u32
-    ensures { λ r. ⌜ r ≡ partCount queues ⌝ }
+    ensures { result ≡ part_count queues }
 {
     7 + 2 * (queues as u32)
 }
 
 // Their bytes, headers included.
 pub fn parts_size(queues: u8) -> u32
-    ensures { λ r. ⌜ r ≡ partsSize queues ⌝ }
+    ensures { result ≡ partsSize queues }
 {
     157 + 72 * (queues as u32)
 }
@@ -249,7 +233,7 @@ const QUEUE_SIZE: usize = 32;
 
 // Whether a part of this type may have this value.
 pub fn is_value_allowed(t: u16, value: &[u8]) -> bool
-    ensures { λ r. ⌜ r ≡ valueAllowed t (now (value .entry)) ⌝ }
+    ensures { result ≡ valueAllowed t value.now }
 {
     if t != QUEUE {
         return true;
@@ -263,8 +247,8 @@ pub fn is_value_allowed(t: u16, value: &[u8]) -> bool
 // Whether the values of a member with so many queues have an allowed one for each. If there is no doubt of any of the four,
 // which is so but for a size of 0 beside other bytes, it does not matter which of them are there.
 pub fn are_queues_allowed(queues: u8, values: &[u8]) -> bool
-    requires { ⌜ length (now values) ≡ valuesSize ⌝ }
-    ensures { λ r. ⌜ r ≡ queuesAllowed queues (now (values .entry)) ⌝ }
+    requires { length values.now ≡ valuesSize }
+    ensures { result ≡ queuesAllowed queues values.now }
 {
     if rings::doubts(values) == 0 {
         return true;

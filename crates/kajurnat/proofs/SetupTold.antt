@@ -1,39 +1,39 @@
 -- What the readers of packed setups leave, for each of their ends. Assumes nothing.
-use mathlib.Core.Path.{_≡_, sym, _∙_}
-use mathlib.Core.Logic.{_≢_}
+use mathlib.Core.Path.{◌≡◌, sym, ◌∙◌}
+use mathlib.Core.Logic.{◌≢◌}
 use mathlib.Core.List.{List}
 use Prim.Native.Nat.{ℕ}
-use borrow.Author.Tests.{eq-eqb, ne-eqb}
+use borrow.Author.Tests.{eq-eqb, ne_eqb}
 use lib.ListN.{length}
-use Rattle·theory.specs.Logic.{unless_answer_then_, _and_}
-use Rattle·theory.specs.Bytes.{put}
-use Rattle·theory.proofs.Bytes.{put-all}
-use Rattle·setups.specs.declared.ReadOutcome.{ReadOutcome}
-use Rattle·setups.specs.Setup.{mostMembers, featuresSize}
-use Rattle·setups.specs.Reading.{readNumber}
-use Rattle·kajurnat·specs.specs.SetupTold.{SetupTold, setupTold}
+use Rattle.theory.specs.Logic.{unless◌answer◌then◌, ◌and◌}
+use Rattle.theory.specs.Bytes.{put}
+use Rattle.theory.proofs.Bytes.{put_all}
+use Rattle.setups.specs.declared.ReadOutcome.{ReadOutcome}
+use Rattle.setups.specs.Setup.{mostMembers, featuresSize}
+use Rattle.setups.specs.Reading.{readNumber}
+use Rattle.kajurnat.specs.SetupTold.{SetupTold, setupTold}
 
 -- n is the number of the answer
-module _ (o : ReadOutcome) (m : ℕ) (q : List ℕ) (g s : ℕ) (f : List ℕ) (n : ℕ) (e : n ≡ readNumber (o .answer)) where
-  pub setup-unread : n ≢ 0 → _≡_ {A = SetupTold} (n, (m, (q, (g, (s, f))))) (setupTold o m q g s f)
-  unfolding setupTold unless_answer_then_
-  setup-unread h = rw (← e, ne-eqb n 0 h)
+module _ (o : ReadOutcome) (m : ℕ) (q : List ℕ) (g s : ℕ) (f : List ℕ) (n : ℕ) (e : n ≡ readNumber o.answer) where
+  pub setup-unread : n ≢ 0 → ◌≡◌ {A = SetupTold} (n, (m, (q, (g, (s, f))))) (setupTold o m q g s f)
+  unfolding setupTold unless◌answer◌then◌
+  setup-unread h = rw (← e, ne_eqb n 0 h)
 
   module _ (z : n ≡ 0) where
-    pub counts-unfit : length q ≢ mostMembers → _≡_ {A = SetupTold} (2, (m, (q, (g, (s, f))))) (setupTold o m q g s f)
-    unfolding setupTold unless_answer_then_ _and_
-    counts-unfit h = rw (← e, eq-eqb n 0 z, ne-eqb (length q) mostMembers h)
+    pub counts-unfit : length q ≢ mostMembers → ◌≡◌ {A = SetupTold} (2, (m, (q, (g, (s, f))))) (setupTold o m q g s f)
+    unfolding setupTold unless◌answer◌then◌ ◌and◌
+    counts-unfit h = rw (← e, eq-eqb n 0 z, ne_eqb (length q) mostMembers h)
 
     module _ (k : length q ≡ mostMembers) where
-      pub features-unfit : length f ≢ featuresSize → _≡_ {A = SetupTold} (2, (m, (q, (g, (s, f))))) (setupTold o m q g s f)
-      unfolding setupTold unless_answer_then_ _and_
-      features-unfit h = rw (← e, eq-eqb n 0 z, eq-eqb (length q) mostMembers k, ne-eqb (length f) featuresSize h)
+      pub features-unfit : length f ≢ featuresSize → ◌≡◌ {A = SetupTold} (2, (m, (q, (g, (s, f))))) (setupTold o m q g s f)
+      unfolding setupTold unless◌answer◌then◌ ◌and◌
+      features-unfit h = rw (← e, eq-eqb n 0 z, eq-eqb (length q) mostMembers k, ne_eqb (length f) featuresSize h)
 
       -- the counts and the features were copied
-      pub setup-told : (c d : List ℕ) → length f ≡ featuresSize → length (o .setup .queues) ≡ mostMembers → length (o .setup .features) ≡ featuresSize
-          → c ≡ put 0 (o .setup .queues) q → d ≡ put 0 (o .setup .features) f
-          → _≡_ {A = SetupTold} (0, (o .setup .members, (c, (o .setup .gets, (o .setup .sets, d))))) (setupTold o m q g s f)
-      unfolding setupTold unless_answer_then_ _and_
+      pub setup-told : (c d : List ℕ) → length f ≡ featuresSize → length o.setup.queues ≡ mostMembers → length o.setup.features ≡ featuresSize
+          → c ≡ put 0 o.setup.queues q → d ≡ put 0 o.setup.features f
+          → ◌≡◌ {A = SetupTold} (0, (o.setup.members, (c, (o.setup.gets, (o.setup.sets, d))))) (setupTold o m q g s f)
+      unfolding setupTold unless◌answer◌then◌ ◌and◌
       setup-told c d l i j a b =
           rw (
             ← e,
@@ -42,11 +42,11 @@ module _ (o : ReadOutcome) (m : ℕ) (q : List ℕ) (g s : ℕ) (f : List ℕ) (
             eq-eqb (length f) featuresSize l,
             a,
             b,
-            put-all (o .setup .queues) q (i ∙ sym k),
-            put-all (o .setup .features) f (j ∙ sym l),
+            put_all o.setup.queues q (i ∙ sym k),
+            put_all o.setup.features f (j ∙ sym l),
           )
 
 -- y is what the definition reads
-pub as-read : (o y : ReadOutcome) (m : ℕ) (q : List ℕ) (g s : ℕ) (f : List ℕ) (x : SetupTold) → o ≡ y → x ≡ setupTold o m q g s f
+pub as_read : (o y : ReadOutcome) (m : ℕ) (q : List ℕ) (g s : ℕ) (f : List ℕ) (x : SetupTold) → o ≡ y → x ≡ setupTold o m q g s f
     → x ≡ setupTold y m q g s f
-as-read o y m q g s f x e h = h ∙ rw e
+as_read o y m q g s f x e h = h ∙ rw e

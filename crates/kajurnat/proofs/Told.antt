@@ -1,18 +1,18 @@
 -- What the reader of replies leaves, for each of its two ends. Assumes nothing.
-use mathlib.Core.Path.{_≡_}
+use mathlib.Core.Path.{◌≡◌}
 use Prim.Native.Nat.{ℕ}
-use Rattle·host.specs.declared.Head.{Head}
-use Rattle·host.specs.declared.Outcome.{Outcome}
-use Rattle·host.specs.declared.Outcome.the-variants.{Refused, Answered}
-use Rattle·kajurnat·specs.specs.Told.{told}
+use Rattle.host.specs.declared.Head.{Head}
+use Rattle.host.specs.declared.Outcome.{Outcome}
+use Rattle.host.specs.declared.Outcome.TheVariants.{Refused, Answered}
+use Rattle.kajurnat.specs.Told.{told}
 
 -- x is what was read, y what the definition gives
 module _ (x y : Outcome) (s q t p : ℕ) (e : x ≡ y) where
-  pub told-refused : x ≡ Refused → _≡_ {A = ℕ × (ℕ × (ℕ × (ℕ × ℕ)))} (1, (s, (q, (t, p)))) (told y s q t p)
+  pub told-refused : x ≡ Refused → ◌≡◌ {A = ℕ × (ℕ × (ℕ × (ℕ × ℕ)))} (1, (s, (q, (t, p)))) (told y s q t p)
   unfolding told
   told-refused r = rw (← e, r)
 
   pub told-answered : (h : Head) → x ≡ Answered h
-      → _≡_ {A = ℕ × (ℕ × (ℕ × (ℕ × ℕ)))} (0, (h .status, (h .qualifier, (h .«sent_status», h .«sent_qualifier»)))) (told y s q t p)
+      → ◌≡◌ {A = ℕ × (ℕ × (ℕ × (ℕ × ℕ)))} (0, (h.status, (h.qualifier, (h.sent_status, h.sent_qualifier)))) (told y s q t p)
   unfolding told
   told-answered h r = rw (← e, r)

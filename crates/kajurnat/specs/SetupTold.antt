@@ -1,14 +1,11 @@
 -- What the readers of packed setups answer, and what they leave in the numbers and buffers lent to them: 02, request 9. Assumes
 -- nothing.
-use mathlib.Core.List.{List}
-use Prim.Native.Nat.{ℕ}
-use lib.Dec.{eqb}
-use lib.ListN.{length}
-use Rattle·theory.specs.Logic.{unless_answer_then_, _and_}
-use Rattle·setups.specs.declared.ReadOutcome.{ReadOutcome}
-use Rattle·setups.specs.declared.ReadAnswer.the-variants.{Refused}
-use Rattle·setups.specs.Setup.{mostMembers, featuresSize}
-use Rattle·setups.specs.Reading.{readNumber}
+use Rattle.std.specs.Prelude.{List, ℕ, eqb, length}
+use Rattle.theory.specs.Logic.{unless◌answer◌then◌, ◌and◌}
+use Rattle.setups.specs.declared.ReadOutcome.{ReadOutcome}
+use Rattle.setups.specs.declared.ReadAnswer.TheVariants.{Refused}
+use Rattle.setups.specs.Setup.{mostMembers, featuresSize}
+use Rattle.setups.specs.Reading.{readNumber}
 
 -- answer, members, queue counts, gets, sets and features
 abbrev pub SetupTold : Type 0
@@ -17,8 +14,8 @@ SetupTold = ℕ × (ℕ × (List ℕ × (ℕ × (ℕ × List ℕ))))
 -- refused, all is left as it was: what is no setup first, then buffers that are not 16 bytes
 unfoldable pub setupTold : ReadOutcome → ℕ → List ℕ → ℕ → ℕ → List ℕ → SetupTold
 setupTold o members queues gets sets features =
-    unless eqb (readNumber (o .answer)) 0
-    answer (readNumber (o .answer), (members, (queues, (gets, (sets, features))))) then
+    unless eqb (readNumber o.answer) 0
+    answer (readNumber o.answer, (members, (queues, (gets, (sets, features))))) then
     unless eqb (length queues) mostMembers and eqb (length features) featuresSize
     answer (readNumber Refused, (members, (queues, (gets, (sets, features))))) then
-    (0, (o .setup .members, (o .setup .queues, (o .setup .gets, (o .setup .sets, o .setup .features)))))
+    (0, (o.setup.members, (o.setup.queues, (o.setup.gets, (o.setup.sets, o.setup.features)))))

@@ -1,11 +1,11 @@
 -- What the reader of replies answers, and what it leaves in the four numbers lent to it: 0 and what was read, or 1 and the
 -- numbers as they were. Assumes nothing.
-use Prim.Native.Nat.{ℕ}
-use Rattle·host.specs.declared.Outcome.{Outcome}
-use Rattle·host.specs.declared.Outcome.the-variants.{Refused, Answered}
+use Rattle.std.specs.Prelude.{ℕ}
+use Rattle.host.specs.declared.Outcome.{Outcome}
+use Rattle.host.specs.declared.Outcome.TheVariants.{Refused, Answered}
 
 -- status and qualifier to act on, and as they were sent
 unfoldable pub told : Outcome → ℕ → ℕ → ℕ → ℕ → ℕ × (ℕ × (ℕ × (ℕ × ℕ)))
 told Refused status qualifier sentStatus sentQualifier = (1, (status, (qualifier, (sentStatus, sentQualifier))))
 told (Answered h) status qualifier sentStatus sentQualifier =
-    (0, (h .status, (h .qualifier, (h .«sent_status», h .«sent_qualifier»))))
+    (0, (h.status, (h.qualifier, (h.sent_status, h.sent_qualifier))))

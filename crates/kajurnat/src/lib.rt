@@ -1,55 +1,54 @@
 // The exported functions: SPEC 1.2. A card is a buffer that the caller lends; each function is one call, and its contract is one
 // equation: what it answers and leaves is what a definition gives of what it was lent.
-ghost use mathlib.Core.Path.{_≡_};
-ghost use mathlib.Core.List.{[]};
-ghost use Rattle·theory.specs.Logic.{indicator};
-ghost use Rattle·card.specs.Layout.{version, cardBytes};
-ghost use Rattle·card.specs.Sound.{isSound};
-ghost use Rattle·setups.specs.Reading.{readVersion1, readSetup};
-ghost use Rattle·setups.specs.Member.{memberSetup};
-ghost use Rattle·setups.specs.Writing.{written};
-ghost use Rattle·events.specs.Events.{numbered, setUp, setUpFrom, handBack, wipe, resetCard, store};
-ghost use Rattle·loads.specs.Loads.{load, memberTold, configurationTold, setupOfCard};
-ghost use Rattle·admin.specs.Command.{commandOf};
-ghost use Rattle·host.specs.Request.{built};
-ghost use Rattle·host.specs.Reply.{readReply};
-ghost use Rattle·staging.specs.Staging.{beginOf, feedOf, finishOf, dropOf};
-ghost use Rattle·message.specs.Message.{messageOf};
-ghost use Rattle·difference.specs.Difference.{lookupTold};
-ghost use Rattle·difference.specs.Under.{lookupUnder, mergeUnder};
-ghost use Rattle·salvage.specs.Salvage.{salvage, salvageUnder};
-ghost use Rattle·kajurnat·specs.specs.Told.{told};
-ghost use Rattle·kajurnat·specs.specs.SetupTold.{setupTold};
-use host::Command;
-use host::Outcome;
+ghost use Rattle.std.specs.Prelude.{◌≡◌, []};
+ghost use Rattle.theory.specs.Logic.{indicator};
+ghost use Rattle.card.specs.Layout.{version, cardBytes};
+ghost use Rattle.card.specs.Sound.{isSound};
+ghost use Rattle.setups.specs.Reading.{readVersion1, readSetup};
+ghost use Rattle.setups.specs.Member.{memberSetup};
+ghost use Rattle.setups.specs.Writing.{written};
+ghost use Rattle.events.specs.Events.{numbered, setUp, setUpFrom, handBack, wipe, resetCard, store};
+ghost use Rattle.loads.specs.Loads.{load, memberTold, configurationTold, setupOfCard};
+ghost use Rattle.admin.specs.Command.{commandOf};
+ghost use Rattle.host.specs.Request.{built};
+ghost use Rattle.host.specs.Reply.{readReply};
+ghost use Rattle.staging.specs.Staging.{beginOf, feedOf, finishOf, dropOf};
+ghost use Rattle.message.specs.Message.{messageOf};
+ghost use Rattle.difference.specs.Difference.{lookupTold};
+ghost use Rattle.difference.specs.Under.{lookupUnder, mergeUnder};
+ghost use Rattle.salvage.specs.Salvage.{salvage, salvageUnder};
+ghost use Rattle.kajurnat.specs.Told.{told};
+ghost use Rattle.kajurnat.specs.SetupTold.{setupTold};
+
+use host::{Command, Outcome};
 use setups::ReadOutcome;
 
 // Raised whenever a card's bytes change their meaning: a card that was kept is for the same version.
-#[no_mangle]
+#[unsafe(no_mangle)]
 pub extern "C" fn kajurnat_card_version() -> u32
-    ensures { λ r. ⌜ r ≡ version ⌝ }
+    ensures { result ≡ version }
 {
     card::VERSION
 }
 
 // Whether the bytes are a sound card: 1, or 0.
-#[no_mangle]
+#[unsafe(no_mangle)]
 pub extern "C" fn kajurnat_is_sound(card: &[u8]) -> u8
-    ensures { λ r. ⌜ r ≡ indicator (isSound (now (card .entry))) ⌝ }
+    ensures { result ≡ indicator (isSound card.now) }
 {
     card::is_sound(card) as u8
 }
 
 // The exact length of a card, 0 if members is not 1 to 16.
-#[no_mangle]
+#[unsafe(no_mangle)]
 pub extern "C" fn kajurnat_card_bytes(members: u64) -> usize
-    ensures { λ r. ⌜ r ≡ cardBytes members ⌝ }
+    ensures { result ≡ cardBytes members }
 {
     card::card_bytes(members)
 }
 
 // Makes the buffer a fresh card; refused, every byte of it is zero. There is one queue count for each member.
-#[no_mangle]
+#[unsafe(no_mangle)]
 pub extern "C" fn kajurnat_setup(
     card: &mut [u8],
     members: u64,
@@ -58,22 +57,22 @@ pub extern "C" fn kajurnat_setup(
     sets: u64,
     features: &[u8],
 ) -> u8
-    ensures { λ r. ⌜ (r, now (card .exit)) ≡ numbered (setUp (now (card .entry)) members (now (queues .entry)) gets sets (now (features .entry))) ⌝ }
+    ensures { (result, card.new) ≡ numbered (setUp card.old members queues.now gets sets features.now) }
 {
     protocol::event_number(events::set_up(card, members, queues, gets, sets, features))
 }
 
 // The same of a packed setup, of either version.
-#[no_mangle]
+#[unsafe(no_mangle)]
 pub extern "C" fn kajurnat_setup_from(card: &mut [u8], setup: &[u8]) -> u8
-    ensures { λ r. ⌜ (r, now (card .exit)) ≡ numbered (setUpFrom (now (card .entry)) (now (setup .entry))) ⌝ }
+    ensures { (result, card.new) ≡ numbered (setUpFrom card.old setup.now) }
 {
     protocol::event_number(events::set_up_from(card, setup))
 }
 
 // Packs a setup at the front of the buffer and answers its length; 0, with nothing written, where it is bad or the buffer too
 // short.
-#[no_mangle]
+#[unsafe(no_mangle)]
 pub extern "C" fn kajurnat_setup_write(
     setup: &mut [u8],
     members: u64,
@@ -82,7 +81,7 @@ pub extern "C" fn kajurnat_setup_write(
     sets: u64,
     features: &[u8],
 ) -> usize
-    ensures { λ r. ⌜ (r, now (setup .exit)) ≡ written (now (setup .entry)) members (now (queues .entry)) gets sets (now (features .entry)) ⌝ }
+    ensures { (result, setup.new) ≡ written setup.old members queues.now gets sets features.now }
 {
     setups::write(setup, members, queues, gets, sets, features)
 }
@@ -97,7 +96,7 @@ fn tell_setup(
     sets: &mut u8,
     features: &mut [u8],
 ) -> u8
-    ensures { λ r. ⌜ (r, (now (members .exit), (now (queues .exit), (now (gets .exit), (now (sets .exit), now (features .exit)))))) ≡ setupTold read (now (members .entry)) (now (queues .entry)) (now (gets .entry)) (now (sets .entry)) (now (features .entry)) ⌝ }
+    ensures { (result, (members.new, (queues.new, (gets.new, (sets.new, features.new))))) ≡ setupTold read members.old queues.old gets.old sets.old features.old }
 {
     let answer = read.answer;
     let number = setups::read_number(answer);
@@ -123,7 +122,7 @@ fn tell_setup(
 
 // Reads a packed setup of either version: 0, with the setup, or 2 for one that is refused, and nothing written. The counts of
 // members past the last are 0.
-#[no_mangle]
+#[unsafe(no_mangle)]
 pub extern "C" fn kajurnat_setup_read(
     setup: &[u8],
     members: &mut u8,
@@ -132,13 +131,13 @@ pub extern "C" fn kajurnat_setup_read(
     sets: &mut u8,
     features: &mut [u8],
 ) -> u8
-    ensures { λ r. ⌜ (r, (now (members .exit), (now (queues .exit), (now (gets .exit), (now (sets .exit), now (features .exit)))))) ≡ setupTold (readSetup (now (setup .entry))) (now (members .entry)) (now (queues .entry)) (now (gets .entry)) (now (sets .entry)) (now (features .entry)) ⌝ }
+    ensures { (result, (members.new, (queues.new, (gets.new, (sets.new, features.new))))) ≡ setupTold (readSetup setup.now) members.old queues.old gets.old sets.old features.old }
 {
     tell_setup(setups::read(setup), members, queues, gets, sets, features)
 }
 
 // Reads one of version 1, and answers 1 for any of version 2.
-#[no_mangle]
+#[unsafe(no_mangle)]
 pub extern "C" fn kajurnat_setup_read_v1(
     setup: &[u8],
     members: &mut u8,
@@ -147,7 +146,7 @@ pub extern "C" fn kajurnat_setup_read_v1(
     sets: &mut u8,
     features: &mut [u8],
 ) -> u8
-    ensures { λ r. ⌜ (r, (now (members .exit), (now (queues .exit), (now (gets .exit), (now (sets .exit), now (features .exit)))))) ≡ setupTold (readVersion1 (now (setup .entry))) (now (members .entry)) (now (queues .entry)) (now (gets .entry)) (now (sets .entry)) (now (features .entry)) ⌝ }
+    ensures { (result, (members.new, (queues.new, (gets.new, (sets.new, features.new))))) ≡ setupTold (readVersion1 setup.now) members.old queues.old gets.old sets.old features.old }
 {
     tell_setup(
         setups::read_version_1(setup),
@@ -160,38 +159,38 @@ pub extern "C" fn kajurnat_setup_read_v1(
 }
 
 // One group administration command: the bytes written to the reply, the card and the reply buffer after it.
-#[no_mangle]
+#[unsafe(no_mangle)]
 pub extern "C" fn kajurnat_command(card: &mut [u8], request: &[u8], reply: &mut [u8]) -> usize
-    ensures { λ r. ⌜ (r, (now (card .exit), now (reply .exit))) ≡ commandOf (now (card .entry)) (now (request .entry)) (now (reply .entry)) ⌝ }
+    ensures { (result, (card.new, reply.new)) ≡ commandOf card.old request.now reply.old }
 {
     admin::command(card, request, reply)
 }
 
 // The two halves of a member reset: hand back, which the data path answers by letting go of the guest, and wipe. A wipe and a
 // card reset are given the generation that the member, or every member, starts from.
-#[no_mangle]
+#[unsafe(no_mangle)]
 pub extern "C" fn kajurnat_hand_back(card: &mut [u8], member: u64) -> u8
-    ensures { λ r. ⌜ (r, now (card .exit)) ≡ numbered (handBack (now (card .entry)) member) ⌝ }
+    ensures { (result, card.new) ≡ numbered (handBack card.old member) }
 {
     protocol::event_number(events::hand_back(card, member))
 }
 
-#[no_mangle]
+#[unsafe(no_mangle)]
 pub extern "C" fn kajurnat_wipe(card: &mut [u8], member: u64, generation: u32) -> u8
-    ensures { λ r. ⌜ (r, now (card .exit)) ≡ numbered (wipe (now (card .entry)) member generation) ⌝ }
+    ensures { (result, card.new) ≡ numbered (wipe card.old member generation) }
 {
     protocol::event_number(events::wipe(card, member, generation))
 }
 
-#[no_mangle]
+#[unsafe(no_mangle)]
 pub extern "C" fn kajurnat_reset_card(card: &mut [u8], generation: u32) -> u8
-    ensures { λ r. ⌜ (r, now (card .exit)) ≡ numbered (resetCard (now (card .entry)) generation) ⌝ }
+    ensures { (result, card.new) ≡ numbered (resetCard card.old generation) }
 {
     protocol::event_number(events::reset_card(card, generation))
 }
 
 // The data path sets one part of a member; selector is the eight selector bytes as a little-endian number.
-#[no_mangle]
+#[unsafe(no_mangle)]
 pub extern "C" fn kajurnat_store(
     card: &mut [u8],
     member: u64,
@@ -199,14 +198,14 @@ pub extern "C" fn kajurnat_store(
     selector: u64,
     value: &[u8],
 ) -> u8
-    ensures { λ r. ⌜ (r, now (card .exit)) ≡ numbered (store (now (card .entry)) member «part_type» selector (now (value .entry))) ⌝ }
+    ensures { (result, card.new) ≡ numbered (store card.old member part_type selector value.now) }
 {
     protocol::event_number(events::store(card, member, part_type, selector, value))
 }
 
 // What the card's own firmware reads, SPEC 14: these four change nothing, and no host reaches them. A part of a member, running,
 // stopped or marked, into a buffer of its length; it answers as a card store does, and refused, nothing is written.
-#[no_mangle]
+#[unsafe(no_mangle)]
 pub extern "C" fn kajurnat_load(
     card: &[u8],
     member: u64,
@@ -214,14 +213,14 @@ pub extern "C" fn kajurnat_load(
     selector: u64,
     value: &mut [u8],
 ) -> u8
-    ensures { λ r. ⌜ (r, now (value .exit)) ≡ numbered (load (now (card .entry)) member «part_type» selector (now (value .entry))) ⌝ }
+    ensures { (result, value.new) ≡ numbered (load card.now member part_type selector value.old) }
 {
     protocol::event_number(loads::load(card, member, part_type, selector, value))
 }
 
 // A member in numbers: 0 running, 1 stopped, 2 marked; its queue count; its live get and set objects; 0, or 1 more than the
 // bytes in its open holding place.
-#[no_mangle]
+#[unsafe(no_mangle)]
 pub extern "C" fn kajurnat_member(
     card: &[u8],
     member: u64,
@@ -231,100 +230,100 @@ pub extern "C" fn kajurnat_member(
     sets: &mut u8,
     held: &mut u16,
 ) -> u8
-    ensures { λ r. ⌜ (r, (now (state .exit), (now (queues .exit), (now (gets .exit), (now (sets .exit), now (held .exit)))))) ≡ numbered (memberTold (now (card .entry)) member (now (state .entry), (now (queues .entry), (now (gets .entry), (now (sets .entry), now (held .entry)))))) ⌝ }
+    ensures { (result, (state.new, (queues.new, (gets.new, (sets.new, held.new))))) ≡ numbered (memberTold card.now member (state.old, (queues.old, (gets.old, (sets.old, held.old))))) }
 {
     protocol::event_number(loads::member(card, member, state, queues, gets, sets, held))
 }
 
 // Its configuration, into 12 bytes, and the generation.
-#[no_mangle]
+#[unsafe(no_mangle)]
 pub extern "C" fn kajurnat_configuration(
     card: &[u8],
     member: u64,
     bytes: &mut [u8],
     generation: &mut u32,
 ) -> u8
-    ensures { λ r. ⌜ (r, (now (bytes .exit), now (generation .exit))) ≡ numbered (configurationTold (now (card .entry)) member (now (bytes .entry), now (generation .entry))) ⌝ }
+    ensures { (result, (bytes.new, generation.new)) ≡ numbered (configurationTold card.now member (bytes.old, generation.old)) }
 {
     protocol::event_number(loads::configuration(card, member, bytes, generation))
 }
 
 // The card's setup, packed as kajurnat_setup_write packs it: its length; 0, with nothing written, where the card is not sound or
 // the buffer too short.
-#[no_mangle]
+#[unsafe(no_mangle)]
 pub extern "C" fn kajurnat_setup_of(card: &[u8], setup: &mut [u8]) -> usize
-    ensures { λ r. ⌜ (r, now (setup .exit)) ≡ setupOfCard (now (card .entry)) (now (setup .entry)) ⌝ }
+    ensures { (result, setup.new) ≡ setupOfCard card.now setup.old }
 {
     loads::setup_of(card, setup)
 }
 
 // The host's half. Each builder writes the request of its command at the front of the buffer and answers its length; 0,
 // with nothing written, where it is over 4,096 bytes or too long for the buffer.
-#[no_mangle]
+#[unsafe(no_mangle)]
 pub extern "C" fn kajurnat_request_list_query(request: &mut [u8]) -> usize
-    ensures { λ r. ⌜ (r, now (request .exit)) ≡ built Command.ListQuery [] (now (request .entry)) ⌝ }
+    ensures { (result, request.new) ≡ built Command.ListQuery [] request.old }
 {
     host::list_query(request)
 }
 
-#[no_mangle]
+#[unsafe(no_mangle)]
 pub extern "C" fn kajurnat_request_list_use(request: &mut [u8], mask: u64) -> usize
-    ensures { λ r. ⌜ (r, now (request .exit)) ≡ built (Command.ListUse mask) [] (now (request .entry)) ⌝ }
+    ensures { (result, request.new) ≡ built (Command.ListUse mask) [] request.old }
 {
     host::list_use(request, mask)
 }
 
-#[no_mangle]
+#[unsafe(no_mangle)]
 pub extern "C" fn kajurnat_request_create(
     request: &mut [u8],
     member: u64,
     id: u32,
     kind: u8,
 ) -> usize
-    ensures { λ r. ⌜ (r, now (request .exit)) ≡ built (Command.Create member id kind) [] (now (request .entry)) ⌝ }
+    ensures { (result, request.new) ≡ built (Command.Create member id kind) [] request.old }
 {
     host::create(request, member, id, kind)
 }
 
-#[no_mangle]
+#[unsafe(no_mangle)]
 pub extern "C" fn kajurnat_request_modify(
     request: &mut [u8],
     member: u64,
     id: u32,
     kind: u8,
 ) -> usize
-    ensures { λ r. ⌜ (r, now (request .exit)) ≡ built (Command.Modify member id kind) [] (now (request .entry)) ⌝ }
+    ensures { (result, request.new) ≡ built (Command.Modify member id kind) [] request.old }
 {
     host::modify(request, member, id, kind)
 }
 
-#[no_mangle]
+#[unsafe(no_mangle)]
 pub extern "C" fn kajurnat_request_query(request: &mut [u8], member: u64, id: u32) -> usize
-    ensures { λ r. ⌜ (r, now (request .exit)) ≡ built (Command.Query member id) [] (now (request .entry)) ⌝ }
+    ensures { (result, request.new) ≡ built (Command.Query member id) [] request.old }
 {
     host::query(request, member, id)
 }
 
-#[no_mangle]
+#[unsafe(no_mangle)]
 pub extern "C" fn kajurnat_request_destroy(request: &mut [u8], member: u64, id: u32) -> usize
-    ensures { λ r. ⌜ (r, now (request .exit)) ≡ built (Command.Destroy member id) [] (now (request .entry)) ⌝ }
+    ensures { (result, request.new) ≡ built (Command.Destroy member id) [] request.old }
 {
     host::destroy(request, member, id)
 }
 
-#[no_mangle]
+#[unsafe(no_mangle)]
 pub extern "C" fn kajurnat_request_metadata(
     request: &mut [u8],
     member: u64,
     id: u32,
     what: u8,
 ) -> usize
-    ensures { λ r. ⌜ (r, now (request .exit)) ≡ built (Command.Metadata member id what) [] (now (request .entry)) ⌝ }
+    ensures { (result, request.new) ≡ built (Command.Metadata member id what) [] request.old }
 {
     host::metadata(request, member, id, what)
 }
 
-#[no_mangle]
+#[unsafe(no_mangle)]
 pub extern "C" fn kajurnat_request_get(
     request: &mut [u8],
     member: u64,
@@ -332,26 +331,26 @@ pub extern "C" fn kajurnat_request_get(
     which: u8,
     headers: &[u8],
 ) -> usize
-    ensures { λ r. ⌜ (r, now (request .exit)) ≡ built (Command.Get member id which) (now (headers .entry)) (now (request .entry)) ⌝ }
+    ensures { (result, request.new) ≡ built (Command.Get member id which) headers.now request.old }
 {
     host::get(request, member, id, which, headers)
 }
 
-#[no_mangle]
+#[unsafe(no_mangle)]
 pub extern "C" fn kajurnat_request_set(
     request: &mut [u8],
     member: u64,
     id: u32,
     list: &[u8],
 ) -> usize
-    ensures { λ r. ⌜ (r, now (request .exit)) ≡ built (Command.Set member id) (now (list .entry)) (now (request .entry)) ⌝ }
+    ensures { (result, request.new) ≡ built (Command.Set member id) list.now request.old }
 {
     host::set(request, member, id, list)
 }
 
-#[no_mangle]
+#[unsafe(no_mangle)]
 pub extern "C" fn kajurnat_request_mode(request: &mut [u8], member: u64, mode: u8) -> usize
-    ensures { λ r. ⌜ (r, now (request .exit)) ≡ built (Command.SetMode member mode) [] (now (request .entry)) ⌝ }
+    ensures { (result, request.new) ≡ built (Command.SetMode member mode) [] request.old }
 {
     host::set_mode(request, member, mode)
 }
@@ -359,7 +358,7 @@ pub extern "C" fn kajurnat_request_mode(request: &mut [u8], member: u64, mode: u
 // The answer to the command sent, by its opcode and, of a metadata command, its type byte: 0, with the status and the
 // qualifier to act on and both as they were sent, or 1 for a reply that is refused, and nothing written. The result is
 // the reply from byte 8.
-#[no_mangle]
+#[unsafe(no_mangle)]
 pub extern "C" fn kajurnat_reply_read(
     opcode: u16,
     what: u8,
@@ -369,7 +368,7 @@ pub extern "C" fn kajurnat_reply_read(
     sent_status: &mut u16,
     sent_qualifier: &mut u16,
 ) -> u8
-    ensures { λ r. ⌜ (r, (now (status .exit), (now (qualifier .exit), (now («sent_status» .exit), now («sent_qualifier» .exit))))) ≡ told (readReply opcode what (now (reply .entry))) (now (status .entry)) (now (qualifier .entry)) (now («sent_status» .entry)) (now («sent_qualifier» .entry)) ⌝ }
+    ensures { (result, (status.new, (qualifier.new, (sent_status.new, sent_qualifier.new)))) ≡ told (readReply opcode what reply.now) status.old qualifier.old sent_status.old sent_qualifier.old }
 {
     match host::read_reply(opcode, what, reply) {
         Outcome::Refused => 1,
@@ -385,41 +384,41 @@ pub extern "C" fn kajurnat_reply_read(
 
 // A restore in fragments: a holding place is opened for the member. This and the next three answer status + 65,536 x
 // qualifier, and 9 for an unsound card.
-#[no_mangle]
+#[unsafe(no_mangle)]
 pub extern "C" fn kajurnat_restore_begin(card: &mut [u8], member: u64) -> u32
-    ensures { λ r. ⌜ (r, now (card .exit)) ≡ beginOf (now (card .entry)) member ⌝ }
+    ensures { (result, card.new) ≡ beginOf card.old member }
 {
     staging::begin(card, member)
 }
 
 // A fragment, of any length, goes behind those that were fed; over 1,024 bytes in all end the holding place.
-#[no_mangle]
+#[unsafe(no_mangle)]
 pub extern "C" fn kajurnat_restore_feed(card: &mut [u8], member: u64, fragment: &[u8]) -> u32
-    ensures { λ r. ⌜ (r, now (card .exit)) ≡ feedOf (now (card .entry)) member (now (fragment .entry)) ⌝ }
+    ensures { (result, card.new) ≡ feedOf card.old member fragment.now }
 {
     staging::feed(card, member, fragment)
 }
 
 // One parts set of the bytes that were fed, through the set object of this id; then the holding place is gone.
-#[no_mangle]
+#[unsafe(no_mangle)]
 pub extern "C" fn kajurnat_restore_finish(card: &mut [u8], member: u64, id: u32) -> u32
-    ensures { λ r. ⌜ (r, now (card .exit)) ≡ finishOf (now (card .entry)) member id ⌝ }
+    ensures { (result, card.new) ≡ finishOf card.old member id }
 {
     staging::finish(card, member, id)
 }
 
 // The holding place is gone, and nothing is set.
-#[no_mangle]
+#[unsafe(no_mangle)]
 pub extern "C" fn kajurnat_restore_drop(card: &mut [u8], member: u64) -> u32
-    ensures { λ r. ⌜ (r, now (card .exit)) ≡ dropOf (now (card .entry)) member ⌝ }
+    ensures { (result, card.new) ≡ dropOf card.old member }
 {
     staging::discard(card, member)
 }
 
 // Configuration by message, SPEC 13.3: the bytes of the response, 0 in the bus outcome, the card and the reply buffer after it.
-#[no_mangle]
+#[unsafe(no_mangle)]
 pub extern "C" fn kajurnat_message(card: &mut [u8], message: &[u8], reply: &mut [u8]) -> usize
-    ensures { λ r. ⌜ (r, (now (card .exit), now (reply .exit))) ≡ messageOf (now (card .entry)) (now (message .entry)) (now (reply .entry)) ⌝ }
+    ensures { (result, (card.new, reply.new)) ≡ messageOf card.old message.now reply.old }
 {
     message::message(card, message, reply)
 }
@@ -427,7 +426,7 @@ pub extern "C" fn kajurnat_message(card: &mut [u8], message: &[u8], reply: &mut 
 // One part looked up in a full capture and a later list of what changed, under a packed setup and for one member of it: 0, with
 // the list, 0 the full capture or 1 the later list, and the value's place and length in it; or the number of the refusal, and
 // zeros.
-#[no_mangle]
+#[unsafe(no_mangle)]
 pub extern "C" fn kajurnat_difference_find(
     setup: &[u8],
     member: u64,
@@ -439,24 +438,16 @@ pub extern "C" fn kajurnat_difference_find(
     at: &mut usize,
     len: &mut usize,
 ) -> u8
-    ensures { λ r. ⌜ (r, (now (list .exit), (now (at .exit), now (len .exit)))) ≡ lookupTold (lookupUnder (memberSetup (now (setup .entry)) member) (now (full .entry)) (now (later .entry)) «part_type» selector) ⌝ }
+    ensures { (result, (list.new, (at.new, len.new))) ≡ lookupTold (lookupUnder (memberSetup setup.now member) full.now later.now part_type selector) }
 {
     difference::find_place(
-        setup,
-        member,
-        full,
-        later,
-        part_type,
-        selector,
-        list,
-        at,
-        len,
+        setup, member, full, later, part_type, selector, list, at, len,
     )
 }
 
 // One list made of the two, at the front of the buffer: 0 and its bytes; or the number of the refusal and 0, and nothing
 // written.
-#[no_mangle]
+#[unsafe(no_mangle)]
 pub extern "C" fn kajurnat_difference_merge<'a>(
     setup: &[u8],
     member: u64,
@@ -465,14 +456,14 @@ pub extern "C" fn kajurnat_difference_merge<'a>(
     merged: &mut [u8],
     written: &mut usize,
 ) -> u8
-    ensures { λ r. ⌜ (r, (now (written .exit), now (merged .exit))) ≡ mergeUnder (memberSetup (now (setup .entry)) member) (now (full .entry)) (now (later .entry)) (now (merged .entry)) ⌝ }
+    ensures { (result, (written.new, merged.new)) ≡ mergeUnder (memberSetup setup.now member) full.now later.now merged.old }
 {
     difference::merge(setup, member, full, later, merged, written)
 }
 
 // A damaged list made into one that a member of the setup takes, with a report of what was kept, what was dropped and what was
 // left over: the bytes written, or 0 where it is refused, and nothing written.
-#[no_mangle]
+#[unsafe(no_mangle)]
 pub extern "C" fn kajurnat_salvage(
     setup: &[u8],
     member: u64,
@@ -482,7 +473,7 @@ pub extern "C" fn kajurnat_salvage(
     dropped: &mut [u32],
     left: &mut usize,
 ) -> usize
-    ensures { λ r. ⌜ salvage r (now (list .exit)) (now (kept .exit)) (now (dropped .exit)) (now (left .exit)) ≡ salvageUnder (memberSetup (now (setup .entry)) member) (now (damaged .entry)) (salvage 0 (now (list .entry)) (now (kept .entry)) (now (dropped .entry)) (now (left .entry))) ⌝ }
+    ensures { salvage result list.new kept.new dropped.new left.new ≡ salvageUnder (memberSetup setup.now member) damaged.now (salvage 0 list.old kept.old dropped.old left.old) }
 {
     salvage::salvage(setup, member, damaged, list, kept, dropped, left)
 }

@@ -1,31 +1,31 @@
 -- Each call for a member, at each of its returns: it is refused as an event for that member is, or done. Assumes nothing.
-use mathlib.Core.Path.{_≡_, refl, sym, _∙_}
-use mathlib.Core.Logic.{_≢_}
+use mathlib.Core.Path.{◌≡◌, refl, sym, ◌∙◌}
+use mathlib.Core.Logic.{◌≢◌}
 use mathlib.Core.Bool.{Bool, true, false, not}
 use mathlib.Core.List.{List, []}
-use Prim.Native.Nat.{ℕ, _+_, _≤_}
+use Prim.Native.Nat.{ℕ, ◌+◌, ◌≤◌}
 use native.Mathlib.Omega.{arith}
-use borrow.Author.Tests.{not-true, not-false, eq-eqb, ne-eqb}
+use borrow.Author.Tests.{not-true, not-false, eq-eqb, ne_eqb}
 use lib.ListN.{length}
-use Rattle·theory.specs.Bytes.{put}
-use Rattle·theory.proofs.Bytes.{put-all}
-use Rattle·theory.proofs.Ladder.{stop, pass}
-use Rattle·protocol.specs.declared.EventAnswer.{EventAnswer}
-use Rattle·protocol.specs.declared.EventAnswer.the-variants.{Done, WrongLength}
-use Rattle·protocol.specs.Answers.{isEventDone}
-use Rattle·inventory.specs.Inventory.{selectorOf}
-use Rattle·member.specs.declared.Member.{Member}
-use Rattle·member.specs.Record.{memberSize, memberOf}
-use Rattle·card.specs.Layout.{memberBytesAt, configurationSize, HasRecord, memberBytesIn, memberIn, configurationIn, generationIn}
-use Rattle·card.proofs.RecordBytesLaws.{bytes-long}
-use Rattle·card.proofs.ConfigurationLaws.{configuration-long}
-use Rattle·events.specs.Events.{memberAnswer, ifDone}
-use Rattle·loads·specs.specs.declared.Summary.{Summary}
-use Rattle·loads·specs.specs.Loads.{partOf, loadIn, lent, summaryOf, Numbers, numbersOf, memberTold, configurationFor, configurationTold}
+use Rattle.theory.specs.Bytes.{put}
+use Rattle.theory.proofs.Bytes.{put_all}
+use Rattle.theory.proofs.Ladder.{stop, pass}
+use Rattle.protocol.specs.declared.EventAnswer.{EventAnswer}
+use Rattle.protocol.specs.declared.EventAnswer.TheVariants.{Done, WrongLength}
+use Rattle.protocol.specs.Answers.{isEventDone}
+use Rattle.inventory.specs.Inventory.{selectorOf}
+use Rattle.member.specs.declared.Member.{Member}
+use Rattle.member.specs.Record.{memberSize, memberOf}
+use Rattle.card.specs.Layout.{memberBytesAt, configurationSize, HasRecord, memberBytesIn, memberIn, configurationIn, generationIn}
+use Rattle.card.proofs.RecordBytesLaws.{bytes-long}
+use Rattle.card.proofs.ConfigurationLaws.{configuration-long}
+use Rattle.events.specs.Events.{memberAnswer, ifDone}
+use Rattle.loads.specs.declared.Summary.{Summary}
+use Rattle.loads.specs.Loads.{part_of, loadIn, lent, summaryOf, Numbers, numbersOf, memberTold, configurationFor, configurationTold}
 
 -- a is the first refusal, t whether there is none
 module _ (c : List ℕ) (m : ℕ) (a : EventAnswer) (t : Bool) (e : a ≡ memberAnswer c m) (d : t ≡ isEventDone a) where
-  pub call-refused : (A : Type 0) (x : EventAnswer × A) (l : A) → not t ≡ true → _≡_ {A = EventAnswer × A} (a, l) (ifDone (memberAnswer c m) x l)
+  pub call-refused : (A : Type 0) (x : EventAnswer × A) (l : A) → not t ≡ true → ◌≡◌ {A = EventAnswer × A} (a, l) (ifDone (memberAnswer c m) x l)
   unfolding ifDone
   call-refused A x l n = rw (← e) (stop _ _ _ _ (sym d ∙ not-true t n) refl)
 
@@ -33,11 +33,11 @@ module _ (c : List ℕ) (m : ℕ) (a : EventAnswer) (t : Bool) (e : a ≡ member
   unfolding ifDone
   call-passed A x y l n h = rw (← e) (pass _ _ _ _ (sym d ∙ not-false t n) h)
 
-  pub lent-none : (k s : ℕ) → not t ≡ true → [] ≡ lent c m k s
+  pub lent_none : (k s : ℕ) → not t ≡ true → [] ≡ lent c m k s
   unfolding lent
-  lent-none k s n = rw (← e) (stop _ _ _ _ (sym d ∙ not-true t n) refl)
+  lent_none k s n = rw (← e) (stop _ _ _ _ (sym d ∙ not-true t n) refl)
 
-  pub lent-part : (k s z : ℕ) (b r : List ℕ) → not t ≡ false → b ≡ memberBytesIn c m → z ≡ selectorOf k s → r ≡ partOf (memberOf b) k z
+  pub lent-part : (k s z : ℕ) (b r : List ℕ) → not t ≡ false → b ≡ memberBytesIn c m → z ≡ selectorOf k s → r ≡ part_of (memberOf b) k z
       → r ≡ lent c m k s
   unfolding lent memberIn
   lent-part k s z b r n f g h = rw (← e) (pass _ _ _ _ (sym d ∙ not-false t n) (h ∙ rw (f, g)))
@@ -60,14 +60,14 @@ module _ (c : List ℕ) (m : ℕ) (a : EventAnswer) (t : Bool) (e : a ≡ member
 
   pub configuration-unfit : (b : List ℕ) (g : ℕ) → length b ≢ configurationSize → (WrongLength, (b, g)) ≡ configurationTold c m (b, g)
   unfolding configurationTold configurationFor
-  configuration-unfit b g h = call-passed c m a t e d (List ℕ × ℕ) _ _ _ n (stop _ _ _ _ (ne-eqb _ _ h) refl)
+  configuration-unfit b g h = call-passed c m a t e d (List ℕ × ℕ) _ _ _ n (stop _ _ _ _ (ne_eqb _ _ h) refl)
 
   pub configuration-told : (b r z : List ℕ) (g k : ℕ) → length b ≡ configurationSize → HasRecord c m → r ≡ configurationIn c m → z ≡ put 0 r b
       → k ≡ generationIn c m → (Done, (z, k)) ≡ configurationTold c m (b, g)
   unfolding configurationTold configurationFor
   configuration-told b r z g k h i f w q =
       call-passed c m a t e d (List ℕ × ℕ) _ _ _ n
-      (pass _ _ _ _ (eq-eqb _ _ h) (rw (w, f, q, put-all (configurationIn c m) b (configuration-long c m i ∙ sym h))))
+      (pass _ _ _ _ (eq-eqb _ _ h) (rw (w, f, q, put_all (configurationIn c m) b (configuration-long c m i ∙ sym h))))
 
 pub configuration-room : (c : List ℕ) (m : ℕ) (b r : List ℕ) → r ≡ configurationIn c m → length b ≡ configurationSize → HasRecord c m
     → 0 + length r ≤ length b

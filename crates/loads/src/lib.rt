@@ -1,24 +1,21 @@
 // What the card's own firmware reads of it, SPEC 14: a part, a member, its configuration, the setup. The card is lent and
 // stays as it is; no host reaches these.
-ghost use mathlib.Core.Path.{_≡_};
-ghost use mathlib.Core.Bool.{true};
-ghost use mathlib.Core.List.{map};
-ghost use Prim.Native.Nat.{_≤_};
-ghost use lib.ListN.{length};
-ghost use Rattle·objects.specs.Objects.{objectsSize, objectByte, count};
-ghost use Rattle·member.specs.Record.{memberSize, memberOf};
-ghost use Rattle·setups.specs.Setup.{mostMembers, sixteen};
-ghost use Rattle·card.specs.Layout.{cardSize, countsFrom};
-ghost use Rattle·loads·specs.specs.Loads.{partOf, loadIn, load, lent, stateOf, summaryOf, memberTold, configurationTold, setupOfCard};
+ghost use Rattle.std.specs.Prelude.{◌≡◌, true, map, ◌≤◌, length};
+ghost use Rattle.objects.specs.Objects.{objectsSize, objectByte, count};
+ghost use Rattle.member.specs.Record.{memberSize, memberOf};
+ghost use Rattle.setups.specs.Setup.{mostMembers, sixteen};
+ghost use Rattle.card.specs.Layout.{cardSize, countsFrom};
+ghost use Rattle.loads.specs.Loads.{part_of, loadIn, load, lent, state_of, summaryOf, memberTold, configurationTold, setupOfCard};
+
 use card::CONFIGURATION_SIZE;
 use inventory::Place;
 use member::Member;
-use protocol::EventAnswer;
-use protocol::Mode;
+use protocol::{EventAnswer, Mode};
 use setups::MOST_MEMBERS;
 
 // A member in numbers: its state, 0 running, 1 stopped, 2 marked; its queue count; its live get and set objects; 0, or one
 // more than the bytes in its open holding place.
+#[derive(Drop)]
 pub struct Summary {
     pub state: u8,
     pub queues: u8,
@@ -31,8 +28,8 @@ pub struct Summary {
 
 // The value of a part, among a member's bytes; an empty slice where the member has not got the part.
 fn part_in<'a>(bytes: &'a [u8], t: u16, selector: u64) -> &'a [u8]
-    requires { ⌜ length (now bytes) ≡ memberSize ⌝ }
-    ensures { λ r. ⌜ now r ≡ partOf (memberOf (now (bytes .entry))) t selector ⌝ }
+    requires { length bytes.now ≡ memberSize }
+    ensures { result.now ≡ part_of (memberOf bytes.now) t selector }
 {
     let Place::At(i) = inventory::place_of(member::queues_of(bytes), t, selector) else {
         return &bytes[0..0];
@@ -44,8 +41,8 @@ fn part_in<'a>(bytes: &'a [u8], t: u16, selector: u64) -> &'a [u8]
 
 // It is copied out where the buffer is as long. No part's value is empty.
 fn load_in(bytes: &[u8], t: u16, selector: u64, value: &mut [u8]) -> EventAnswer
-    requires { ⌜ length (now bytes) ≡ memberSize ⌝ }
-    ensures { λ r. ⌜ (r, now (value .exit)) ≡ loadIn (memberOf (now (bytes .entry))) t selector (now (value .entry)) ⌝ }
+    requires { length bytes.now ≡ memberSize }
+    ensures { (result, value.new) ≡ loadIn (memberOf bytes.now) t selector value.old }
 {
     let own = part_in(bytes, t, selector);
     if own.len() == 0 {
@@ -60,7 +57,7 @@ fn load_in(bytes: &[u8], t: u16, selector: u64, value: &mut [u8]) -> EventAnswer
 
 // One part of one member, whatever its state is; selector is the eight selector bytes as a number.
 pub fn load(card: &[u8], m: u64, t: u16, selector: u64, value: &mut [u8]) -> EventAnswer
-    ensures { λ r. ⌜ (r, now (value .exit)) ≡ load (now (card .entry)) m t selector (now (value .entry)) ⌝ }
+    ensures { (result, value.new) ≡ load card.now m t selector value.old }
 {
     let a = events::member_answer(card, m);
     if !protocol::is_event_done(a) {
@@ -76,7 +73,7 @@ pub fn load(card: &[u8], m: u64, t: u16, selector: u64, value: &mut [u8]) -> Eve
 
 // The same value where it stands in the card, with no copy; an empty slice where there is no such part.
 pub fn lend<'a>(card: &'a [u8], m: u64, t: u16, selector: u64) -> &'a [u8]
-    ensures { λ r. ⌜ now r ≡ lent (now (card .entry)) m t selector ⌝ }
+    ensures { result.now ≡ lent card.now m t selector }
 {
     let a = events::member_answer(card, m);
     if !protocol::is_event_done(a) {
@@ -92,7 +89,7 @@ pub fn lend<'a>(card: &'a [u8], m: u64, t: u16, selector: u64) -> &'a [u8]
 // ---- a member ----
 
 fn state_of(mode: Mode, marked: bool) -> u8
-    ensures { λ r. ⌜ r ≡ stateOf mode marked ⌝ }
+    ensures { result ≡ state_of mode marked }
 {
     if marked {
         return 2;
@@ -105,8 +102,8 @@ fn state_of(mode: Mode, marked: bool) -> u8
 
 // How many of the sixteen object bytes are v.
 fn count_of(v: u8, bytes: &[u8]) -> u8
-    requires { ⌜ length (now bytes) ≡ objectsSize ⌝ }
-    ensures { λ r. ⌜ r ≡ count v (now (bytes .entry)) ⌝ }
+    requires { length bytes.now ≡ objectsSize }
+    ensures { result ≡ count v bytes.now }
 {
     let mut n: u8 = 0;
     let mut i = 0;
@@ -118,7 +115,7 @@ fn count_of(v: u8, bytes: &[u8]) -> u8
 }
 
 fn summary_of(x: Member) -> Summary
-    ensures { λ r. ⌜ r ≡ summaryOf x ⌝ }
+    ensures { result ≡ summaryOf x }
 {
     let mode = x.mode;
     let objects = x.objects;
@@ -142,7 +139,7 @@ pub fn member(
     sets: &mut u8,
     held: &mut u16,
 ) -> EventAnswer
-    ensures { λ r. ⌜ (r, (now (state .exit), (now (queues .exit), (now (gets .exit), (now (sets .exit), now (held .exit)))))) ≡ memberTold (now (card .entry)) m (now (state .entry), (now (queues .entry), (now (gets .entry), (now (sets .entry), now (held .entry))))) ⌝ }
+    ensures { (result, (state.new, (queues.new, (gets.new, (sets.new, held.new))))) ≡ memberTold card.now m (state.old, (queues.old, (gets.old, (sets.old, held.old)))) }
 {
     let a = events::member_answer(card, m);
     if !protocol::is_event_done(a) {
@@ -161,7 +158,7 @@ pub fn member(
 
 // The twelve bytes and the generation.
 pub fn configuration(card: &[u8], m: u64, bytes: &mut [u8], generation: &mut u32) -> EventAnswer
-    ensures { λ r. ⌜ (r, (now (bytes .exit), now (generation .exit))) ≡ configurationTold (now (card .entry)) m (now (bytes .entry), now (generation .entry)) ⌝ }
+    ensures { (result, (bytes.new, generation.new)) ≡ configurationTold card.now m (bytes.old, generation.old) }
 {
     let a = events::member_answer(card, m);
     if !protocol::is_event_done(a) {
@@ -179,8 +176,8 @@ pub fn configuration(card: &[u8], m: u64, bytes: &mut [u8], generation: &mut u32
 
 // The queue counts of members 1 to n.
 fn counts_of(card: &[u8], n: u64) -> [u8; MOST_MEMBERS]
-    requires { ⌜ (length (now card) ≡ cardSize n) × (n ≤ mostMembers) ⌝ }
-    ensures { λ r. ⌜ r ≡ sixteen (countsFrom (now (card .entry)) 1 n) ⌝ }
+    requires { (length card.now ≡ cardSize n) × (n ≤ mostMembers) }
+    ensures { result ≡ sixteen (countsFrom card.now 1 n) }
 {
     let mut counts = [0u8; MOST_MEMBERS];
     let mut i: u64 = 0;
@@ -194,7 +191,7 @@ fn counts_of(card: &[u8], n: u64) -> [u8; MOST_MEMBERS]
 // The card's setup, packed at the front of `setup`, and how many bytes that is; 0, with nothing written, where the card is not
 // sound or `setup` too short.
 pub fn setup_of(card: &[u8], setup: &mut [u8]) -> usize
-    ensures { λ r. ⌜ (r, now (setup .exit)) ≡ setupOfCard (now (card .entry)) (now (setup .entry)) ⌝ }
+    ensures { (result, setup.new) ≡ setupOfCard card.now setup.old }
 {
     if !card::is_sound(card) {
         return 0;

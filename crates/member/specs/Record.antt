@@ -1,18 +1,15 @@
 -- A member's bytes, which stand at the front of its record, SPEC 2.7: mode 1, mark 1, queue count 1, object records 16, what
 -- its holding place holds 2, values 205. Assumes nothing.
-use mathlib.Core.List.{List, [], _∷_, _++_, map}
-use Prim.Native.Nat.{ℕ, _+_}
-use lib.Dec.{eqb}
-use lib.ListN.{getD}
-use Rattle·theory.specs.Logic.{indicator}
-use Rattle·theory.specs.Bytes.{bytesAt}
-use Rattle·wire.specs.Le.{bytes, number}
-use Rattle·inventory.specs.Inventory.{valuesSize}
-use Rattle·protocol.specs.declared.Mode.{Mode}
-use Rattle·protocol.specs.declared.Mode.the-variants.{Running, Stopped}
-use Rattle·protocol.specs.Answers.{modeOf}
-use Rattle·objects.specs.Objects.{objectsSize, objectOf, objectByte}
-use Rattle·member·specs.specs.declared.Member.{Member}
+use Rattle.std.specs.Prelude.{List, [], ◌∷◌, ◌++◌, map, ℕ, ◌+◌, eqb, get_or}
+use Rattle.theory.specs.Logic.{indicator}
+use Rattle.theory.specs.Bytes.{bytes_at}
+use Rattle.wire.specs.Le.{bytes, number}
+use Rattle.inventory.specs.Inventory.{valuesSize}
+use Rattle.protocol.specs.declared.Mode.{Mode}
+use Rattle.protocol.specs.declared.Mode.TheVariants.{Running, Stopped}
+use Rattle.protocol.specs.Answers.{mode_of}
+use Rattle.objects.specs.Objects.{objectsSize, objectOf, objectByte}
+use Rattle.member.specs.declared.Member.{Member}
 
 abbrev pub modeAt : ℕ
 modeAt = 0
@@ -28,11 +25,11 @@ queuesAt = markAt + 1
 abbrev pub objectsAt : ℕ
 objectsAt = queuesAt + 1
 
-abbrev pub heldAt : ℕ
-heldAt = objectsAt + objectsSize
+abbrev pub held_at : ℕ
+held_at = objectsAt + objectsSize
 
 abbrev pub valuesAt : ℕ
-valuesAt = heldAt + 2
+valuesAt = held_at + 2
 
 abbrev pub memberSize : ℕ
 memberSize = valuesAt + valuesSize
@@ -48,20 +45,20 @@ modeByte Running = 0
 modeByte Stopped = 1
 
 abbrev pub objectBytes : List ℕ → List ℕ
-objectBytes r = bytesAt objectsAt objectsSize r
+objectBytes r = bytes_at objectsAt objectsSize r
 
 -- the member that bytes hold, and the bytes that hold a member
 unfoldable pub memberOf : List ℕ → Member
 memberOf r =
     record {
-      mode = modeOf (getD r modeAt 0);
-      marked = eqb (getD r markAt 0) 1;
-      queues = getD r queuesAt 0;
+      mode = mode_of (get_or r modeAt 0);
+      marked = eqb (get_or r markAt 0) 1;
+      queues = get_or r queuesAt 0;
       objects = map objectOf (objectBytes r);
-      held = number heldAt 2 r;
-      values = bytesAt valuesAt valuesSize r;
+      held = number held_at 2 r;
+      values = bytes_at valuesAt valuesSize r;
     }
 
 unfoldable pub memberBytes : Member → List ℕ
 memberBytes m =
-    (modeByte (m .mode) ∷ indicator (m .marked) ∷ m .queues ∷ []) ++ (map objectByte (m .objects) ++ (bytes 2 (m .held) ++ m .values))
+    (modeByte m.mode ∷ indicator m.marked ∷ m.queues ∷ []) ++ (map objectByte m.objects ++ (bytes 2 m.held ++ m.values))

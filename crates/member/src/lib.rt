@@ -1,21 +1,17 @@
 // A member of the card: a struct by value, its bytes at the front of its record, SPEC 2.7, and its resource objects.
 mod fields;
 
-ghost use mathlib.Core.Path.{_≡_};
-ghost use Prim.Native.Nat.{_+_, _≤_};
-ghost use lib.ListN.{length};
-ghost use Rattle·parts.specs.declared.ListForm.the-variants.{Parts};
-ghost use Rattle·parts.specs.List.{partsOf};
-ghost use Rattle·values.specs.Apply.{applied};
-ghost use Rattle·objects.specs.Objects.{objectsSize, mostOf};
-ghost use Rattle·member·specs.specs.Record.{memberSize, memberOf, memberBytes};
-ghost use Rattle·member·specs.specs.Objects.{lookupOf, withObject, roomIn};
-ghost use Rattle·member·specs.specs.Member.{freshOf, withMode, withValues, withHeld, handedBack, withPart};
-ghost use Rattle·member·specs.specs.Sound.{soundRecord};
-use objects::Found;
-use objects::IDS;
-use objects::ObjectRecord;
-use objects::Slot;
+ghost use Rattle.std.specs.Prelude.{◌≡◌, ◌+◌, ◌≤◌, length};
+ghost use Rattle.parts.specs.declared.ListForm.TheVariants.{Parts};
+ghost use Rattle.parts.specs.List.{parts_of};
+ghost use Rattle.values.specs.Apply.{applied};
+ghost use Rattle.objects.specs.Objects.{objectsSize, most_of};
+ghost use Rattle.member.specs.Record.{memberSize, memberOf, memberBytes};
+ghost use Rattle.member.specs.Objects.{lookupOf, withObject, roomIn};
+ghost use Rattle.member.specs.Member.{fresh_of, withMode, withValues, withHeld, handedBack, withPart};
+ghost use Rattle.member.specs.Sound.{soundRecord};
+
+use objects::{Found, IDS, ObjectRecord, Slot};
 use protocol::Mode;
 
 // The device features, which stand first among the values.
@@ -49,6 +45,7 @@ const HELD_MOST: u16 = 1025;
 
 // A member's mode, whether it is handed back and not yet wiped, how many queues it has, its resource objects by id, what its
 // holding place holds, and the values of its parts.
+#[derive(Drop)]
 pub struct Member {
     pub mode: Mode,
     pub marked: bool,
@@ -62,7 +59,7 @@ pub struct Member {
 
 impl Member {
     pub fn fresh(queues: u8, features: [u8; FEATURES_SIZE]) -> Member
-        ensures { λ r. ⌜ r ≡ freshOf queues features ⌝ }
+        ensures { result ≡ fresh_of queues features }
     {
         let objects = [ObjectRecord { slot: Slot::Free }; IDS];
         let mut values = [0u8; VALUES_SIZE];
@@ -79,7 +76,7 @@ impl Member {
 
     // Hand back and wipe, SPEC 7.3: the two halves of a reset, of which none changes the queue count.
     pub fn hand_back(self) -> Member
-        ensures { λ r. ⌜ r ≡ handedBack self ⌝ }
+        ensures { result ≡ handedBack self }
     {
         let objects = [ObjectRecord { slot: Slot::Free }; IDS];
         let values = self.values;
@@ -94,14 +91,14 @@ impl Member {
     }
 
     pub fn wiped(self, features: [u8; FEATURES_SIZE]) -> Member
-        ensures { λ r. ⌜ r ≡ freshOf (self .queues) features ⌝ }
+        ensures { result ≡ fresh_of self.queues features }
     {
         Member::fresh(self.queues, features)
     }
 
     // A field that is an enum cannot be stored to, so the struct is made anew.
     fn with_mode(self, mode: Mode) -> Member
-        ensures { λ r. ⌜ r ≡ withMode self mode ⌝ }
+        ensures { result ≡ withMode self mode }
     {
         let objects = self.objects;
         let values = self.values;
@@ -117,27 +114,27 @@ impl Member {
 
     // Another number of bytes held: begin, feed and the end of a holding place.
     pub fn with_held(mut self, held: u16) -> Member
-        ensures { λ r. ⌜ r ≡ withHeld self held ⌝ }
+        ensures { result ≡ withHeld self held }
     {
         self.held = held;
         self
     }
 
     pub fn stop(self) -> Member
-        ensures { λ r. ⌜ r ≡ withMode self Mode.Stopped ⌝ }
+        ensures { result ≡ withMode self Mode.Stopped }
     {
         self.with_mode(Mode::Stopped)
     }
 
     pub fn resume(self) -> Member
-        ensures { λ r. ⌜ r ≡ withMode self Mode.Running ⌝ }
+        ensures { result ≡ withMode self Mode.Running }
     {
         self.with_mode(Mode::Running)
     }
 
     // A card store, SPEC 7.5: one part of the member, where it can be stored.
     pub fn store(mut self, t: u16, selector: u64, value: &[u8]) -> Member
-        ensures { λ r. ⌜ r ≡ withPart self t selector (now (value .entry)) ⌝ }
+        ensures { result ≡ withPart self t selector value.now }
     {
         let mut values = self.values;
         values::store_part(&mut values, self.queues, t, selector, value);
@@ -147,7 +144,7 @@ impl Member {
 
     // The parts of an accepted list.
     pub fn set_parts(mut self, list: &[u8]) -> Member
-        ensures { λ r. ⌜ r ≡ withValues self (applied (self .queues) (partsOf Parts (now (list .entry))) (self .values)) ⌝ }
+        ensures { result ≡ withValues self (applied self.queues (parts_of Parts list.now) self.values) }
     {
         let mut values = self.values;
         values::apply(&mut values, self.queues, list);
@@ -159,7 +156,7 @@ impl Member {
 
     // The live object of an id.
     pub fn lookup(self, id: usize) -> Found
-        ensures { λ r. ⌜ r ≡ lookupOf self id ⌝ }
+        ensures { result ≡ lookupOf self id }
     {
         if IDS <= id {
             return Found::Nothing;
@@ -171,7 +168,7 @@ impl Member {
 
     // The member with this at the id; an id that no record has changes nothing.
     pub fn with_object(mut self, id: usize, slot: Slot) -> Member
-        ensures { λ r. ⌜ r ≡ withObject self id slot ⌝ }
+        ensures { result ≡ withObject self id slot }
     {
         if IDS <= id {
             return self;
@@ -182,7 +179,7 @@ impl Member {
 
     // The member without the object of the id, whose id and room are free again.
     pub fn without_object(mut self, id: usize) -> Member
-        ensures { λ r. ⌜ r ≡ withObject self id Slot.Free ⌝ }
+        ensures { result ≡ withObject self id Slot.Free }
     {
         if IDS <= id {
             return self;
@@ -195,7 +192,7 @@ impl Member {
 
     // Whether the member has at most so many get and set objects.
     pub fn has_room(self, gets: u8, sets: u8) -> bool
-        ensures { λ r. ⌜ r ≡ roomIn gets sets self ⌝ }
+        ensures { result ≡ roomIn gets sets self }
     {
         let objects = self.objects;
         let bytes = objects::object_bytes(objects);
@@ -207,8 +204,8 @@ impl Member {
 
 // The live object of an id. A command that reads has no need of the member by value.
 pub fn lookup_in(bytes: &[u8], id: usize) -> Found
-    requires { ⌜ length (now bytes) ≡ memberSize ⌝ }
-    ensures { λ r. ⌜ r ≡ lookupOf (memberOf (now (bytes .entry))) id ⌝ }
+    requires { length bytes.now ≡ memberSize }
+    ensures { result ≡ lookupOf (memberOf bytes.now) id }
 {
     if IDS <= id {
         return Found::Nothing;
@@ -217,22 +214,22 @@ pub fn lookup_in(bytes: &[u8], id: usize) -> Found
 }
 
 pub fn values_of(bytes: &[u8]) -> &[u8]
-    requires { ⌜ length (now bytes) ≡ memberSize ⌝ }
-    ensures { λ r. ⌜ now r ≡ memberOf (now (bytes .entry)) .values ⌝ }
+    requires { length bytes.now ≡ memberSize }
+    ensures { result.now ≡ (memberOf bytes.now).values }
 {
     &bytes[VALUES_AT..MEMBER_SIZE]
 }
 
 pub fn is_marked(bytes: &[u8]) -> bool
-    requires { ⌜ length (now bytes) ≡ memberSize ⌝ }
-    ensures { λ r. ⌜ r ≡ memberOf (now (bytes .entry)) .marked ⌝ }
+    requires { length bytes.now ≡ memberSize }
+    ensures { result ≡ (memberOf bytes.now).marked }
 {
     bytes[MARK_AT] == 1
 }
 
 pub fn queues_of(bytes: &[u8]) -> u8
-    requires { ⌜ length (now bytes) ≡ memberSize ⌝ }
-    ensures { λ r. ⌜ r ≡ memberOf (now (bytes .entry)) .queues ⌝ }
+    requires { length bytes.now ≡ memberSize }
+    ensures { result ≡ (memberOf bytes.now).queues }
 {
     bytes[QUEUES_AT]
 }
@@ -240,8 +237,8 @@ pub fn queues_of(bytes: &[u8]) -> u8
 // Most holds what each object byte may be at most: see objects. Features and objects are two vectors with one test, and
 // the tests stand in the order that takes the least time.
 pub fn is_sound_record(bytes: &[u8], gets: u8, sets: u8, most: &[u8], features: &[u8]) -> bool
-    requires { ⌜ (length (now bytes) ≡ memberSize) × (gets + sets ≤ objectsSize) × (now most ≡ mostOf (gets + sets)) ⌝ }
-    ensures { λ r. ⌜ r ≡ soundRecord gets sets (now (features .entry)) (now (bytes .entry)) ⌝ }
+    requires { (length bytes.now ≡ memberSize) × (gets + sets ≤ objectsSize) × (most.now ≡ most_of (gets + sets)) }
+    ensures { result ≡ soundRecord gets sets features.now bytes.now }
 {
     let kept = wire::equal(&bytes[VALUES_AT..FEATURES_END], features);
     let low = objects::are_within(most, &bytes[OBJECTS_AT..HELD_AT]);
@@ -263,8 +260,8 @@ pub fn is_sound_record(bytes: &[u8], gets: u8, sets: u8, most: &[u8], features: 
 // ---- from a member's bytes to the member, and back ----
 
 pub fn load(bytes: &[u8]) -> Member
-    requires { ⌜ length (now bytes) ≡ memberSize ⌝ }
-    ensures { λ r. ⌜ r ≡ memberOf (now (bytes .entry)) ⌝ }
+    requires { length bytes.now ≡ memberSize }
+    ensures { result ≡ memberOf bytes.now }
 {
     let mode = protocol::mode_of(bytes[MODE_AT]);
     let marked = is_marked(bytes);
@@ -283,8 +280,8 @@ pub fn load(bytes: &[u8]) -> Member
 }
 
 pub fn save(m: Member, bytes: &mut [u8])
-    requires { ⌜ length (now bytes) ≡ memberSize ⌝ }
-    ensures { λ _. ⌜ now (bytes .exit) ≡ memberBytes m ⌝ }
+    requires { length bytes.old ≡ memberSize }
+    ensures { bytes.new ≡ memberBytes m }
 {
     let mode = m.mode;
     fields::save_front(mode, m.marked, m.queues, bytes);

@@ -1,19 +1,13 @@
 -- What is known of a message by what it asks: whom it names, and how long it is. Assumes nothing.
-use mathlib.Core.Path.{_≡_}
-use mathlib.Core.Bool.{Bool, true}
-use mathlib.Core.List.{List}
-use Prim.Native.Nat.{ℕ, _+_, _≤_, _<_}
-use native.Mathlib.Omega.{arith}
-use borrow.Author.Tests.{leb-true, eqb-true}
-use lib.ListN.{length}
-use Rattle·theory.specs.Logic.{unless_answer_then_}
-use Rattle·theory.proofs.Tests.{if-cases, unless-cases, both, within-high}
-use Rattle·card.specs.Layout.{setupOf}
-use Rattle·message·specs.specs.declared.Access.{Access}
-use Rattle·message·specs.specs.declared.Access.the-variants.{Nothing, Read, Write}
-use Rattle·message·specs.specs.Format.{headerSize, devNumOf, memberFor, dataAt}
-use Rattle·message·specs.specs.Access.{isRequest, readIn, writeIn, wholeOf}
-use Rattle·message·specs.specs.Message.{accessIn}
+use Rattle.std.proofs.Common.{◌≡◌, ℕ, ◌+◌, ◌<◌, ◌≤◌, Bool, true, List, length, arith, eqb-true, leb-true}
+use Rattle.theory.specs.Logic.{unless◌answer◌then◌}
+use Rattle.theory.proofs.Tests.{if-cases, unless-cases, both, within-high}
+use Rattle.card.specs.Layout.{setupOf}
+use Rattle.message.specs.declared.Access.{Access}
+use Rattle.message.specs.declared.Access.TheVariants.{Nothing, Read, Write}
+use Rattle.message.specs.Format.{headerSize, devNumOf, memberFor, dataAt}
+use Rattle.message.specs.Access.{isRequest, readIn, writeIn, whole_of}
+use Rattle.message.specs.Message.{accessIn}
 
 -- it speaks for member m, one of the card's, and its header is there
 pub record Speaks (members : ℕ) (x : List ℕ) (m : ℕ) : Type 0 where
@@ -31,20 +25,20 @@ module _ (members : ℕ) (x : List ℕ) where
   guarded : (t : Bool) (a : Access) → (t ≡ true → Facts members x a) → Facts members x (unless t answer Nothing then a)
   guarded t a f = unless-cases (Facts members x) t Nothing a (λ e. tt) f
 
-  whole-facts : devNumOf x < members → Facts members x (wholeOf x)
-  unfolding wholeOf isRequest readIn writeIn
+  whole-facts : devNumOf x < members → Facts members x (whole_of x)
+  unfolding whole_of isRequest readIn writeIn
   whole-facts h = guarded _ _ λ e.
-      let s : Speaks members x (devNumOf x + 1) = record { low = omega arith; high = omega arith; long = leb-true _ _ (both _ _ (both _ _ e .0) .0) } in
+      let s : Speaks members x (devNumOf x + 1) = record { low = omega arith; high = omega arith; long = leb-true _ _ (both _ _ (both _ _ e).0).0 } in
       if-cases (Facts members x) _ _ _ (λ t. guarded _ _ (λ u. s)) λ t.
       if-cases (Facts members x) _ _ _ (λ u. guarded _ _ (λ v. (s, eqb-true _ _ v))) (λ u. tt)
 
 module _ (c x : List ℕ) where
   -- nothing is asked of a card, or what the message asks of any
-  pub access-cases : (P : Access → Type 0) → P Nothing → (Facts (setupOf c .members) x (wholeOf x) → P (wholeOf x)) → P (accessIn c x)
+  pub access-cases : (P : Access → Type 0) → P Nothing → (Facts (setupOf c).members x (whole_of x) → P (whole_of x)) → P (accessIn c x)
   unfolding accessIn
   access-cases P f g =
       unless-cases P _ _ _ (λ e. f) λ e.
-      unless-cases P _ _ _ (λ u. f) (λ u. g (whole-facts _ x (omega (arith, within-high 1 (setupOf c .members) (memberFor x) e))))
+      unless-cases P _ _ _ (λ u. f) (λ u. g (whole-facts _ x (omega (arith, within-high 1 (setupOf c).members (memberFor x) e))))
 
-  pub asked : (a : Access) → a ≡ accessIn c x → Facts (setupOf c .members) x a
-  asked a e = rw e (access-cases (Facts (setupOf c .members) x) tt (λ f. f))
+  pub asked : (a : Access) → a ≡ accessIn c x → Facts (setupOf c).members x a
+  asked a e = rw e (access-cases (Facts (setupOf c).members x) tt (λ f. f))

@@ -1,40 +1,33 @@
--- A message by its cases: what is here is all that the proofs above use of the definition of `answerOf`. Assumes nothing.
-use mathlib.Core.Path.{_≡_, refl, sym, _∙_}
-use mathlib.Core.Bool.{true, false}
-use mathlib.Core.List.{List, []}
-use Prim.Native.Nat.{ℕ, _+_, _^_, _≤_, _<_}
-use native.Mathlib.Omega.{arith}
-use lib.Dec.{leb}
-use lib.ListN.{length, length-drop}
-use borrow.Author.Tests.{eqb-true, eq-eqb, leb-true}
-use Rattle·theory.specs.Logic.{unless_answer_then_}
-use Rattle·theory.proofs.Tests.{by-cases, if-cases, unless-cases, both, inside, never}
-use Rattle·wire.specs.Le.{bytes, number}
-use Rattle·wire.proofs.Le.{le-bytes}
-use Rattle·card.specs.Layout.{configurationSize, setupOf, isMember, isMarked, generationIn, withConfiguration}
-use Rattle·card.specs.Sound.{isSound}
-use Rattle·message·specs.specs.declared.Access.{Access}
-use Rattle·message·specs.specs.declared.Access.the-variants.{Nothing, Read, Write}
-use Rattle·message·specs.specs.Format.{memberFor, dataAt, lengthOf, dataOf, responseHeader, responseFields, responseOf}
-use Rattle·message·specs.specs.Access.{readIn, writeIn, wholeOf, speaksFor}
-use Rattle·message·specs.specs.Message.{isApplied, nextGeneration, appliedTo, actOf, fitting, accessIn, answerOf}
-use Rattle·message·proofs.proofs.Asked.{Facts, access-cases, asked}
-use Rattle·message·proofs.proofs.Acted.{applied-is}
+-- A message by its cases: what is here is all that the proofs above use of the definition of `answer_of`. Assumes nothing.
+use Rattle.std.proofs.Common.{◌≡◌, ℕ, ◌+◌, ◌^◌, ◌<◌, ◌≤◌, true, false, leb, List, [], length, sym, refl, ◌∙◌, arith, length-drop, eq-eqb, eqb-true, leb-true}
+use Rattle.theory.specs.Logic.{unless◌answer◌then◌}
+use Rattle.theory.proofs.Tests.{by_cases, if-cases, unless-cases, both, inside, never}
+use Rattle.wire.specs.Le.{bytes, number}
+use Rattle.wire.proofs.Le.{le_bytes}
+use Rattle.card.specs.Layout.{configurationSize, setupOf, isMember, isMarked, generationIn, withConfiguration}
+use Rattle.card.specs.Sound.{isSound}
+use Rattle.message.specs.declared.Access.{Access}
+use Rattle.message.specs.declared.Access.TheVariants.{Nothing, Read, Write}
+use Rattle.message.specs.Format.{memberFor, dataAt, length_of, data_of, responseHeader, responseFields, responseOf}
+use Rattle.message.specs.Access.{readIn, writeIn, whole_of, speaksFor}
+use Rattle.message.specs.Message.{isApplied, nextGeneration, appliedTo, actOf, fitting, accessIn, answer_of}
+use Rattle.message.proofs.Asked.{Facts, access-cases, asked}
+use Rattle.message.proofs.Acted.{applied-is}
 
 -- ---- by whether the card is sound, and whether the response fits ----
 
 module _ (c x : List ℕ) (room : ℕ) where
-  pub answer-unsound : isSound c ≡ false → answerOf c x room ≡ (c, [])
-  unfolding answerOf unless_answer_then_
+  pub answer-unsound : isSound c ≡ false → answer_of c x room ≡ (c, [])
+  unfolding answer_of unless◌answer◌then◌
   answer-unsound e = rw e
 
-  pub answer-sound : isSound c ≡ true → answerOf c x room ≡ fitting c room (actOf c x (accessIn c x))
-  unfolding answerOf unless_answer_then_
+  pub answer-sound : isSound c ≡ true → answer_of c x room ≡ fitting c room (actOf c x (accessIn c x))
+  unfolding answer_of unless◌answer◌then◌
   answer-sound e = rw e
 
   pub answer-cases : (P : List ℕ × List ℕ → Type 0) → P (c, [])
-      → (isSound c ≡ true → P (actOf c x (accessIn c x))) → P (answerOf c x room)
-  unfolding answerOf fitting
+      → (isSound c ≡ true → P (actOf c x (accessIn c x))) → P (answer_of c x room)
+  unfolding answer_of fitting
   answer-cases P f g = unless-cases P _ _ _ (λ t. f) (λ s. unless-cases P _ _ _ (λ t. f) (λ t. g s))
 
 -- ---- whom a message names ----
@@ -49,8 +42,8 @@ speaks-one (Write j sent offset n) m k e f = sym (eqb-true j m e) ∙ eqb-true j
 Numbered : ℕ → List ℕ → Access → Type 0
 Numbered m x a = speaksFor m a ≡ true → memberFor x ≡ m
 
-speaks-number : (m : ℕ) (x : List ℕ) → speaksFor m (wholeOf x) ≡ true → memberFor x ≡ m
-unfolding wholeOf readIn writeIn Numbered speaksFor
+speaks-number : (m : ℕ) (x : List ℕ) → speaksFor m (whole_of x) ≡ true → memberFor x ≡ m
+unfolding whole_of readIn writeIn Numbered speaksFor
 speaks-number m x =
     unless-cases (Numbered m x) _ _ _ (λ t e. never e) λ t.
     if-cases (Numbered m x) _ _ _ (λ u. unless-cases (Numbered m x) _ _ _ (λ v e. never e) (λ v. eqb-true _ m)) λ u.
@@ -58,73 +51,73 @@ speaks-number m x =
     (λ v e. never e)
 
 -- it gets no response where that member is marked
-pub answer-marked : (c x : List ℕ) (m room : ℕ) → isMarked c m ≡ true → speaksFor m (wholeOf x) ≡ true → answerOf c x room ≡ (c, [])
-unfolding accessIn actOf fitting unless_answer_then_
+pub answer-marked : (c x : List ℕ) (m room : ℕ) → isMarked c m ≡ true → speaksFor m (whole_of x) ≡ true → answer_of c x room ≡ (c, [])
+unfolding accessIn actOf fitting unless◌answer◌then◌
 answer-marked c x m room u e =
-    by-cases (isSound c)
+    by_cases (isSound c)
     (λ s.
     rw (answer-sound c x room s, speaks-number m x e, u)
-    (by-cases (isMember c m) (λ i. rw i (none-fits c room)) (λ i. rw i (none-fits c room))))
+    (by_cases (isMember c m) (λ i. rw i (none-fits c room)) (λ i. rw i (none-fits c room))))
     (λ s. answer-unsound c x room s)
   where
     none-fits : (c : List ℕ) (room : ℕ) → fitting c room (c, []) ≡ (c, [])
-    none-fits c room = by-cases (leb 0 room) (λ t. rw t) (λ t. rw t)
+    none-fits c room = by_cases (leb 0 room) (λ t. rw t) (λ t. rw t)
 
 -- ---- the card after it: the same, or with another configuration and generation of the member that it names ----
 
 module _ (c x : List ℕ) (Q : List ℕ → Type 0) (f : Q c) where
-  act-card : (a : Access) → Facts (setupOf c .members) x a
-      → ((m : ℕ) (y : List ℕ) (g : ℕ) → isMember c m ≡ true → speaksFor m a ≡ true → Q (withConfiguration c m y g)) → Q (actOf c x a .0)
+  act-card : (a : Access) → Facts (setupOf c).members x a
+      → ((m : ℕ) (y : List ℕ) (g : ℕ) → isMember c m ≡ true → speaksFor m a ≡ true → Q (withConfiguration c m y g)) → Q (actOf c x a).0
   unfolding actOf appliedTo speaksFor
   act-card Nothing t h = f
   act-card (Read m offset n) t h = f
   act-card (Write m sent offset n) t h =
-      unless-cases (λ (y : List ℕ × List ℕ). Q (y .0)) _ _ _ (λ e. f)
-      (λ e. h m _ _ (inside 1 _ m (t .0 .low) (t .0 .high)) (eq-eqb m m refl))
+      unless-cases (λ (y : List ℕ × List ℕ). Q y.0) _ _ _ (λ e. f)
+      (λ e. h m _ _ (inside 1 _ m t.0.low t.0.high) (eq-eqb m m refl))
 
-  pub card-cases : (room : ℕ) → ((m : ℕ) (y : List ℕ) (g : ℕ) → isSound c ≡ true → isMember c m ≡ true → speaksFor m (wholeOf x) ≡ true → Q (withConfiguration c m y g))
-      → Q (answerOf c x room .0)
+  pub card-cases : (room : ℕ) → ((m : ℕ) (y : List ℕ) (g : ℕ) → isSound c ≡ true → isMember c m ≡ true → speaksFor m (whole_of x) ≡ true → Q (withConfiguration c m y g))
+      → Q (answer_of c x room).0
   unfolding actOf
   card-cases room h =
-      answer-cases c x room (λ (y : List ℕ × List ℕ). Q (y .0)) f λ s.
-      access-cases c x (λ a. Q (actOf c x a .0)) f (λ t. act-card (wholeOf x) t (λ m y g. h m y g s))
+      answer-cases c x room (λ (y : List ℕ × List ℕ). Q y.0) f λ s.
+      access-cases c x (λ a. Q (actOf c x a).0) f (λ t. act-card (whole_of x) t (λ m y g. h m y g s))
 
 -- ---- an answer of length 0, or none ----
 
-response-length : (x : List ℕ) (generation offset : ℕ) (bs : List ℕ) → length bs < 256 ^ 4 → lengthOf (responseOf x generation offset bs) ≡ length bs
+response-length : (x : List ℕ) (generation offset : ℕ) (bs : List ℕ) → length bs < 256 ^ 4 → length_of (responseOf x generation offset bs) ≡ length bs
 unfolding responseOf responseHeader responseFields bytes number
-response-length x generation offset bs h = le-bytes 4 (length bs) h
+response-length x generation offset bs h = le_bytes 4 (length bs) h
 
 -- an applied write has data
 applied-some : (x : List ℕ) (current sent offset n : ℕ) → dataAt + n ≡ length x → isApplied current sent offset n ≡ true
-    → (1 ≤ length (dataOf x)) × (length (dataOf x) ≤ configurationSize)
+    → (1 ≤ length (data_of x)) × (length (data_of x) ≤ configurationSize)
 unfolding isApplied
 applied-some x current sent offset n e t =
     let l = length-drop dataAt x in
-    let k : 1 ≤ n = leb-true _ _ (both _ _ (both _ _ t .0) .0) in
+    let k : 1 ≤ n = leb-true _ _ (both _ _ (both _ _ t).0).0 in
     let i = applied-is current sent offset n t in
     (omega arith, omega arith)
 
 Keeps : List ℕ → List ℕ × List ℕ → Type 0
-Keeps c y = lengthOf (y .1) ≡ 0 → y .0 ≡ c
+Keeps c y = length_of y.1 ≡ 0 → y.0 ≡ c
 
-act-keeps : (c x : List ℕ) (a : Access) → Facts (setupOf c .members) x a → Keeps c (actOf c x a)
+act-keeps : (c x : List ℕ) (a : Access) → Facts (setupOf c).members x a → Keeps c (actOf c x a)
 unfolding Keeps actOf appliedTo
 act-keeps c x Nothing t = λ e. refl
 act-keeps c x (Read m offset n) t = λ e. refl
 act-keeps c x (Write m sent offset n) t =
     unless-cases (Keeps c) _ _ _ (λ u e. refl) λ u e.
-    let s = applied-some x (generationIn c m) sent offset n (t .1) u in
-    absurd (omega (arith, s .0, s .1, response-length x (nextGeneration (generationIn c m)) offset (dataOf x) (omega (arith, s .1))))
+    let s = applied-some x (generationIn c m) sent offset n t.1 u in
+    absurd (omega (arith, s.0, s.1, response-length x (nextGeneration (generationIn c m)) offset (data_of x) (omega (arith, s.1))))
 
-pub no-data-keeps : (c x : List ℕ) (room : ℕ) → lengthOf (answerOf c x room .1) ≡ 0 → answerOf c x room .0 ≡ c
+pub no-data-keeps : (c x : List ℕ) (room : ℕ) → length_of (answer_of c x room).1 ≡ 0 → (answer_of c x room).0 ≡ c
 unfolding Keeps
 no-data-keeps c x room = answer-cases c x room (Keeps c) (λ e. refl) (λ s. act-keeps c x _ (asked c x _ refl))
 
 -- ---- the response fits ----
 
-pub answer-fits : (c x : List ℕ) (room : ℕ) → length (answerOf c x room .1) ≤ room
-unfolding answerOf fitting
+pub answer-fits : (c x : List ℕ) (room : ℕ) → length (answer_of c x room).1 ≤ room
+unfolding answer_of fitting
 answer-fits c x room =
-    let P : List ℕ × List ℕ → Type 0 = λ y. length (y .1) ≤ room in
+    let P : List ℕ × List ℕ → Type 0 = λ y. length y.1 ≤ room in
     unless-cases P _ _ _ (λ t. omega arith) (λ s. unless-cases P _ _ _ (λ t. omega arith) (λ t. leb-true _ _ t))

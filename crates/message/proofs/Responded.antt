@@ -1,16 +1,12 @@
 -- A response, written field by field. Assumes nothing.
-use mathlib.Core.Path.{_≡_, refl, sym, _∙_}
-use mathlib.Core.List.{List, _++_}
-use Prim.Native.Nat.{ℕ, _+_, _≤_, _<_}
-use native.Mathlib.Omega.{arith}
-use lib.ListN.{length, length-append}
-use borrow.Author.Tests.{le-leb, lt-leb}
-use Rattle·theory.specs.Bytes.{put}
-use Rattle·theory.proofs.Bytes.{put-append}
-use Rattle·theory.proofs.Ladder.{pass, stop}
-use Rattle·wire.specs.Le.{bytes}
-use Rattle·message·specs.specs.Format.{headerSize, msgIdOf, devNumOf, tokenOf, dataAt, responseHeader, responseFields, responseOf}
-use Rattle·message·specs.specs.Message.{sentIn}
+use Rattle.std.proofs.Common.{◌≡◌, ℕ, ◌+◌, ◌<◌, ◌≤◌, List, ◌++◌, length, sym, refl, ◌∙◌, arith, length-append, le-leb}
+use borrow.Author.Tests.{lt-leb}
+use Rattle.theory.specs.Bytes.{put}
+use Rattle.theory.proofs.Bytes.{put-append}
+use Rattle.theory.proofs.Ladder.{pass, stop}
+use Rattle.wire.specs.Le.{bytes}
+use Rattle.message.specs.Format.{headerSize, msgIdOf, devNumOf, tokenOf, dataAt, responseHeader, responseFields, responseOf}
+use Rattle.message.specs.Message.{sentIn}
 
 pub header-written : (x : List ℕ) (size i d t : ℕ) (l l₁ l₂ l₃ l₄ l₅ : List ℕ) → i ≡ msgIdOf x → d ≡ devNumOf x → t ≡ tokenOf x
     → l₁ ≡ put 0 (bytes 1 1) l → l₂ ≡ put 1 (bytes 1 i) l₁ → l₃ ≡ put 2 (bytes 2 d) l₂ → l₄ ≡ put 4 (bytes 2 t) l₃

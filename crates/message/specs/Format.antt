@@ -1,9 +1,7 @@
 -- The messages of source 003 that read and write a configuration, GET_CONFIG and SET_CONFIG: their fields and their layouts,
 -- SPEC 13.3. Numbers are little-endian. Assumes nothing.
-use mathlib.Core.List.{List, _++_}
-use Prim.Native.Nat.{ℕ, _+_}
-use lib.ListN.{length, getD, drop}
-use Rattle·wire.specs.Le.{bytes, number}
+use Rattle.std.specs.Prelude.{ℕ, ◌+◌, List, ◌++◌, length, drop, slice_index}
+use Rattle.wire.specs.Le.{bytes, number}
 
 -- the header, both ways: type 1 byte, msg_id 1, dev_num 2, token 2, msg_size 2
 abbrev pub msgIdAt : ℕ
@@ -21,11 +19,11 @@ msgSizeAt = 6
 abbrev pub headerSize : ℕ
 headerSize = 8
 
-abbrev pub typeOf : List ℕ → ℕ
-typeOf x = getD x 0 0
+abbrev pub type_of : List ℕ → ℕ
+type_of x = slice_index x 0
 
 abbrev pub msgIdOf : List ℕ → ℕ
-msgIdOf x = getD x msgIdAt 0
+msgIdOf x = slice_index x msgIdAt
 
 abbrev pub devNumOf : List ℕ → ℕ
 devNumOf x = number devNumAt 2 x
@@ -51,17 +49,17 @@ readSize = readLengthAt + 4
 abbrev pub offsetAt : ℕ
 offsetAt = headerSize + 4
 
-abbrev pub lengthAt : ℕ
-lengthAt = offsetAt + 4
+abbrev pub length_at : ℕ
+length_at = offsetAt + 4
 
 abbrev pub dataAt : ℕ
-dataAt = lengthAt + 4
+dataAt = length_at + 4
 
-abbrev pub lengthOf : List ℕ → ℕ
-lengthOf x = number lengthAt 4 x
+abbrev pub length_of : List ℕ → ℕ
+length_of x = number length_at 4 x
 
-abbrev pub dataOf : List ℕ → List ℕ
-dataOf x = drop dataAt x
+abbrev pub data_of : List ℕ → List ℕ
+data_of x = drop dataAt x
 
 -- the message ids of a request and its response
 abbrev pub getConfig : ℕ

@@ -1,13 +1,12 @@
 // Configuration by message, SPEC 13.3: the front of source 003 for GET_CONFIG and SET_CONFIG, strict profile. A message is
 // decoded, then acted on, then answered.
-ghost use mathlib.Core.Path.{_≡_};
-ghost use Prim.Native.Nat.{_+_, _≤_};
-ghost use lib.ListN.{length};
-ghost use Rattle·theory.specs.Bytes.{put};
-ghost use Rattle·card.specs.Layout.{configurationSize, cardSize, setupOf, HasRecord};
-ghost use Rattle·message·specs.specs.Format.{headerSize, memberFor, dataAt, dataOf, responseHeader, responseFields, responseOf};
-ghost use Rattle·message·specs.specs.Access.{isRequest, readIn, writeIn};
-ghost use Rattle·message·specs.specs.Message.{accessIn, isInside, readable, isApplied, appliedTo, actOf, fitting, delivered, messageOf, sentIn};
+ghost use Rattle.std.specs.Prelude.{◌≡◌, ◌+◌, ◌≤◌, length};
+ghost use Rattle.theory.specs.Bytes.{put};
+ghost use Rattle.card.specs.Layout.{configurationSize, cardSize, setupOf, HasRecord};
+ghost use Rattle.message.specs.Format.{headerSize, memberFor, dataAt, data_of, responseHeader, responseFields, responseOf};
+ghost use Rattle.message.specs.Access.{isRequest, readIn, writeIn};
+ghost use Rattle.message.specs.Message.{accessIn, isInside, readable, isApplied, appliedTo, actOf, fitting, delivered, messageOf, sentIn};
+
 use card::CONFIGURATION_SIZE;
 
 // The header: type 1 byte, msg_id 1, dev_num 2, token 2, msg_size 2.
@@ -42,6 +41,7 @@ const RESPONSE: u64 = 1;
 
 // What a message asks: nothing that is answered; bytes of a member's configuration, by offset and length; to write them,
 // with the generation that the driver saw. The data stands in the message.
+#[derive(Drop)]
 pub enum Access {
     Nothing,
     Read(u64, u32, u32),
@@ -52,7 +52,7 @@ pub enum Access {
 
 // A whole header of a request to a device, and msg_size the bytes handed over.
 fn is_request(message: &[u8]) -> bool
-    ensures { λ r. ⌜ r ≡ isRequest (now (message .entry)) ⌝ }
+    ensures { result ≡ isRequest message.now }
 {
     if message.len() < HEADER_SIZE {
         return false;
@@ -65,14 +65,14 @@ fn is_request(message: &[u8]) -> bool
 
 // Device number d speaks for member d + 1.
 fn member_of(message: &[u8]) -> u64
-    requires { ⌜ headerSize ≤ length (now message) ⌝ }
-    ensures { λ r. ⌜ r ≡ memberFor (now (message .entry)) ⌝ }
+    requires { headerSize ≤ length message.now }
+    ensures { result ≡ memberFor message.now }
 {
     wire::read_u16(message, DEV_NUM_AT) as u64 + 1
 }
 
 fn read_in(message: &[u8]) -> Access
-    ensures { λ r. ⌜ r ≡ readIn (now (message .entry)) ⌝ }
+    ensures { result ≡ readIn message.now }
 {
     if message.len() != READ_SIZE {
         return Access::Nothing;
@@ -86,7 +86,7 @@ fn read_in(message: &[u8]) -> Access
 
 // The data is as long as the length field says.
 fn write_in(message: &[u8]) -> Access
-    ensures { λ r. ⌜ r ≡ writeIn (now (message .entry)) ⌝ }
+    ensures { result ≡ writeIn message.now }
 {
     if message.len() < DATA_AT {
         return Access::Nothing;
@@ -105,8 +105,8 @@ fn write_in(message: &[u8]) -> Access
 
 // One whole request of the two kinds, for a device number below N whose member is not marked.
 fn decode(card: &[u8], message: &[u8]) -> Access
-    requires { ⌜ length (now card) ≡ cardSize (setupOf (now card) .members) ⌝ }
-    ensures { λ r. ⌜ r ≡ accessIn (now (card .entry)) (now (message .entry)) ⌝ }
+    requires { length card.now ≡ cardSize (setupOf card.now).members }
+    ensures { result ≡ accessIn card.now message.now }
 {
     if !is_request(message) {
         return Access::Nothing;
@@ -129,8 +129,8 @@ fn decode(card: &[u8], message: &[u8]) -> Access
 
 // The header of a response to this message, of so many bytes in all.
 fn write_header(reply: &mut [u8], message: &[u8], size: usize)
-    requires { ⌜ (headerSize ≤ length (now message)) × (headerSize ≤ length (now reply)) ⌝ }
-    ensures { λ _. ⌜ now (reply .exit) ≡ put 0 (responseHeader (now (message .entry)) size) (now (reply .entry)) ⌝ }
+    requires { (headerSize ≤ length message.now) × (headerSize ≤ length reply.old) }
+    ensures { reply.new ≡ put 0 (responseHeader message.now size) reply.old }
 {
     wire::write(reply, 0, 1, RESPONSE);
     wire::write(reply, MSG_ID_AT, 1, message[MSG_ID_AT] as u64);
@@ -145,8 +145,8 @@ fn write_header(reply: &mut [u8], message: &[u8], size: usize)
 }
 
 fn write_fields(reply: &mut [u8], generation: u32, offset: u32, n: usize)
-    requires { ⌜ dataAt ≤ length (now reply) ⌝ }
-    ensures { λ _. ⌜ now (reply .exit) ≡ put headerSize (responseFields generation offset n) (now (reply .entry)) ⌝ }
+    requires { dataAt ≤ length reply.old }
+    ensures { reply.new ≡ put headerSize (responseFields generation offset n) reply.old }
 {
     wire::write(reply, HEADER_SIZE, 4, generation as u64);
     wire::write(reply, OFFSET_AT, 4, offset as u64);
@@ -161,8 +161,8 @@ fn write_response(
     bytes: &[u8],
     reply: &mut [u8],
 ) -> usize
-    requires { ⌜ (headerSize ≤ length (now message)) × (length (now bytes) ≤ configurationSize) ⌝ }
-    ensures { λ r. ⌜ (r, now (reply .exit)) ≡ sentIn (responseOf (now (message .entry)) generation offset (now (bytes .entry))) (now (reply .entry)) ⌝ }
+    requires { (headerSize ≤ length message.now) × (length bytes.now ≤ configurationSize) }
+    ensures { (result, reply.new) ≡ sentIn (responseOf message.now generation offset bytes.now) reply.old }
 {
     let size = DATA_AT + bytes.len();
     if reply.len() < size {
@@ -178,15 +178,15 @@ fn write_response(
 
 // Bytes within the configuration; the sum does not wrap.
 fn is_inside(offset: u32, n: u32) -> bool
-    ensures { λ r. ⌜ r ≡ isInside offset n ⌝ }
+    ensures { result ≡ isInside offset n }
 {
     offset as u64 + n as u64 <= CONFIGURATION_SIZE as u64
 }
 
 // Bytes of a configuration; none where they are not inside.
 fn readable(configuration: &[u8], offset: u32, n: u32) -> &[u8]
-    requires { ⌜ length (now configuration) ≡ configurationSize ⌝ }
-    ensures { λ r. ⌜ now r ≡ readable (now (configuration .entry)) offset n ⌝ }
+    requires { length configuration.now ≡ configurationSize }
+    ensures { result.now ≡ readable configuration.now offset n }
 {
     if !is_inside(offset, n) {
         return &configuration[0..0];
@@ -197,7 +197,7 @@ fn readable(configuration: &[u8], offset: u32, n: u32) -> &[u8]
 
 // A write that has bytes, of the current generation, inside.
 fn is_applied(current: u32, sent: u32, offset: u32, n: u32) -> bool
-    ensures { λ r. ⌜ r ≡ isApplied current sent offset n ⌝ }
+    ensures { result ≡ isApplied current sent offset n }
 {
     if n < 1 {
         return false;
@@ -209,8 +209,8 @@ fn is_applied(current: u32, sent: u32, offset: u32, n: u32) -> bool
 }
 
 fn read_config(card: &[u8], m: u64, offset: u32, n: u32, message: &[u8], reply: &mut [u8]) -> usize
-    requires { ⌜ HasRecord (now card) m × (headerSize ≤ length (now message)) ⌝ }
-    ensures { λ r. ⌜ (r, (now (card .entry), now (reply .exit))) ≡ delivered (fitting (now (card .entry)) (length (now (reply .entry))) (actOf (now (card .entry)) (now (message .entry)) (Access.Read m offset n))) (now (reply .entry)) ⌝ }
+    requires { HasRecord card.now m × (headerSize ≤ length message.now) }
+    ensures { (result, (card.now, reply.new)) ≡ delivered (fitting card.now (length reply.old) (actOf card.now message.now (Access.Read m offset n))) reply.old }
 {
     let bytes = readable(card::configuration(card, m), offset, n);
     write_response(message, card::generation(card, m), offset, bytes, reply)
@@ -218,8 +218,8 @@ fn read_config(card: &[u8], m: u64, offset: u32, n: u32, message: &[u8], reply: 
 
 // A write that is applied. Its response is written first: where that does not fit, nothing is done.
 fn apply(card: &mut [u8], m: u64, offset: u32, message: &[u8], reply: &mut [u8]) -> usize
-    requires { ⌜ HasRecord (now card) m × (dataAt ≤ length (now message)) × (offset + length (dataOf (now message)) ≤ configurationSize) ⌝ }
-    ensures { λ r. ⌜ (r, (now (card .exit), now (reply .exit))) ≡ delivered (fitting (now (card .entry)) (length (now (reply .entry))) (appliedTo (now (card .entry)) m (now (message .entry)) offset)) (now (reply .entry)) ⌝ }
+    requires { HasRecord card.old m × (dataAt ≤ length message.now) × (offset + length (data_of message.now) ≤ configurationSize) }
+    ensures { (result, (card.new, reply.new)) ≡ delivered (fitting card.old (length reply.old) (appliedTo card.old m message.now offset)) reply.old }
 {
     let next = std::num::wrapping_add_u32(card::generation(card, m), 1);
     let bytes = &message[DATA_AT..];
@@ -240,8 +240,8 @@ fn write_config(
     message: &[u8],
     reply: &mut [u8],
 ) -> usize
-    requires { ⌜ HasRecord (now card) m × (dataAt + n ≡ length (now message)) ⌝ }
-    ensures { λ r. ⌜ (r, (now (card .exit), now (reply .exit))) ≡ delivered (fitting (now (card .entry)) (length (now (reply .entry))) (actOf (now (card .entry)) (now (message .entry)) (Access.Write m sent offset n))) (now (reply .entry)) ⌝ }
+    requires { HasRecord card.old m × (dataAt + n ≡ length message.now) }
+    ensures { (result, (card.new, reply.new)) ≡ delivered (fitting card.old (length reply.old) (actOf card.old message.now (Access.Write m sent offset n))) reply.old }
 {
     let current = card::generation(card, m);
     if is_applied(current, sent, offset, n) {
@@ -252,7 +252,7 @@ fn write_config(
 
 // One message, whole: the bytes of its response, or 0.
 pub fn message(card: &mut [u8], message: &[u8], reply: &mut [u8]) -> usize
-    ensures { λ r. ⌜ (r, (now (card .exit), now (reply .exit))) ≡ messageOf (now (card .entry)) (now (message .entry)) (now (reply .entry)) ⌝ }
+    ensures { (result, (card.new, reply.new)) ≡ messageOf card.old message.now reply.old }
 {
     if !card::is_sound(card) {
         return 0;

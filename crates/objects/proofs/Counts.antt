@@ -1,77 +1,77 @@
 -- Counting the bytes of a list, and whether each is at most a number: one byte changed, and what a loop has counted
 -- so far. Assumes nothing.
-use mathlib.Core.Path.{_≡_, refl, ap, sym, _∙_}
+use mathlib.Core.Path.{◌≡◌, refl, ap, sym, ◌∙◌}
 use mathlib.Core.Bool.{Bool, true}
-use mathlib.Core.List.{List, [], _∷_, _++_, map}
-use Prim.Native.Nat.{ℕ, zero, suc, _+_, _-_, _/_, _%_, _≤_, _<_}
+use mathlib.Core.List.{List, [], ◌∷◌, ◌++◌, map}
+use Prim.Native.Nat.{ℕ, zero, suc, ◌+◌, ◌-◌, ◌/◌, ◌%◌, ◌≤◌, ◌<◌}
 use native.Mathlib.Omega.{arith}
 use lib.Dec.{leb, ltb, eqb}
 use native.Mathlib.Numerals.{add-one}
-use lib.ListN.{length, getD, take, drop-of-length-le, drop, set, replicate, length-append, length-replicate}
+use lib.ListN.{length, get_or, take, drop_of_length-le, drop, set, replicate, length-append, length-replicate}
 use lib.Seq.{drop-cons, drop-set-lt, drop-set-add, drop-append-le, take-append-add}
-use borrow.Author.Tests.{leb-true, le-leb, ne-eqb}
-use Rattle·theory.specs.Logic.{_and_, indicator}
-use Rattle·theory.specs.Bytes.{bytesAt}
-use Rattle·theory.proofs.Tests.{by-cases, both, and-i, and-true, true-and, and-false, false-and, and-assoc, indicator-false, indicator-le, tests}
-use Rattle·theory.proofs.Lists.{take-replicate, drop-replicate}
-use Rattle·objects·specs.specs.Objects.{objectsSize, count, allUpTo, allWithin, mostOf, withinLimits}
+use borrow.Author.Tests.{leb-true, le-leb, ne_eqb}
+use Rattle.theory.specs.Logic.{◌and◌, indicator}
+use Rattle.theory.specs.Bytes.{bytes_at}
+use Rattle.theory.proofs.Tests.{by_cases, both, and_i, and-true, true-and, and-false, false-and, and_assoc, indicator-false, indicator-le, tests}
+use Rattle.theory.proofs.Lists.{take-replicate, drop-replicate}
+use Rattle.objects.specs.Objects.{objectsSize, count, allUpTo, allWithin, most_of, withinLimits}
 
 pub map-set : {A B : Type 0} (f : A → B) (l : List A) (i : ℕ) (x : A) → map f (set l i x) ≡ set (map f l) i (f x)
 map-set f [] i x = refl
 map-set f (y ∷ l) zero x = refl
-map-set f (y ∷ l) (suc i) x = ap (f y ∷_) (map-set f l i x)
+map-set f (y ∷ l) (suc i) x = ap (f y ∷◌) (map-set f l i x)
 
 -- ---- one byte changed ----
 
 -- a byte that is not v adds nothing to the count of v
-pub count-set : (v : ℕ) (bs : List ℕ) (i b : ℕ) → (b ≡ v → ⊥) → count v (set bs i b) ≤ count v bs
+pub count_set : (v : ℕ) (bs : List ℕ) (i b : ℕ) → (b ≡ v → ⊥) → count v (set bs i b) ≤ count v bs
 unfolding count
-count-set v [] i b n = omega arith
-count-set v (a ∷ bs) zero b n = omega (arith, indicator-false _ (ne-eqb b v n))
-count-set v (a ∷ bs) (suc i) b n = omega (arith, count-set v bs i b n)
+count_set v [] i b n = omega arith
+count_set v (a ∷ bs) zero b n = omega (arith, indicator-false _ (ne_eqb b v n))
+count_set v (a ∷ bs) (suc i) b n = omega (arith, count_set v bs i b n)
 
-pub all-set : (n : ℕ) (bs : List ℕ) (i b : ℕ) → leb b n ≡ true → allUpTo n bs ≡ true → allUpTo n (set bs i b) ≡ true
+pub all_set : (n : ℕ) (bs : List ℕ) (i b : ℕ) → leb b n ≡ true → allUpTo n bs ≡ true → allUpTo n (set bs i b) ≡ true
 unfolding allUpTo
-all-set n [] i b h e = e
-all-set n (a ∷ bs) zero b h e = and-i _ _ h (both _ _ e .1)
-all-set n (a ∷ bs) (suc i) b h e = let p = both _ _ e in and-i _ _ (p .0) (all-set n bs i b h (p .1))
+all_set n [] i b h e = e
+all_set n (a ∷ bs) zero b h e = and_i _ _ h (both _ _ e).1
+all_set n (a ∷ bs) (suc i) b h e = let p = both _ _ e in and_i _ _ p.0 (all_set n bs i b h p.1)
 
 -- a byte set to 0 leaves those from k on free
 pub all-drop-set : (k : ℕ) (bs : List ℕ) (i : ℕ) → allUpTo 0 (drop k bs) ≡ true → allUpTo 0 (drop k (set bs i 0)) ≡ true
 all-drop-set k bs i e =
-    by-cases (ltb i k)
+    by_cases (ltb i k)
     (λ t. let h : i < k = omega tests in rw (drop-set-lt k bs i 0 h) e)
-    (λ t. let h : i ≡ k + (i - k) = omega tests in rw (h, drop-set-add k bs (i - k) 0) (all-set 0 (drop k bs) (i - k) 0 refl e))
+    (λ t. let h : i ≡ k + (i - k) = omega tests in rw (h, drop-set-add k bs (i - k) 0) (all_set 0 (drop k bs) (i - k) 0 refl e))
 
-pub all-drop : (n k : ℕ) (bs : List ℕ) → allUpTo n bs ≡ true → allUpTo n (drop k bs) ≡ true
+pub all_drop : (n k : ℕ) (bs : List ℕ) → allUpTo n bs ≡ true → allUpTo n (drop k bs) ≡ true
 unfolding allUpTo
-all-drop n zero bs e = e
-all-drop n (suc k) [] e = e
-all-drop n (suc k) (b ∷ bs) e = all-drop n k bs (both _ _ e .1)
+all_drop n zero bs e = e
+all_drop n (suc k) [] e = e
+all_drop n (suc k) (b ∷ bs) e = all_drop n k bs (both _ _ e).1
 
 -- no more of each, so within the same limits
 pub limits-set : (gets sets : ℕ) (bs : List ℕ) (i : ℕ) → withinLimits gets sets bs ≡ true → withinLimits gets sets (set bs i 0) ≡ true
 unfolding withinLimits
 limits-set gets sets bs i e =
     let p = both _ _ e in
-    and-i _ _
-    (le-leb _ gets (omega (arith, count-set 1 bs i 0 (omega arith), leb-true _ gets (p .0))))
-    (le-leb _ sets (omega (arith, count-set 2 bs i 0 (omega arith), leb-true _ sets (p .1))))
+    and_i _ _
+    (le-leb _ gets (omega (arith, count_set 1 bs i 0 (omega arith), leb-true _ gets p.0)))
+    (le-leb _ sets (omega (arith, count_set 2 bs i 0 (omega arith), leb-true _ sets p.1)))
 
 -- no object is live
 pub none-live : allUpTo 0 (replicate objectsSize 0) ≡ true
-unfolding allUpTo _and_
+unfolding allUpTo ◌and◌
 none-live = refl
 
 pub none-counted : (gets sets : ℕ) → withinLimits gets sets (replicate objectsSize 0) ≡ true
 unfolding withinLimits count indicator
-none-counted gets sets = and-i _ _ (le-leb 0 gets (omega arith)) (le-leb 0 sets (omega arith))
+none-counted gets sets = and_i _ _ (le-leb 0 gets (omega arith)) (le-leb 0 sets (omega arith))
 
 -- ---- a loop that counts ----
 
 -- n of the first i bytes are v
 module _ (v : ℕ) (bs : List ℕ) (i n : ℕ) (e : count v bs ≡ n + count v (drop i bs)) where
-  pub count-on : (h : ℕ) → h ≡ indicator (eqb (getD bs i 0) v) → i < length bs → count v bs ≡ (n + h) + count v (drop (i + 1) bs)
+  pub count-on : (h : ℕ) → h ≡ indicator (eqb (get_or bs i 0) v) → i < length bs → count v bs ≡ (n + h) + count v (drop (i + 1) bs)
   unfolding count
   count-on h q a =
       let x : count v (drop i bs) ≡ h + count v (drop (i + 1) bs) = rw (drop-cons bs i 0 a, add-one i, q) in
@@ -80,7 +80,7 @@ module _ (v : ℕ) (bs : List ℕ) (i n : ℕ) (e : count v bs ≡ n + count v (
   pub counted : length bs ≤ i → n ≡ count v bs
   unfolding count
   counted a =
-      let z : count v (drop i bs) ≡ 0 = rw (drop-of-length-le bs a) in
+      let z : count v (drop i bs) ≡ 0 = rw (drop_of_length-le bs a) in
       omega arith
 
 -- of 0, 1 and 2 the remainder by 2 is 1 for 1 alone, and the quotient for 2 alone
@@ -98,11 +98,11 @@ half-indicator (suc zero) h = refl
 half-indicator (suc (suc zero)) h = refl
 half-indicator (suc (suc (suc b))) h = omega arith
 
-pub all-at : (n : ℕ) (bs : List ℕ) (i : ℕ) → allUpTo n bs ≡ true → getD bs i 0 ≤ n
+pub all-at : (n : ℕ) (bs : List ℕ) (i : ℕ) → allUpTo n bs ≡ true → get_or bs i 0 ≤ n
 unfolding allUpTo
 all-at n [] i e = omega arith
-all-at n (b ∷ bs) zero e = leb-true b n (both _ _ e .0)
-all-at n (b ∷ bs) (suc i) e = all-at n bs i (both _ _ e .1)
+all-at n (b ∷ bs) zero e = leb-true b n (both _ _ e).0
+all-at n (b ∷ bs) (suc i) e = all-at n bs i (both _ _ e).1
 
 pub adds-at-most-one : (t : Bool) (h : ℕ) → h ≡ indicator t → h ≤ 1
 adds-at-most-one t h e = rw e (indicator-le t)
@@ -111,24 +111,24 @@ adds-at-most-one t h e = rw e (indicator-le t)
 
 -- all is what was found of those before i
 module _ (n : ℕ) (bs : List ℕ) (i : ℕ) (all : Bool) (e : allUpTo n bs ≡ all and allUpTo n (drop i bs)) where
-  pub up-to-on : (x : Bool) → x ≡ all and leb (getD bs i 0) n → i < length bs → allUpTo n bs ≡ x and allUpTo n (drop (i + 1) bs)
+  pub up-to-on : (x : Bool) → x ≡ all and leb (get_or bs i 0) n → i < length bs → allUpTo n bs ≡ x and allUpTo n (drop (i + 1) bs)
   unfolding allUpTo
-  up-to-on x q a = e ∙ rw (drop-cons bs i 0 a, add-one i, q, and-assoc)
+  up-to-on x q a = e ∙ rw (drop-cons bs i 0 a, add-one i, q, and_assoc)
 
   pub up-to-end : length bs ≤ i → all ≡ allUpTo n bs
   unfolding allUpTo
-  up-to-end a = sym (e ∙ rw (drop-of-length-le bs a) (and-true all))
+  up-to-end a = sym (e ∙ rw (drop_of_length-le bs a) (and-true all))
 
 module _ (ns bs : List ℕ) (k : ℕ) (l : length ns ≡ k) (m : length bs ≡ k) (i : ℕ) (all : Bool)
     (e : allWithin ns bs ≡ all and allWithin (drop i ns) (drop i bs)) where
-  pub within-on : (x : Bool) → x ≡ all and leb (getD bs i 0) (getD ns i 0) → i < k
+  pub within_on : (x : Bool) → x ≡ all and leb (get_or bs i 0) (get_or ns i 0) → i < k
       → allWithin ns bs ≡ x and allWithin (drop (i + 1) ns) (drop (i + 1) bs)
   unfolding allWithin
-  within-on x q a = e ∙ rw (drop-cons ns i 0 (omega arith), drop-cons bs i 0 (omega arith), add-one i, q, and-assoc)
+  within_on x q a = e ∙ rw (drop-cons ns i 0 (omega arith), drop-cons bs i 0 (omega arith), add-one i, q, and_assoc)
 
-  pub within-end : k ≤ i → all ≡ allWithin ns bs
+  pub within_end : k ≤ i → all ≡ allWithin ns bs
   unfolding allWithin
-  within-end a = let h : length ns ≤ i = omega arith in sym (e ∙ rw (drop-of-length-le ns h) (and-true all))
+  within_end a = let h : length ns ≤ i = omega arith in sym (e ∙ rw (drop_of_length-le ns h) (and-true all))
 
 -- ---- both tests at once ----
 
@@ -137,7 +137,7 @@ all-free : (bs : List ℕ) → allWithin (replicate (length bs) 0) bs ≡ allUpT
 unfolding allWithin allUpTo
 all-free [] = sym (true-and true)
 all-free (b ∷ bs) =
-    by-cases (leb b 0)
+    by_cases (leb b 0)
     (λ t. rw (t, le-leb b 2 (omega (arith, leb-true b 0 t)), true-and, true-and, true-and) (all-free bs))
     (λ t. rw (t, false-and, false-and) (sym (and-false _)))
 
@@ -146,15 +146,15 @@ within-most : (ids n : ℕ) (bs : List ℕ) → length bs ≡ ids + n
 unfolding allWithin allUpTo
 within-most zero n bs h = let e : n ≡ length bs = omega arith in rw e (all-free bs)
 within-most (suc ids) n [] h = absurd (omega arith)
-within-most (suc ids) n (b ∷ bs) h = rw (within-most ids n bs (omega arith)) (sym (and-assoc _ _ _))
+within-most (suc ids) n (b ∷ bs) h = rw (within-most ids n bs (omega arith)) (sym (and_assoc _ _ _))
 
-module _ (ids : ℕ) (most : List ℕ) (h : ids ≤ objectsSize) (e : most ≡ mostOf ids) where
-  pub length-most : length most ≡ objectsSize
-  unfolding mostOf
-  length-most = rw (e, length-append, length-replicate, length-replicate) (omega arith)
+module _ (ids : ℕ) (most : List ℕ) (h : ids ≤ objectsSize) (e : most ≡ most_of ids) where
+  pub length_most : length most ≡ objectsSize
+  unfolding most_of
+  length_most = rw (e, length-append, length-replicate, length-replicate) (omega arith)
 
   pub both-tests : (bs : List ℕ) → length bs ≡ objectsSize → allWithin most bs ≡ allUpTo 2 bs and allUpTo 0 (drop ids bs)
-  unfolding mostOf
+  unfolding most_of
   both-tests bs n = rw e (within-most ids (objectsSize - ids) bs (omega arith))
 
 -- a window of the table is that for so many ids
@@ -165,8 +165,8 @@ window k ids x y =
     rw (drop-append-le k (replicate (k + ids) x) (replicate (k + ids) y) l, drop-replicate) (rw (length-replicate, take-replicate k (k + ids) y (omega arith)) at t)
 
 pub most-window : (ids at : ℕ) → ids ≤ objectsSize → at ≡ objectsSize - ids
-    → bytesAt at objectsSize (replicate objectsSize 2 ++ replicate objectsSize 0) ≡ mostOf ids
-unfolding mostOf
+    → bytes_at at objectsSize (replicate objectsSize 2 ++ replicate objectsSize 0) ≡ most_of ids
+unfolding most_of
 most-window ids at h e =
     let k : at + ids ≡ objectsSize = omega arith in
     let l : ids + at ≡ objectsSize = omega arith in

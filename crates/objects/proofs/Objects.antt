@@ -1,46 +1,46 @@
 -- Objects come back from their bytes, and bytes up to 2 from their objects; each return of the functions on one byte or
 -- one slot, in the shape in which it is asked. Assumes nothing.
-use mathlib.Core.Path.{_≡_, refl, ap}
+use mathlib.Core.Path.{◌≡◌, refl, ap}
 use mathlib.Core.Bool.{true}
-use mathlib.Core.List.{List, [], _∷_, map}
-use Prim.Native.Nat.{ℕ, zero, suc, _≤_}
+use mathlib.Core.List.{List, [], ◌∷◌, map}
+use Prim.Native.Nat.{ℕ, zero, suc, ◌≤◌}
 use native.Mathlib.Omega.{arith}
 use borrow.Author.Tests.{leb-true}
 use lib.Dec.{leb}
-use Rattle·theory.proofs.Tests.{both, and-i}
-use Rattle·protocol.specs.declared.ObjectKind.the-variants as kind
-use Rattle·objects·specs.specs.declared.Slot.{Slot}
-use Rattle·objects·specs.specs.declared.Slot.the-variants.{Free, Get, Set}
-use Rattle·objects·specs.specs.declared.ObjectRecord.{ObjectRecord}
-use Rattle·objects·specs.specs.declared.Found.the-variants.{Live}
-use Rattle·objects·specs.specs.Objects.{slotOf, slotByte, objectOf, objectByte, foundIn, allUpTo}
+use Rattle.theory.proofs.Tests.{both, and_i}
+use Rattle.protocol.specs.declared.ObjectKind.TheVariants as kind
+use Rattle.objects.specs.declared.Slot.{Slot}
+use Rattle.objects.specs.declared.Slot.TheVariants.{Free, Get, Set}
+use Rattle.objects.specs.declared.ObjectRecord.{ObjectRecord}
+use Rattle.objects.specs.declared.Found.TheVariants.{Live}
+use Rattle.objects.specs.Objects.{slot_of, slotByte, objectOf, objectByte, foundIn, allUpTo}
 
 pub object-other : (b : ℕ) → (b ≡ 0 → ⊥) → (b ≡ 1 → ⊥) → record { slot = Set } ≡ objectOf b
 object-other zero n m = absurd (n refl)
 object-other (suc zero) n m = absurd (m refl)
 object-other (suc (suc b)) n m = refl
 
-pub found-other : (b : ℕ) → (b ≡ 0 → ⊥) → (b ≡ 1 → ⊥) → Live kind.Set ≡ foundIn (slotOf b)
-found-other b n m = ap (λ (o : ObjectRecord). foundIn (o .slot)) (object-other b n m)
+pub found-other : (b : ℕ) → (b ≡ 0 → ⊥) → (b ≡ 1 → ⊥) → Live kind.Set ≡ foundIn (slot_of b)
+found-other b n m = ap (λ (o : ObjectRecord). foundIn o.slot) (object-other b n m)
 
-pub found-get : (s : Slot) → s ≡ Get → Live kind.Get ≡ foundIn s
-found-get s e = rw e
+pub found_get : (s : Slot) → s ≡ Get → Live kind.Get ≡ foundIn s
+found_get s e = rw e
 
 pub found-set : (s : Slot) → s ≡ Set → Live kind.Set ≡ foundIn s
 found-set s e = rw e
 
 -- ---- bytes and objects ----
 
-slot-back : (s : Slot) → slotOf (slotByte s) ≡ s
+slot-back : (s : Slot) → slot_of (slotByte s) ≡ s
 slot-back Free = refl
 slot-back Get = refl
 slot-back Set = refl
 
 pub objects-back : (os : List ObjectRecord) → map objectOf (map objectByte os) ≡ os
 objects-back [] = refl
-objects-back (o ∷ os) = rw (slot-back (o .slot), objects-back os)
+objects-back (o ∷ os) = rw (slot-back o.slot, objects-back os)
 
-byte-of-slot : (b : ℕ) → b ≤ 2 → slotByte (slotOf b) ≡ b
+byte-of-slot : (b : ℕ) → b ≤ 2 → slotByte (slot_of b) ≡ b
 byte-of-slot zero h = refl
 byte-of-slot (suc zero) h = refl
 byte-of-slot (suc (suc b)) h = omega arith
@@ -50,7 +50,7 @@ unfolding allUpTo
 bytes-of-objects [] e = refl
 bytes-of-objects (b ∷ bs) e =
     let p = both _ _ e in
-    rw (byte-of-slot b (leb-true b 2 (p .0)), bytes-of-objects bs (p .1))
+    rw (byte-of-slot b (leb-true b 2 p.0), bytes-of-objects bs p.1)
 
 slot-low : (s : Slot) → leb (slotByte s) 2 ≡ true
 slot-low Free = refl
@@ -60,7 +60,7 @@ slot-low Set = refl
 pub objects-low : (os : List ObjectRecord) → allUpTo 2 (map objectByte os) ≡ true
 unfolding allUpTo
 objects-low [] = refl
-objects-low (o ∷ os) = and-i _ _ (slot-low (o .slot)) (objects-low os)
+objects-low (o ∷ os) = and_i _ _ (slot-low o.slot) (objects-low os)
 
-pub bytes-low : (os : List ObjectRecord) (bs : List ℕ) → bs ≡ map objectByte os → allUpTo 2 bs ≡ true
-bytes-low os bs e = rw e (objects-low os)
+pub bytes_low : (os : List ObjectRecord) (bs : List ℕ) → bs ≡ map objectByte os → allUpTo 2 bs ≡ true
+bytes_low os bs e = rw e (objects-low os)

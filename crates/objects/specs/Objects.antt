@@ -1,27 +1,23 @@
 -- Resource objects, SPEC 4.3, as bytes and records, and how many there are. Assumes nothing.
-use mathlib.Core.Bool.{Bool, true}
-use mathlib.Core.List.{List, [], _∷_, _++_}
-use Prim.Native.Nat.{ℕ, zero, suc, _+_, _-_}
-use lib.Dec.{leb, eqb}
-use lib.ListN.{replicate}
-use Rattle·theory.specs.Logic.{_and_, indicator}
-use Rattle·protocol.specs.declared.ObjectKind.{ObjectKind}
-use Rattle·protocol.specs.declared.ObjectKind.the-variants as kind
-use Rattle·objects·specs.specs.declared.Slot.{Slot}
-use Rattle·objects·specs.specs.declared.Slot.the-variants.{Free, Get, Set}
-use Rattle·objects·specs.specs.declared.ObjectRecord.{ObjectRecord}
-use Rattle·objects·specs.specs.declared.Found.{Found}
-use Rattle·objects·specs.specs.declared.Found.the-variants.{Live, Nothing}
+use Rattle.std.specs.Prelude.{Bool, true, List, [], ◌∷◌, ◌++◌, ℕ, zero, suc, ◌+◌, ◌-◌, leb, eqb, replicate}
+use Rattle.theory.specs.Logic.{◌and◌, indicator}
+use Rattle.protocol.specs.declared.ObjectKind.{ObjectKind}
+use Rattle.protocol.specs.declared.ObjectKind.TheVariants as kind
+use Rattle.objects.specs.declared.Slot.{Slot}
+use Rattle.objects.specs.declared.Slot.TheVariants.{Free, Get, Set}
+use Rattle.objects.specs.declared.ObjectRecord.{ObjectRecord}
+use Rattle.objects.specs.declared.Found.{Found}
+use Rattle.objects.specs.declared.Found.TheVariants.{Live, Nothing}
 
 -- one object record for each id that any setup allows: G + S is at most 16
 abbrev pub objectsSize : ℕ
 objectsSize = 16
 
 -- 0 free, 1 get, 2 set
-abbrev pub slotOf : ℕ → Slot
-slotOf zero = Free
-slotOf (suc zero) = Get
-slotOf (suc (suc n)) = Set
+abbrev pub slot_of : ℕ → Slot
+slot_of zero = Free
+slot_of (suc zero) = Get
+slot_of (suc (suc n)) = Set
 
 abbrev pub slotByte : Slot → ℕ
 slotByte Free = 0
@@ -29,10 +25,10 @@ slotByte Get = 1
 slotByte Set = 2
 
 abbrev pub objectOf : ℕ → ObjectRecord
-objectOf b = record { slot = slotOf b }
+objectOf b = record { slot = slot_of b }
 
 abbrev pub objectByte : ObjectRecord → ℕ
-objectByte o = slotByte (o .slot)
+objectByte o = slotByte o.slot
 
 abbrev pub free : ObjectRecord
 free = record { slot = Free }
@@ -66,8 +62,8 @@ allWithin (n ∷ ns) [] = true
 allWithin (n ∷ ns) (b ∷ bs) = leb b n and allWithin ns bs
 
 -- the most that the object bytes may be, where so many are those of ids: 2, and 0 for the others
-unfoldable pub mostOf : ℕ → List ℕ
-mostOf ids = replicate ids 2 ++ replicate (objectsSize - ids) 0
+unfoldable pub most_of : ℕ → List ℕ
+most_of ids = replicate ids 2 ++ replicate (objectsSize - ids) 0
 
 -- at most G get and S set objects
 unfoldable pub withinLimits : ℕ → ℕ → List ℕ → Bool

@@ -1,12 +1,8 @@
 // Resource objects, SPEC 4.3, one record and one byte for each id: what they stand for, how many there are, and one cleared.
-ghost use mathlib.Core.Path.{_≡_};
-ghost use mathlib.Core.Bool.{true};
-ghost use mathlib.Core.List.{map};
-ghost use Prim.Native.Nat.{_+_, _≤_, _<_};
-ghost use lib.Dec.{leb, eqb};
-ghost use lib.ListN.{length, drop, set};
-ghost use Rattle·theory.specs.Logic.{_and_, indicator};
-ghost use Rattle·objects·specs.specs.Objects.{objectsSize, slotOf, objectOf, objectByte, free, slotFor, foundIn, count, allUpTo, allWithin, mostOf, withinLimits};
+ghost use Rattle.std.specs.Prelude.{◌≡◌, true, map, ◌+◌, ◌≤◌, ◌<◌, leb, eqb, length, drop, set};
+ghost use Rattle.theory.specs.Logic.{◌and◌, indicator};
+ghost use Rattle.objects.specs.Objects.{objectsSize, slot_of, objectOf, objectByte, free, slotFor, foundIn, count, allUpTo, allWithin, most_of, withinLimits};
+
 use protocol::ObjectKind;
 
 // One object record for each id that any setup allows: G + S is at most 16.
@@ -14,52 +10,24 @@ pub const IDS: usize = 16;
 
 // The most that the bytes of sixteen ids may be, then of sixteen that are no ids: from entry 16 - n on, where n are ids.
 pub const MOST: [u8; 32] = [
-    2,
-    2,
-    2,
-    2,
-    2,
-    2,
-    2,
-    2,
-    2,
-    2,
-    2,
-    2,
-    2,
-    2,
-    2,
-    2,
-    0,
-    0,
-    0,
-    0,
-    0,
-    0,
-    0,
-    0,
-    0,
-    0,
-    0,
-    0,
-    0,
-    0,
-    0,
-    0,
+    2, 2, 2, 2, 2, 2, 2, 2, 2, 2, 2, 2, 2, 2, 2, 2, 0, 0, 0, 0, 0, 0, 0, 0, 0, 0, 0, 0, 0, 0, 0, 0,
 ];
 
 // What one object id holds.
+#[derive(Drop)]
 pub enum Slot {
     Free,
     Get,
     Set,
 }
 
+#[derive(Drop)]
 pub struct ObjectRecord {
     pub slot: Slot,
 }
 
 // What the lookup of an object id finds.
+#[derive(Drop)]
 pub enum Found {
     Live(ObjectKind),
     Nothing,
@@ -68,7 +36,7 @@ pub enum Found {
 // ---- a byte and what it stands for ----
 
 fn object_in(b: u8) -> ObjectRecord
-    ensures { λ r. ⌜ r ≡ objectOf b ⌝ }
+    ensures { result ≡ objectOf b }
 {
     match b {
         0 => ObjectRecord { slot: Slot::Free },
@@ -79,7 +47,7 @@ fn object_in(b: u8) -> ObjectRecord
 
 // The object that it stands for: found with no record in between, which the compiler would not leave out.
 pub fn found_at(b: u8) -> Found
-    ensures { λ r. ⌜ r ≡ foundIn (slotOf b) ⌝ }
+    ensures { result ≡ foundIn (slot_of b) }
 {
     match b {
         0 => Found::Nothing,
@@ -89,7 +57,7 @@ pub fn found_at(b: u8) -> Found
 }
 
 fn object_byte(o: ObjectRecord) -> u8
-    ensures { λ r. ⌜ r ≡ objectByte o ⌝ }
+    ensures { result ≡ objectByte o }
 {
     let slot = o.slot;
     match slot {
@@ -100,7 +68,7 @@ fn object_byte(o: ObjectRecord) -> u8
 }
 
 pub fn objects_in(bytes: [u8; IDS]) -> [ObjectRecord; IDS]
-    ensures { λ r. ⌜ r ≡ map objectOf bytes ⌝ }
+    ensures { result ≡ map objectOf bytes }
 {
     let mut objects = [ObjectRecord { slot: Slot::Free }; IDS];
     let mut i = 0;
@@ -113,7 +81,7 @@ pub fn objects_in(bytes: [u8; IDS]) -> [ObjectRecord; IDS]
 }
 
 pub fn object_bytes(objects: [ObjectRecord; IDS]) -> [u8; IDS]
-    ensures { λ r. ⌜ r ≡ map objectByte objects ⌝ }
+    ensures { result ≡ map objectByte objects }
 {
     let mut bytes = [0u8; IDS];
     let mut i = 0;
@@ -130,15 +98,15 @@ pub fn object_bytes(objects: [ObjectRecord; IDS]) -> [u8; IDS]
 // 1 if the byte is v, else 0: of 0, 1 and 2 the remainder by 2 is 1 for 1 alone, and the quotient for 2 alone. A sum of
 // these is a few vector additions; of the answers to a test it would be many more steps.
 fn indicator_of(b: u8, v: u8) -> u8
-    requires { ⌜ (b ≤ 2) × (1 ≤ v) × (v ≤ 2) ⌝ }
-    ensures { λ r. ⌜ r ≡ indicator (eqb b v) ⌝ }
+    requires { (b ≤ 2) × (1 ≤ v) × (v ≤ 2) }
+    ensures { result ≡ indicator (eqb b v) }
 {
     if v == 1 { b % 2 } else { b / 2 }
 }
 
 fn count_of(v: u8, bytes: &[u8]) -> u8
-    requires { ⌜ (length (now bytes) ≡ objectsSize) × (allUpTo 2 (now bytes) ≡ true) × (1 ≤ v) × (v ≤ 2) ⌝ }
-    ensures { λ r. ⌜ r ≡ count v (now (bytes .entry)) ⌝ }
+    requires { (length bytes.now ≡ objectsSize) × (allUpTo 2 bytes.now ≡ true) × (1 ≤ v) × (v ≤ 2) }
+    ensures { result ≡ count v bytes.now }
 {
     let mut n: u8 = 0;
     let mut i = 0;
@@ -150,8 +118,8 @@ fn count_of(v: u8, bytes: &[u8]) -> u8
 }
 
 pub fn is_within_limits(bytes: &[u8], gets: u8, sets: u8) -> bool
-    requires { ⌜ (length (now bytes) ≡ objectsSize) × (allUpTo 2 (now bytes) ≡ true) ⌝ }
-    ensures { λ r. ⌜ r ≡ withinLimits gets sets (now (bytes .entry)) ⌝ }
+    requires { (length bytes.now ≡ objectsSize) × (allUpTo 2 bytes.now ≡ true) }
+    ensures { result ≡ withinLimits gets sets bytes.now }
 {
     if gets < count_of(1, bytes) {
         return false;
@@ -160,14 +128,14 @@ pub fn is_within_limits(bytes: &[u8], gets: u8, sets: u8) -> bool
 }
 
 fn still_up_to(all: bool, b: u8, n: u8) -> bool
-    ensures { λ r. ⌜ r ≡ all and leb b n ⌝ }
+    ensures { result ≡ all and leb b n }
 {
     if b <= n { all } else { false }
 }
 
 // Whether each byte is at most n: every one is looked at, the loop has no early exit.
 pub fn are_up_to(n: u8, bytes: &[u8]) -> bool
-    ensures { λ r. ⌜ r ≡ allUpTo n (now (bytes .entry)) ⌝ }
+    ensures { result ≡ allUpTo n bytes.now }
 {
     let mut all = true;
     let mut i = 0;
@@ -180,8 +148,8 @@ pub fn are_up_to(n: u8, bytes: &[u8]) -> bool
 
 // Whether each byte is at most the number beside it: of a part of MOST, which is the same for all members.
 pub fn are_within(most: &[u8], bytes: &[u8]) -> bool
-    requires { ⌜ (length (now most) ≡ objectsSize) × (length (now bytes) ≡ objectsSize) ⌝ }
-    ensures { λ r. ⌜ r ≡ allWithin (now (most .entry)) (now (bytes .entry)) ⌝ }
+    requires { (length most.now ≡ objectsSize) × (length bytes.now ≡ objectsSize) }
+    ensures { result ≡ allWithin most.now bytes.now }
 {
     let mut all = true;
     let mut i = 0;
@@ -195,7 +163,7 @@ pub fn are_within(most: &[u8], bytes: &[u8]) -> bool
 // ---- slots ----
 
 pub fn slot_for(kind: ObjectKind) -> Slot
-    ensures { λ r. ⌜ r ≡ slotFor kind ⌝ }
+    ensures { result ≡ slotFor kind }
 {
     match kind {
         ObjectKind::Get => Slot::Get,
@@ -204,7 +172,7 @@ pub fn slot_for(kind: ObjectKind) -> Slot
 }
 
 pub fn found_in(slot: Slot) -> Found
-    ensures { λ r. ⌜ r ≡ foundIn slot ⌝ }
+    ensures { result ≡ foundIn slot }
 {
     match slot {
         Slot::Free => Found::Nothing,
@@ -216,16 +184,16 @@ pub fn found_in(slot: Slot) -> Found
 // Clears one record of a lent slice and keeps all others. The borrow checker covers no slice of structs, so the proofs of
 // this function and the next are walks by hand.
 fn clear(objects: &mut [ObjectRecord], i: usize)
-    requires { ⌜ i < length (now objects) ⌝ }
-    ensures { λ _. ⌜ now (objects .exit) ≡ set (now (objects .entry)) i free ⌝ }
+    requires { i < length objects.old }
+    ensures { objects.new ≡ set objects.old i free }
 {
     objects[i] = ObjectRecord { slot: Slot::Free };
 }
 
 // The records with one cleared: it lends its own array to `clear`, so that no caller has to lend one.
 pub fn cleared(mut objects: [ObjectRecord; IDS], i: usize) -> [ObjectRecord; IDS]
-    requires { ⌜ i < 16 ⌝ }
-    ensures { λ r. ⌜ r ≡ set objects i free ⌝ }
+    requires { i < 16 }
+    ensures { result ≡ set objects i free }
 {
     clear(&mut objects, i);
     objects

@@ -1,24 +1,24 @@
 -- The turns and returns of a walk: what the parts that are left answer gives what the whole list answers.
 -- `r` is what next_part answered at `at`, `x` what the whole list answers. Assumes nothing.
-use mathlib.Core.Path.{_≡_, refl, ap, sym, _∙_}
+use mathlib.Core.Path.{◌≡◌, refl, ap, sym, ◌∙◌}
 use mathlib.Core.Bool.{Bool, true, false}
-use mathlib.Core.List.{List, [], _∷_}
-use Prim.Native.Nat.{ℕ, _+_, _-_, _^_, _<_, _≤_}
+use mathlib.Core.List.{List, [], ◌∷◌}
+use Prim.Native.Nat.{ℕ, ◌+◌, ◌-◌, ◌^◌, ◌<◌, ◌≤◌}
 use native.Mathlib.Omega.{arith}
 use types.Run.{OneOf, miss}
-use denote.Enum.Declared.{tagOf}
+use denote.Enum.Declared.{tag_of}
 use mir.Val.{Fits}
 use mir.Syntax.{w64}
-use borrow.Author.Needs.{needs}
+use borrow.Author.Rules.{rules}
 use lib.Dec.{eqb}
 use lib.ListN.{length}
-use Rattle·theory.specs.Logic.{_and_, _or_}
-use Rattle·theory.proofs.Tests.{true-or, false-or}
-use Rattle·parts·specs.specs.declared.ListForm.{ListForm}
-use Rattle·parts·specs.specs.declared.Step.{Step}
-use Rattle·parts·specs.specs.declared.Step.the-variants as step
-use Rattle·parts·specs.specs.List.{stepAt, PartList, end, cut, part, partIn, partsFrom, whole, among}
-use Rattle·parts·proofs.proofs.Walk.{Within, step-part, parts-end, parts-cut, parts-part}
+use Rattle.theory.specs.Logic.{◌and◌, ◌or◌}
+use Rattle.theory.proofs.Tests.{true-or, false-or}
+use Rattle.parts.specs.declared.ListForm.{ListForm}
+use Rattle.parts.specs.declared.Step.{Step}
+use Rattle.parts.specs.declared.Step.TheVariants as step
+use Rattle.parts.specs.List.{stepAt, PartList, end, cut, part, partIn, partsFrom, whole, among}
+use Rattle.parts.proofs.Walk.{Within, step_part, parts-end, parts_cut, parts-part}
 
 module _ (form : ListForm) (l : List ℕ) (at : ℕ) (r : Step) (here : r ≡ stepAt form l at) where
   -- ---- no part is found ----
@@ -29,17 +29,17 @@ module _ (form : ListForm) (l : List ℕ) (at : ℕ) (r : Step) (here : r ≡ st
 
   pub whole-cut : (x : Bool) → r ≡ step.Cut → x ≡ whole (partsFrom form l at) → x ≡ false
   unfolding whole
-  whole-cut x e h = h ∙ rw (parts-cut form l at (sym here ∙ e))
+  whole-cut x e h = h ∙ rw (parts_cut form l at (sym here ∙ e))
 
   -- the walk treats the end and a part that is cut short alike
-  module _ (none : OneOf (1 ∷ 2 ∷ []) (tagOf Rattle·parts·proofs.proofs.Step.the-type r)) where
+  module _ (none : OneOf (1 ∷ 2 ∷ []) (tag_of Rattle.parts.specs.contracts.Step.the_type r)) where
     pub stopped : {A : Type 0} (ask : PartList → A) (a : A) → ask cut ≡ a → ask end ≡ a → ask (partsFrom form l at) ≡ a
-    stopped ask a at-cut at-end = cases r none here
+    stopped ask a at_cut at-end = cases r none here
       where
-        cases : (r : Step) → OneOf (1 ∷ 2 ∷ []) (tagOf Rattle·parts·proofs.proofs.Step.the-type r) → r ≡ stepAt form l at
+        cases : (r : Step) → OneOf (1 ∷ 2 ∷ []) (tag_of Rattle.parts.specs.contracts.Step.the_type r) → r ≡ stepAt form l at
             → ask (partsFrom form l at) ≡ a
         cases (step.Part t f s start len) k e = absurd (miss (1 ∷ 2 ∷ []) 0 tt k)
-        cases step.Cut k e = ap ask (parts-cut form l at (sym e)) ∙ at-cut
+        cases step.Cut k e = ap ask (parts_cut form l at (sym e)) ∙ at_cut
         cases step.End k e = ap ask (parts-end form l at (sym e)) ∙ at-end
 
     pub among-stop : (t s : ℕ) (x y : Bool) → x ≡ among t s (partsFrom form l at) or y → x ≡ y
@@ -50,23 +50,23 @@ module _ (form : ListForm) (l : List ℕ) (at : ℕ) (r : Step) (here : r ≡ st
 
   module _ (t f s start len : ℕ) (found : r ≡ step.Part t f s start len) where
     within : Within l at start len
-    within = step-part form l at (sym here ∙ found)
+    within = step_part form l at (sym here ∙ found)
 
     pub opened : partsFrom form l at ≡ part (partIn l t f s start len) (partsFrom form l (start + len))
     opened = parts-part form l at (sym here ∙ found)
 
     -- it lies within the list, and after it less of the list is left
     pub found-start : start ≤ length l
-    found-start = omega (arith, within .ends)
+    found-start = omega (arith, within.ends)
 
     pub found-end : start + len ≤ length l
-    found-end = within .ends
+    found-end = within.ends
 
     pub found-fits : length l < 2 ^ 64 → Fits w64 (start + len)
-    found-fits h = record { fits = omega (arith, within .ends) }
+    found-fits h = record { fits = omega (arith, within.ends) }
 
     pub found-less : length l - (start + len) < length l - at
-    found-less = omega (arith, within .starts, within .ends)
+    found-less = omega (arith, within.starts, within.ends)
 
     pub whole-on : (x : Bool) → x ≡ whole (partsFrom form l at) → x ≡ whole (partsFrom form l (start + len))
     unfolding whole
@@ -83,4 +83,4 @@ module _ (form : ListForm) (l : List ℕ) (at : ℕ) (r : Step) (here : r ≡ st
       among-found h = e ∙ rw (opened, ← named, h, true-or, true-or)
 
 -- `search walk` closes what the code asks of a part that is found
-pub ruleset walk = (needs, found-start, found-end, found-fits, found-less)
+pub ruleset walk = (rules, found-start, found-end, found-fits, found-less)

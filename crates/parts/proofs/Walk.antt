@@ -1,80 +1,80 @@
 -- The walk over a list of parts: where a found part lies, and the parts from a position as the step there and the
 -- parts after it. Assumes nothing.
-use mathlib.Core.Path.{_≡_, refl, ap}
+use mathlib.Core.Path.{◌≡◌, refl, ap}
 use mathlib.Core.Bool.{Bool, true, false}
 use mathlib.Core.List.{List}
-use Prim.Native.Nat.{ℕ, zero, suc, _+_, _-_, _<_, _≤_}
+use Prim.Native.Nat.{ℕ, zero, suc, ◌+◌, ◌-◌, ◌<◌, ◌≤◌}
 use native.Mathlib.Omega.{arith}
 use lib.Dec.{leb, ltb}
-use lib.ListN.{length, getD}
+use lib.ListN.{length, get_or}
 use borrow.Author.Tests.{lt-ltb, le-ltb, le-leb, leb-true}
-use Rattle·theory.specs.Logic.{unless_answer_then_}
-use Rattle·theory.proofs.Tests.{never}
-use Rattle·wire.specs.Le.{number}
-use Rattle·inventory.specs.Inventory.{selectorOf}
-use Rattle·inventory.specs.Header.{flagsAt, selectorAt, headerSize}
-use Rattle·parts·specs.specs.declared.ListForm.{ListForm}
-use Rattle·parts·specs.specs.declared.Step.{Step}
-use Rattle·parts·specs.specs.declared.Step.the-variants as step
-use Rattle·parts·specs.specs.List.{valueSize, headerAt, stepAt, Part, end, cut, part, partIn, onStep, atMost, partsFrom}
+use Rattle.theory.specs.Logic.{unless◌answer◌then◌}
+use Rattle.theory.proofs.Tests.{never}
+use Rattle.wire.specs.Le.{number}
+use Rattle.inventory.specs.Inventory.{selectorOf}
+use Rattle.inventory.specs.Header.{flagsAt, selectorAt, headerSize}
+use Rattle.parts.specs.declared.ListForm.{ListForm}
+use Rattle.parts.specs.declared.Step.{Step}
+use Rattle.parts.specs.declared.Step.TheVariants as step
+use Rattle.parts.specs.List.{valueSize, header_at, stepAt, Part, end, cut, part, partIn, onStep, at_most, partsFrom}
 
 -- what a step says of the place where it stands
 module _ (form : ListForm) (l : List ℕ) (at : ℕ) where
-  pub step-end : length l ≤ at → stepAt form l at ≡ step.End
-  unfolding stepAt unless_answer_then_
-  step-end h = rw (le-ltb at (length l) h)
+  pub step_end : length l ≤ at → stepAt form l at ≡ step.End
+  unfolding stepAt unless◌answer◌then◌
+  step_end h = rw (le-ltb at (length l) h)
 
-  pub step-found : at + headerSize ≤ length l → valueSize form l at ≤ length l - (at + headerSize) → stepAt form l at ≡ headerAt form l at
-  unfolding stepAt unless_answer_then_
-  step-found h h′ =
+  pub step-found : at + headerSize ≤ length l → valueSize form l at ≤ length l - (at + headerSize) → stepAt form l at ≡ header_at form l at
+  unfolding stepAt unless◌answer◌then◌
+  step-found h h' =
       let i : at < length l = omega arith in
       let r : headerSize ≤ length l - at = omega arith in
-      rw (lt-ltb at (length l) i, le-leb headerSize (length l - at) r, le-leb (valueSize form l at) (length l - (at + headerSize)) h′)
+      rw (lt-ltb at (length l) i, le-leb headerSize (length l - at) r, le-leb (valueSize form l at) (length l - (at + headerSize)) h')
 
 -- the header there, read field by field
-pub header-is : (form : ListForm) (l : List ℕ) (at t x s n : ℕ) → n ≡ valueSize form l at
+pub header_is : (form : ListForm) (l : List ℕ) (at t x s n : ℕ) → n ≡ valueSize form l at
     → t ≡ number at 2 l → x ≡ number (at + selectorAt) 8 l → s ≡ selectorOf t x
-    → step.Part t (getD l (at + flagsAt) 0) s (at + headerSize) n ≡ headerAt form l at
-unfolding headerAt
-header-is form l at t x s n size type-is selector-bytes selector-is = rw (selector-is, type-is, selector-bytes, size)
+    → step.Part t (get_or l (at + flagsAt) 0) s (at + headerSize) n ≡ header_at form l at
+unfolding header_at
+header_is form l at t x s n size type-is selector-bytes selector-is = rw (selector-is, type-is, selector-bytes, size)
 
 -- a part that is found lies within the list
 pub record Within (l : List ℕ) (at start len : ℕ) : Type 0 where
   pub starts : start ≡ at + headerSize
   pub ends : start + len ≤ length l
 
-pub step-part : (form : ListForm) (l : List ℕ) (at : ℕ) {t f s start len : ℕ}
+pub step_part : (form : ListForm) (l : List ℕ) (at : ℕ) {t f s start len : ℕ}
     → stepAt form l at ≡ step.Part t f s start len → Within l at start len
-unfolding stepAt headerAt unless_answer_then_
-step-part form l at {t} {f} {s} {start} {len} e = cases _ _ _ refl refl refl e
+unfolding stepAt header_at unless◌answer◌then◌
+step_part form l at {t} {f} {s} {start} {len} e = cases _ _ _ refl refl refl e
   where
     cases : (b₁ b₂ b₃ : Bool) → ltb at (length l) ≡ b₁ → leb headerSize (length l - at) ≡ b₂
         → leb (valueSize form l at) (length l - (at + headerSize)) ≡ b₃
-        → (unless b₁ answer step.End then unless b₂ answer step.Cut then unless b₃ answer step.Cut then headerAt form l at)
+        → (unless b₁ answer step.End then unless b₂ answer step.Cut then unless b₃ answer step.Cut then header_at form l at)
         ≡ step.Part t f s start len
         → Within l at start len
     cases true true true e₁ e₂ e₃ e =
         let i : start ≡ at + headerSize = cc in
         let n : len ≡ valueSize form l at = cc in
         let h = leb-true headerSize (length l - at) e₂ in
-        let h′ = leb-true (valueSize form l at) (length l - (at + headerSize)) e₃ in
+        let h' = leb-true (valueSize form l at) (length l - (at + headerSize)) e₃ in
         record { starts = i; ends = omega arith }
     cases true true false e₁ e₂ e₃ e = never cc
     cases true false b₃ e₁ e₂ e₃ e = never cc
     cases false b₂ b₃ e₁ e₂ e₃ e = never cc
 
 -- with a bound that is large enough, one more part changes nothing
-one-more : (form : ListForm) (n : ℕ) (l : List ℕ) (at : ℕ) → length l ≤ at + n → atMost form n l at ≡ atMost form (suc n) l at
-unfolding atMost
-one-more form zero l at h = rw (step-end form l at (omega arith))
-one-more form (suc n) l at h = cases (stepAt form l at) refl (λ k. one-more form n l k)
+one_more : (form : ListForm) (n : ℕ) (l : List ℕ) (at : ℕ) → length l ≤ at + n → at_most form n l at ≡ at_most form (suc n) l at
+unfolding at_most
+one_more form zero l at h = rw (step_end form l at (omega arith))
+one_more form (suc n) l at h = cases (stepAt form l at) refl (λ k. one_more form n l k)
   where
     cases : (r : Step) → stepAt form l at ≡ r
-        → ((k : ℕ) → length l ≤ k + n → atMost form n l k ≡ atMost form (suc n) l k)
-        → onStep r (λ t f s start len. part (partIn l t f s start len) (atMost form n l (start + len))) cut end
-        ≡ onStep r (λ t f s start len. part (partIn l t f s start len) (atMost form (suc n) l (start + len))) cut end
+        → ((k : ℕ) → length l ≤ k + n → at_most form n l k ≡ at_most form (suc n) l k)
+        → onStep r (λ t f s start len. part (partIn l t f s start len) (at_most form n l (start + len))) cut end
+        ≡ onStep r (λ t f s start len. part (partIn l t f s start len) (at_most form (suc n) l (start + len))) cut end
     cases (step.Part t f s start len) e ih =
-        let w = step-part form l at e in
+        let w = step_part form l at e in
         ap (part (partIn l t f s start len)) (ih (start + len) (omega arith))
     cases step.Cut e ih = refl
     cases step.End e ih = refl
@@ -83,15 +83,15 @@ one-more form (suc n) l at h = cases (stepAt form l at) refl (λ k. one-more for
 pub parts-step : (form : ListForm) (l : List ℕ) (at : ℕ)
     → partsFrom form l at
     ≡ onStep (stepAt form l at) (λ t f s start len. part (partIn l t f s start len) (partsFrom form l (start + len))) cut end
-unfolding partsFrom atMost
-parts-step form l at = one-more form (length l) l at (omega arith)
+unfolding partsFrom at_most
+parts-step form l at = one_more form (length l) l at (omega arith)
 
 module _ (form : ListForm) (l : List ℕ) (at : ℕ) where
   pub parts-end : stepAt form l at ≡ step.End → partsFrom form l at ≡ end
   parts-end e = rw (parts-step form l at, e)
 
-  pub parts-cut : stepAt form l at ≡ step.Cut → partsFrom form l at ≡ cut
-  parts-cut e = rw (parts-step form l at, e)
+  pub parts_cut : stepAt form l at ≡ step.Cut → partsFrom form l at ≡ cut
+  parts_cut e = rw (parts-step form l at, e)
 
   pub parts-part : {t f s start len : ℕ} → stepAt form l at ≡ step.Part t f s start len
       → partsFrom form l at ≡ part (partIn l t f s start len) (partsFrom form l (start + len))

@@ -1,26 +1,23 @@
 // A list of parts, SPEC 5.4, and the walk over it.
-ghost use mathlib.Core.Path.{_≡_};
-ghost use Prim.Native.Nat.{_+_, _≤_};
-ghost use lib.Dec.{eqb};
-ghost use lib.ListN.{length};
-ghost use Rattle·theory.specs.Logic.{_and_};
-ghost use Rattle·inventory.specs.Header.{headerSize};
-ghost use Rattle·parts·specs.specs.List.{valueSize, stepAt, partsOf, whole, among};
-use inventory::FLAGS_AT;
-use inventory::HEADER_SIZE;
-use inventory::LENGTH_AT;
-use inventory::SELECTOR_AT;
+ghost use Rattle.std.specs.Prelude.{◌≡◌, ◌+◌, ◌≤◌, eqb, length};
+ghost use Rattle.theory.specs.Logic.{◌and◌};
+ghost use Rattle.inventory.specs.Header.{headerSize};
+ghost use Rattle.parts.specs.List.{valueSize, stepAt, parts_of, whole, among};
+
+use inventory::{FLAGS_AT, HEADER_SIZE, LENGTH_AT, SELECTOR_AT};
 
 // The longest list of parts that a request gives: 4,096 bytes, less its frame and the object header.
 pub const LONGEST_LIST: usize = 4064;
 
 // What a list holds: whole parts, or headers alone.
+#[derive(Drop)]
 pub enum ListForm {
     Parts,
     Headers,
 }
 
 // What stands at a position of a list: a part, whose value starts at start, one that runs past the end, or the end.
+#[derive(Drop)]
 pub enum Step {
     Part {
         part_type: u16,
@@ -35,8 +32,8 @@ pub enum Step {
 
 // The bytes of the value that follows a header.
 fn value_size(form: ListForm, list: &[u8], at: usize) -> usize
-    requires { ⌜ at + headerSize ≤ length (now list) ⌝ }
-    ensures { λ r. ⌜ r ≡ valueSize form (now (list .entry)) at ⌝ }
+    requires { at + headerSize ≤ length list.now }
+    ensures { result ≡ valueSize form list.now at }
 {
     match form {
         ListForm::Parts => wire::read_u32(list, at + LENGTH_AT) as usize,
@@ -46,7 +43,7 @@ fn value_size(form: ListForm, list: &[u8], at: usize) -> usize
 
 // What stands at a position. A length is compared with the bytes left, so that no sum can overflow.
 fn step_at(form: ListForm, list: &[u8], at: usize) -> Step
-    ensures { λ r. ⌜ r ≡ stepAt form (now (list .entry)) at ⌝ }
+    ensures { result ≡ stepAt form list.now at }
 {
     if list.len() <= at {
         return Step::End;
@@ -70,6 +67,7 @@ fn step_at(form: ListForm, list: &[u8], at: usize) -> Step
 }
 
 // The reader of a list: the list, and a position in it.
+#[derive(Drop)]
 struct PartReader<'a> {
     list: &'a [u8],
     at: usize,
@@ -78,14 +76,14 @@ struct PartReader<'a> {
 impl<'a> PartReader<'a> {
     // A reader at the start of a list.
     fn new(list: &'a [u8]) -> Self
-        ensures { λ r. ⌜ (r .list ≡ list .entry) × (r .at ≡ 0) ⌝ }
+        ensures { (result.list ≡ list.entry) × (result.at ≡ 0) }
     {
         Self { list, at: 0 }
     }
 
     // The reader, moved to another position.
     fn moved(self, at: usize) -> Self
-        ensures { λ r. ⌜ (r .list ≡ self .entry .list) × (r .at ≡ at) ⌝ }
+        ensures { (result.list ≡ self.entry.list) × (result.at ≡ at) }
     {
         Self {
             list: self.list,
@@ -95,7 +93,7 @@ impl<'a> PartReader<'a> {
 
     // What stands at the reader's position.
     fn next(self, form: ListForm) -> Step
-        ensures { λ r. ⌜ r ≡ stepAt form (now (self .entry .list)) (self .entry .at) ⌝ }
+        ensures { result ≡ stepAt form self.entry.list.now self.entry.at }
     {
         step_at(form, self.list, self.at)
     }
@@ -103,14 +101,14 @@ impl<'a> PartReader<'a> {
 
 // What stands at a position, through a reader.
 pub fn next_part(form: ListForm, list: &[u8], at: usize) -> Step
-    ensures { λ r. ⌜ r ≡ stepAt form (now (list .entry)) at ⌝ }
+    ensures { result ≡ stepAt form list.now at }
 {
     PartReader::new(list).moved(at).next(form)
 }
 
 // Whether no header and no value runs past the end.
 pub fn is_whole(form: ListForm, list: &[u8]) -> bool
-    ensures { λ r. ⌜ r ≡ whole (partsOf form (now (list .entry))) ⌝ }
+    ensures { result ≡ whole (parts_of form list.now) }
 {
     let mut at = 0;
     loop {
@@ -132,7 +130,7 @@ pub fn is_whole(form: ListForm, list: &[u8]) -> bool
 
 // Whether a part of type u and selector v is the part of type t and selector s.
 pub fn is_same_part(t: u16, s: u64, u: u16, v: u64) -> bool
-    ensures { λ r. ⌜ r ≡ eqb u t and eqb v s ⌝ }
+    ensures { result ≡ eqb u t and eqb v s }
 {
     if u != t {
         return false;
@@ -142,7 +140,7 @@ pub fn is_same_part(t: u16, s: u64, u: u16, v: u64) -> bool
 
 // Whether some part of the list has this type and selector.
 pub fn contains(form: ListForm, list: &[u8], t: u16, selector: u64) -> bool
-    ensures { λ r. ⌜ r ≡ among t selector (partsOf form (now (list .entry))) ⌝ }
+    ensures { result ≡ among t selector (parts_of form list.now) }
 {
     let mut at = 0;
     loop {

@@ -1,17 +1,17 @@
 -- The mode of a byte that is not 0, what is said of a kind and of a mode, and a bound on the object id of an operation.
 -- Assumes nothing.
-use mathlib.Core.Path.{_≡_, refl}
+use mathlib.Core.Path.{◌≡◌, refl}
 use mathlib.Core.Bool.{true, false}
-use Prim.Native.Nat.{ℕ, zero, suc, _<_}
-use Rattle·protocol·specs.specs.declared.Mode.{Mode}
-use Rattle·protocol·specs.specs.declared.Mode.the-variants.{Running, Stopped}
-use Rattle·protocol·specs.specs.declared.ObjectKind.{ObjectKind}
-use Rattle·protocol·specs.specs.declared.ObjectKind.the-variants.{Get, Set}
-use Rattle·protocol·specs.specs.declared.ChangeOp.{ChangeOp}
-use Rattle·protocol·specs.specs.declared.ChangeOp.the-variants.{Create, Modify, Destroy, SetParts, SetMode}
-use Rattle·protocol·specs.specs.Answers.{modeOf, isStopped, isGet, isSet}
+use Prim.Native.Nat.{ℕ, zero, suc, ◌<◌}
+use Rattle.protocol.specs.declared.Mode.{Mode}
+use Rattle.protocol.specs.declared.Mode.TheVariants.{Running, Stopped}
+use Rattle.protocol.specs.declared.ObjectKind.{ObjectKind}
+use Rattle.protocol.specs.declared.ObjectKind.TheVariants.{Get, Set}
+use Rattle.protocol.specs.declared.ChangeOp.{ChangeOp}
+use Rattle.protocol.specs.declared.ChangeOp.TheVariants.{Create, Modify, Destroy, SetParts, SetMode}
+use Rattle.protocol.specs.Answers.{mode_of, isStopped, isGet, is_set}
 
-pub mode-stopped : (b : ℕ) → (b ≡ 0 → ⊥) → Stopped ≡ modeOf b
+pub mode-stopped : (b : ℕ) → (b ≡ 0 → ⊥) → Stopped ≡ mode_of b
 mode-stopped zero n = absurd (n refl)
 mode-stopped (suc b) n = refl
 
@@ -22,10 +22,10 @@ kind-get k e = rw e
 pub kind-not-get : (k : ObjectKind) → k ≡ Set → isGet k ≡ false
 kind-not-get k e = rw e
 
-pub kind-set : (k : ObjectKind) → k ≡ Set → isSet k ≡ true
+pub kind-set : (k : ObjectKind) → k ≡ Set → is_set k ≡ true
 kind-set k e = rw e
 
-pub kind-not-set : (k : ObjectKind) → k ≡ Get → isSet k ≡ false
+pub kind-not-set : (k : ObjectKind) → k ≡ Get → is_set k ≡ false
 kind-not-set k e = rw e
 
 pub mode-stops : (m : Mode) → m ≡ Stopped → isStopped m ≡ true

@@ -1,46 +1,46 @@
 -- The rows of the opcodes: the code's table is a column of them, which opcodes they support, and how long fixed fields
 -- are. Assumes nothing.
-use mathlib.Core.Path.{_≡_, refl, sym, _∙_}
+use mathlib.Core.Path.{◌≡◌, refl, sym, ◌∙◌}
 use mathlib.Core.Bool.{Bool, true, false, not}
 use mathlib.Core.List.{List, map}
-use Prim.Native.Nat.{ℕ, _<_, _≤_}
+use Prim.Native.Nat.{ℕ, ◌<◌, ◌≤◌}
 use native.Mathlib.Omega.{arith}
 use borrow.Author.Tests.{ltb-true, leb-true}
 use lib.Dec.{T, leb, ltb, leb→le}
-use lib.ListN.{getD, List·getD-map, List·getD-eq-default}
-use Rattle·theory.specs.Logic.{_and_, _or_, within}
-use Rattle·theory.proofs.Tests.{by-cases, above, or-i, tests, never}
-use Rattle·theory.proofs.Table.{every, at}
-use Rattle·protocol·specs.specs.Opcodes.{OpcodeRow, unsupported, opcodeRows, opcodeRow, supported, fixedSize, longestFixed, namesMember}
+use lib.ListN.{get_or, get_or-map, get_or-eq_default}
+use Rattle.theory.specs.Logic.{◌and◌, ◌or◌, within}
+use Rattle.theory.proofs.Tests.{by_cases, above, or-i, tests, never}
+use Rattle.theory.proofs.Table.{every, at}
+use Rattle.protocol.specs.Opcodes.{OpcodeRow, unsupported, opcodeRows, opcodeRow, supported, fixedSize, longestFixed, namesMember}
 
 -- the column of the code's table
 abbrev pub fixeds : List ℕ
-fixeds = map (λ (r : OpcodeRow). r .fixed) opcodeRows
+fixeds = map (λ (r : OpcodeRow). r.fixed) opcodeRows
 
 module _ (op : ℕ) where
-  pub fixed-is : getD fixeds op 0 ≡ fixedSize op
+  pub fixed-is : get_or fixeds op 0 ≡ fixedSize op
   unfolding fixedSize opcodeRow
-  fixed-is = List·getD-map (λ (r : OpcodeRow). r .fixed) opcodeRows op unsupported
+  fixed-is = get_or-map (λ (r : OpcodeRow). r.fixed) opcodeRows op unsupported
 
   pub supported-out : 17 < op → false ≡ supported op
   unfolding supported opcodeRow opcodeRows
-  supported-out h = rw (List·getD-eq-default opcodeRows unsupported h)
+  supported-out h = rw (get_or-eq_default opcodeRows unsupported h)
 
   pub supported-below : supported op ≡ true → op < 18
   supported-below s =
-      by-cases (ltb 17 op)
+      by_cases (ltb 17 op)
       (λ e. never (cc (supported-out (ltb-true 17 op e))))
       (λ e. omega tests)
 
   pub fixed-longest : fixedSize op ≤ longestFixed
-  unfolding every _and_ fixedSize opcodeRow opcodeRows
+  unfolding every ◌and◌ fixedSize opcodeRow opcodeRows
   fixed-longest =
-      by-cases (ltb 17 op)
-      (λ e. rw (List·getD-eq-default opcodeRows unsupported (ltb-true 17 op e)) (omega arith))
-      (λ e. leb-true _ _ (at (λ (k : ℕ) (r : OpcodeRow). leb (r .fixed) longestFixed) unsupported opcodeRows refl op (omega tests)))
+      by_cases (ltb 17 op)
+      (λ e. rw (get_or-eq_default opcodeRows unsupported (ltb-true 17 op e)) (omega arith))
+      (λ e. leb-true _ _ (at (λ (k : ℕ) (r : OpcodeRow). leb r.fixed longestFixed) unsupported opcodeRows refl op (omega tests)))
 
 -- data that holds the fixed fields of opcode o is at least k bytes long, where k is at most what the row says
-pub data-long : (op o n k : ℕ) → fixedSize op ≤ n → op ≡ o → T (leb k (getD fixeds o 0)) → k ≤ n
+pub data-long : (op o n k : ℕ) → fixedSize op ≤ n → op ≡ o → T (leb k (get_or fixeds o 0)) → k ≤ n
 unfolding opcodeRows
 data-long op o n k f e t =
     let l : k ≤ fixedSize op = rw (← fixed-is op, e) (leb→le _ _ t) in
@@ -56,17 +56,17 @@ agreed true b e = sym e
 agreed false true e = e
 agreed false false e = refl
 
-pub by-rows : (f : ℕ → Bool) → every (λ (k : ℕ) (r : OpcodeRow). agree (r .served) (f k)) 0 opcodeRows ≡ true
+pub by_rows : (f : ℕ → Bool) → every (λ (k : ℕ) (r : OpcodeRow). agree r.served (f k)) 0 opcodeRows ≡ true
     → ((k : ℕ) → 17 < k → f k ≡ false) → (op : ℕ) → supported op ≡ f op
 unfolding supported opcodeRow opcodeRows
-by-rows f t out op =
-    by-cases (ltb 17 op)
+by_rows f t out op =
+    by_cases (ltb 17 op)
     (λ e. let h = ltb-true 17 op e in sym (supported-out op h) ∙ sym (out op h))
-    (λ e. agreed _ _ (at (λ (k : ℕ) (r : OpcodeRow). agree (r .served) (f k)) unsupported opcodeRows t op (omega tests)))
+    (λ e. agreed _ _ (at (λ (k : ℕ) (r : OpcodeRow). agree r.served (f k)) unsupported opcodeRows t op (omega tests)))
 
 -- 0x00, 0x01 and those that name a member
 pub supported-is : (op : ℕ) → supported op ≡ ltb op 2 or namesMember op
-unfolding every _and_ opcodeRows _or_ namesMember within
+unfolding every ◌and◌ opcodeRows ◌or◌ namesMember within
 supported-is =
-    by-rows (λ (k : ℕ). ltb k 2 or namesMember k) refl
+    by_rows (λ (k : ℕ). ltb k 2 or namesMember k) refl
     (λ k h. or-i (ltb k 2) _ (omega tests) (above 0x0a 0x11 k h))

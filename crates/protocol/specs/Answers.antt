@@ -1,16 +1,14 @@
 -- The answers and their numbers, SPEC 6.2 and 7.1; modes, SPEC 4.11, and kinds of objects, SPEC 4.3, as tests and as numbers.
 -- Assumes nothing.
-use mathlib.Core.Bool.{Bool, true, false}
-use Prim.Native.Nat.{ℕ, zero, suc}
-use lib.Dec.{eqb}
-use Rattle·protocol·specs.specs.declared.Answer.{Answer}
-use Rattle·protocol·specs.specs.declared.Answer.the-variants.{Done, BadLength, BadGroup, BadOpcode, NoMember, Marked, BadField, Exists, NotLive, NoRoom, WrongKind, Running, BadList, ShortReply}
-use Rattle·protocol·specs.specs.declared.EventAnswer.{EventAnswer}
-use Rattle·protocol·specs.specs.declared.EventAnswer.the-variants as event
-use Rattle·protocol·specs.specs.declared.Mode.{Mode}
-use Rattle·protocol·specs.specs.declared.Mode.the-variants as mode
-use Rattle·protocol·specs.specs.declared.ObjectKind.{ObjectKind}
-use Rattle·protocol·specs.specs.declared.ObjectKind.the-variants.{Get, Set}
+use Rattle.std.specs.Prelude.{Bool, true, false, ℕ, zero, suc, eqb}
+use Rattle.protocol.specs.declared.Answer.{Answer}
+use Rattle.protocol.specs.declared.Answer.TheVariants.{Done, BadLength, BadGroup, BadOpcode, NoMember, Marked, BadField, Exists, NotLive, NoRoom, WrongKind, Running, BadList, ShortReply}
+use Rattle.protocol.specs.declared.EventAnswer.{EventAnswer}
+use Rattle.protocol.specs.declared.EventAnswer.TheVariants as event
+use Rattle.protocol.specs.declared.Mode.{Mode}
+use Rattle.protocol.specs.declared.Mode.TheVariants as mode
+use Rattle.protocol.specs.declared.ObjectKind.{ObjectKind}
+use Rattle.protocol.specs.declared.ObjectKind.TheVariants.{Get, Set}
 
 abbrev pub statusOf : Answer → ℕ
 statusOf Done = 0
@@ -78,14 +76,14 @@ abbrev pub isGet : ObjectKind → Bool
 isGet Get = true
 isGet Set = false
 
-abbrev pub isSet : ObjectKind → Bool
-isSet Get = false
-isSet Set = true
+abbrev pub is_set : ObjectKind → Bool
+is_set Get = false
+is_set Set = true
 
 -- 0 running, 1 stopped
-abbrev pub modeOf : ℕ → Mode
-modeOf zero = mode.Running
-modeOf (suc n) = mode.Stopped
+abbrev pub mode_of : ℕ → Mode
+mode_of zero = mode.Running
+mode_of (suc n) = mode.Stopped
 
 -- 0 get, 1 set
 abbrev pub kindNumber : ObjectKind → ℕ

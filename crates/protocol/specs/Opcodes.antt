@@ -1,10 +1,6 @@
 -- The opcodes and the fixed fields of their data: SPEC 3.4. Assumes nothing.
-use mathlib.Core.Bool.{Bool, true, false}
-use mathlib.Core.List.{List, [], _∷_}
-use Prim.Native.Nat.{ℕ, _/_, _%_, _^_}
-use lib.Dec.{ltb, eqb}
-use lib.ListN.{getD}
-use Rattle·theory.specs.Logic.{_and_, within}
+use Rattle.std.specs.Prelude.{Bool, true, false, List, [], ◌∷◌, ℕ, ◌/◌, ◌%◌, ◌^◌, ltb, eqb, get_or}
+use Rattle.theory.specs.Logic.{◌and◌, within}
 
 -- Data may have any length. An opcode that is served has fixed fields of so many bytes: those that are missing read as
 -- zero. Where it is listed, what follows the fixed fields is an open list with a rule of its own; else it is ignored.
@@ -39,14 +35,14 @@ opcodeRows =
     ∷ []
 
 unfoldable pub opcodeRow : ℕ → OpcodeRow
-opcodeRow op = getD opcodeRows op unsupported
+opcodeRow op = get_or opcodeRows op unsupported
 
 unfoldable pub supported : ℕ → Bool
-supported op = opcodeRow op .served
+supported op = (opcodeRow op).served
 
 -- the length of an opcode's fixed fields
 unfoldable pub fixedSize : ℕ → ℕ
-fixedSize op = opcodeRow op .fixed
+fixedSize op = (opcodeRow op).fixed
 
 -- no opcode has longer ones
 abbrev pub longestFixed : ℕ

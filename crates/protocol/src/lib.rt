@@ -1,11 +1,11 @@
 // The vocabulary of the group administration commands: answers and their numbers, opcodes, and what a request can
 // ask of a member.
-ghost use mathlib.Core.Path.{_≡_};
-ghost use mathlib.Core.Bool.{true};
-ghost use Rattle·protocol·specs.specs.Answers.{statusOf, qualifierOf, isDone, eventNumber, isEventDone, modeOf, kindNumber};
-ghost use Rattle·protocol·specs.specs.Opcodes.{supported, fixedSize, namesMember, bit, supportedOnly};
+ghost use Rattle.std.specs.Prelude.{◌≡◌, true};
+ghost use Rattle.protocol.specs.Answers.{statusOf, qualifierOf, isDone, eventNumber, isEventDone, mode_of, kindNumber};
+ghost use Rattle.protocol.specs.Opcodes.{supported, fixedSize, namesMember, bit, supportedOnly};
 
 // The answer to a command: SPEC 6.1, with the numbers of SPEC 6.2.
+#[derive(Drop)]
 pub enum Answer {
     Done,
     BadLength,
@@ -24,6 +24,7 @@ pub enum Answer {
 }
 
 // The answer to a card event or a setup: SPEC 7.1.
+#[derive(Drop)]
 pub enum EventAnswer {
     Done,
     NotSound,
@@ -35,18 +36,21 @@ pub enum EventAnswer {
     WrongMark,
 }
 
+#[derive(Drop)]
 pub enum Mode {
     Running,
     Stopped,
 }
 
 // What a resource object is for: to get parts or to set them.
+#[derive(Drop)]
 pub enum ObjectKind {
     Get,
     Set,
 }
 
 // What is asked of the metadata of a member's parts.
+#[derive(Drop)]
 pub enum Metadata {
     Size,
     Count,
@@ -54,6 +58,7 @@ pub enum Metadata {
 }
 
 // An operation on a member that has a result and changes nothing. Each names a resource object by its id.
+#[derive(Drop)]
 pub enum ReadOp {
     QueryObject(usize),
     GetMetadata(usize, Metadata),
@@ -62,6 +67,7 @@ pub enum ReadOp {
 }
 
 // An operation that changes a member and has no result.
+#[derive(Drop)]
 pub enum ChangeOp {
     Create(usize, ObjectKind),
     Modify(usize, ObjectKind),
@@ -71,6 +77,7 @@ pub enum ChangeOp {
 }
 
 // What a reply holds from byte 8.
+#[derive(Drop)]
 pub enum Body {
     Nothing,
     Kind(ObjectKind),
@@ -81,7 +88,7 @@ pub enum Body {
 }
 
 pub fn status(a: Answer) -> u16
-    ensures { λ r. ⌜ r ≡ statusOf a ⌝ }
+    ensures { result ≡ statusOf a }
 {
     match a {
         Answer::Done => 0,
@@ -102,7 +109,7 @@ pub fn status(a: Answer) -> u16
 }
 
 pub fn qualifier(a: Answer) -> u16
-    ensures { λ r. ⌜ r ≡ qualifierOf a ⌝ }
+    ensures { result ≡ qualifierOf a }
 {
     match a {
         Answer::Done => 0,
@@ -123,13 +130,13 @@ pub fn qualifier(a: Answer) -> u16
 }
 
 pub fn is_done(a: Answer) -> bool
-    ensures { λ r. ⌜ r ≡ isDone a ⌝ }
+    ensures { result ≡ isDone a }
 {
     status(a) == 0
 }
 
 pub fn event_number(a: EventAnswer) -> u8
-    ensures { λ r. ⌜ r ≡ eventNumber a ⌝ }
+    ensures { result ≡ eventNumber a }
 {
     match a {
         EventAnswer::Done => 0,
@@ -144,7 +151,7 @@ pub fn event_number(a: EventAnswer) -> u8
 }
 
 pub fn is_event_done(a: EventAnswer) -> bool
-    ensures { λ r. ⌜ r ≡ isEventDone a ⌝ }
+    ensures { result ≡ isEventDone a }
 {
     match a {
         EventAnswer::Done => true,
@@ -160,13 +167,13 @@ pub fn is_event_done(a: EventAnswer) -> bool
 
 // The mode that a byte stands for, in a record and in a command.
 pub fn mode_of(b: u8) -> Mode
-    ensures { λ r. ⌜ r ≡ modeOf b ⌝ }
+    ensures { result ≡ mode_of b }
 {
     if b == 0 { Mode::Running } else { Mode::Stopped }
 }
 
 pub fn kind_number(kind: ObjectKind) -> u8
-    ensures { λ r. ⌜ r ≡ kindNumber kind ⌝ }
+    ensures { result ≡ kindNumber kind }
 {
     match kind {
         ObjectKind::Get => 0,
@@ -186,7 +193,7 @@ const FIXED: [u8; 18] = [0, 8, 0, 0, 0, 0, 0, 0, 0, 0, 24, 24, 16, 8, 16, 16, 8,
 pub const LONGEST_FIXED: usize = 24;
 
 pub fn supported(op: usize) -> bool
-    ensures { λ r. ⌜ r ≡ supported op ⌝ }
+    ensures { result ≡ supported op }
 {
     if op < 2 {
         return true;
@@ -196,15 +203,15 @@ pub fn supported(op: usize) -> bool
 
 // The compiler builds a table anew at each call; this one takes four instructions.
 pub fn fixed_size(op: usize) -> usize
-    requires { ⌜ supported op ≡ true ⌝ }
-    ensures { λ r. ⌜ r ≡ fixedSize op ⌝ }
+    requires { supported op ≡ true }
+    ensures { result ≡ fixedSize op }
 {
     FIXED[op] as usize
 }
 
 // The commands that name a member: 0x0a to 0x11.
 pub fn names_member(op: usize) -> bool
-    ensures { λ r. ⌜ r ≡ namesMember op ⌝ }
+    ensures { result ≡ namesMember op }
 {
     if op < 0x0a {
         return false;
@@ -214,7 +221,7 @@ pub fn names_member(op: usize) -> bool
 
 // Bit k of a list of opcodes: opcode k is in it.
 pub fn bit(mask: u64, k: usize) -> bool
-    ensures { λ r. ⌜ r ≡ bit mask k ⌝ }
+    ensures { result ≡ bit mask k }
 {
     if 63 < k {
         return false;
@@ -224,7 +231,7 @@ pub fn bit(mask: u64, k: usize) -> bool
 
 // No bit but 0, 1 and 10 to 17.
 pub fn supported_only(mask: u64) -> bool
-    ensures { λ r. ⌜ r ≡ supportedOnly mask ⌝ }
+    ensures { result ≡ supportedOnly mask }
 {
     if mask / 4 % 256 != 0 {
         return false;

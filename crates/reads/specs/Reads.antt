@@ -1,22 +1,21 @@
 -- The commands that read a member, SPEC 4.6, 4.8 and 4.9: steps 8 to 10 of SPEC 6.1. Assumes nothing.
-use mathlib.Core.List.{List}
-use Prim.Native.Nat.{ℕ}
-use Rattle·theory.specs.Logic.{unless_answer_then_}
-use Rattle·protocol.specs.declared.Answer.{Answer}
-use Rattle·protocol.specs.declared.Answer.the-variants.{Done, NotLive, WrongKind, BadList}
-use Rattle·protocol.specs.declared.Metadata.{Metadata}
-use Rattle·protocol.specs.declared.Metadata.the-variants.{Size, Count, HeaderList}
-use Rattle·protocol.specs.declared.ReadOp.{ReadOp}
-use Rattle·protocol.specs.declared.ReadOp.the-variants.{QueryObject, GetMetadata, GetSelected, GetAll}
-use Rattle·protocol.specs.Answers.{isGet}
-use Rattle·inventory.specs.Inventory.{partCount, partsSize}
-use Rattle·rules.specs.Rules.{askedOf}
-use Rattle·objects.specs.Objects.{onFound}
-use Rattle·member.specs.declared.Member.{Member}
-use Rattle·member.specs.Objects.{lookupOf}
-use Rattle·protocol.specs.declared.Body.{Body}
-use Rattle·protocol.specs.declared.Body.the-variants.{Nothing, Kind, Number, Headers, Selected, All}
-use Rattle·reads·specs.specs.declared.Reading.{Reading}
+use Rattle.std.specs.Prelude.{List, ℕ}
+use Rattle.theory.specs.Logic.{unless◌answer◌then◌}
+use Rattle.protocol.specs.declared.Answer.{Answer}
+use Rattle.protocol.specs.declared.Answer.TheVariants.{Done, NotLive, WrongKind, BadList}
+use Rattle.protocol.specs.declared.Metadata.{Metadata}
+use Rattle.protocol.specs.declared.Metadata.TheVariants.{Size, Count, HeaderList}
+use Rattle.protocol.specs.declared.ReadOp.{ReadOp}
+use Rattle.protocol.specs.declared.ReadOp.TheVariants.{QueryObject, GetMetadata, GetSelected, GetAll}
+use Rattle.protocol.specs.Answers.{isGet}
+use Rattle.inventory.specs.Inventory.{part_count, partsSize}
+use Rattle.rules.specs.Rules.{asked_of}
+use Rattle.objects.specs.Objects.{onFound}
+use Rattle.member.specs.declared.Member.{Member}
+use Rattle.member.specs.Objects.{lookupOf}
+use Rattle.protocol.specs.declared.Body.{Body}
+use Rattle.protocol.specs.declared.Body.TheVariants.{Nothing, Kind, Number, Headers, Selected, All}
+use Rattle.reads.specs.declared.Reading.{Reading}
 
 abbrev pub refuseRead : Answer → Reading
 refuseRead a = record { answer = a; body = Nothing }
@@ -29,7 +28,7 @@ queryOf id m = onFound (lookupOf m id) (λ k. succeedRead (Kind k)) (refuseRead 
 
 abbrev pub metadataOf : ℕ → Metadata → Body
 metadataOf queues Size = Number (partsSize queues)
-metadataOf queues Count = Number (partCount queues)
+metadataOf queues Count = Number (part_count queues)
 metadataOf queues HeaderList = Headers
 
 -- metadata and parts get need a live get object
@@ -41,11 +40,11 @@ throughGet id m rest =
 
 -- list holds the headers asked for
 unfoldable pub selectedOf : ℕ → List ℕ → Reading
-selectedOf queues list = unless askedOf queues list answer refuseRead BadList then succeedRead Selected
+selectedOf queues list = unless asked_of queues list answer refuseRead BadList then succeedRead Selected
 
 -- by the member's own queue count (02, request 9)
-abbrev pub readOf : List ℕ → ReadOp → Member → Reading
-readOf list (QueryObject id) m = queryOf id m
-readOf list (GetMetadata id what) m = throughGet id m (succeedRead (metadataOf (m .queues) what))
-readOf list (GetSelected id) m = throughGet id m (selectedOf (m .queues) list)
-readOf list (GetAll id) m = throughGet id m (succeedRead All)
+abbrev pub read_of : List ℕ → ReadOp → Member → Reading
+read_of list (QueryObject id) m = queryOf id m
+read_of list (GetMetadata id what) m = throughGet id m (succeedRead (metadataOf m.queues what))
+read_of list (GetSelected id) m = throughGet id m (selectedOf m.queues list)
+read_of list (GetAll id) m = throughGet id m (succeedRead All)

@@ -1,24 +1,21 @@
 // The commands that read a member, SPEC 4.6, 4.8 and 4.9: steps 8 to 10 of SPEC 6.1. They read its bytes where they stand
 // in the card.
-ghost use mathlib.Core.Path.{_≡_};
-ghost use lib.ListN.{length};
-ghost use Rattle·member.specs.Record.{memberSize, memberOf};
-ghost use Rattle·reads·specs.specs.Reads.{refuseRead, succeedRead, queryOf, metadataOf, throughGet, selectedOf, readOf};
+ghost use Rattle.std.specs.Prelude.{◌≡◌, length};
+ghost use Rattle.member.specs.Record.{memberSize, memberOf};
+ghost use Rattle.reads.specs.Reads.{refuseRead, succeedRead, queryOf, metadataOf, throughGet, selectedOf, read_of};
+
 use objects::Found;
-use protocol::Answer;
-use protocol::Body;
-use protocol::Metadata;
-use protocol::ObjectKind;
-use protocol::ReadOp;
+use protocol::{Answer, Body, Metadata, ObjectKind, ReadOp};
 
 // The outcome of an operation that has a result and changes nothing.
+#[derive(Drop)]
 pub struct Reading {
     pub answer: Answer,
     pub body: Body,
 }
 
 fn refuse_read(answer: Answer) -> Reading
-    ensures { λ r. ⌜ r ≡ refuseRead answer ⌝ }
+    ensures { result ≡ refuseRead answer }
 {
     Reading {
         answer,
@@ -27,7 +24,7 @@ fn refuse_read(answer: Answer) -> Reading
 }
 
 fn succeed_read(body: Body) -> Reading
-    ensures { λ r. ⌜ r ≡ succeedRead body ⌝ }
+    ensures { result ≡ succeedRead body }
 {
     Reading {
         answer: Answer::Done,
@@ -36,8 +33,8 @@ fn succeed_read(body: Body) -> Reading
 }
 
 fn query(bytes: &[u8], id: usize) -> Reading
-    requires { ⌜ length (now bytes) ≡ memberSize ⌝ }
-    ensures { λ r. ⌜ r ≡ queryOf id (memberOf (now (bytes .entry))) ⌝ }
+    requires { length bytes.now ≡ memberSize }
+    ensures { result ≡ queryOf id (memberOf bytes.now) }
 {
     let Found::Live(kind) = member::lookup_in(bytes, id) else {
         return refuse_read(Answer::NotLive);
@@ -46,7 +43,7 @@ fn query(bytes: &[u8], id: usize) -> Reading
 }
 
 fn metadata(what: Metadata, queues: u8) -> Body
-    ensures { λ r. ⌜ r ≡ metadataOf queues what ⌝ }
+    ensures { result ≡ metadataOf queues what }
 {
     match what {
         Metadata::Size => Body::Number(inventory::parts_size(queues)),
@@ -56,8 +53,8 @@ fn metadata(what: Metadata, queues: u8) -> Body
 }
 
 fn get_metadata(bytes: &[u8], id: usize, what: Metadata, queues: u8) -> Reading
-    requires { ⌜ length (now bytes) ≡ memberSize ⌝ }
-    ensures { λ r. ⌜ r ≡ throughGet id (memberOf (now (bytes .entry))) (succeedRead (metadataOf queues what)) ⌝ }
+    requires { length bytes.now ≡ memberSize }
+    ensures { result ≡ throughGet id (memberOf bytes.now) (succeedRead (metadataOf queues what)) }
 {
     let Found::Live(kind) = member::lookup_in(bytes, id) else {
         return refuse_read(Answer::NotLive);
@@ -70,8 +67,8 @@ fn get_metadata(bytes: &[u8], id: usize, what: Metadata, queues: u8) -> Reading
 }
 
 fn get_selected(bytes: &[u8], id: usize, queues: u8, list: &[u8]) -> Reading
-    requires { ⌜ length (now bytes) ≡ memberSize ⌝ }
-    ensures { λ r. ⌜ r ≡ throughGet id (memberOf (now (bytes .entry))) (selectedOf queues (now (list .entry))) ⌝ }
+    requires { length bytes.now ≡ memberSize }
+    ensures { result ≡ throughGet id (memberOf bytes.now) (selectedOf queues list.now) }
 {
     let Found::Live(kind) = member::lookup_in(bytes, id) else {
         return refuse_read(Answer::NotLive);
@@ -86,8 +83,8 @@ fn get_selected(bytes: &[u8], id: usize, queues: u8, list: &[u8]) -> Reading
 }
 
 fn get_all(bytes: &[u8], id: usize) -> Reading
-    requires { ⌜ length (now bytes) ≡ memberSize ⌝ }
-    ensures { λ r. ⌜ r ≡ throughGet id (memberOf (now (bytes .entry))) (succeedRead Body.All) ⌝ }
+    requires { length bytes.now ≡ memberSize }
+    ensures { result ≡ throughGet id (memberOf bytes.now) (succeedRead Body.All) }
 {
     let Found::Live(kind) = member::lookup_in(bytes, id) else {
         return refuse_read(Answer::NotLive);
@@ -100,8 +97,8 @@ fn get_all(bytes: &[u8], id: usize) -> Reading
 
 // A command that reads; list holds the headers asked for. The parts are those of the member's own queue count.
 pub fn read(bytes: &[u8], op: ReadOp, list: &[u8]) -> Reading
-    requires { ⌜ length (now bytes) ≡ memberSize ⌝ }
-    ensures { λ r. ⌜ r ≡ readOf (now (list .entry)) op (memberOf (now (bytes .entry))) ⌝ }
+    requires { length bytes.now ≡ memberSize }
+    ensures { result ≡ read_of list.now op (memberOf bytes.now) }
 {
     let queues = member::queues_of(bytes);
     match op {

@@ -1,35 +1,35 @@
 -- The head and the result of a reply, written one after the other. Assumes nothing.
-use mathlib.Core.Path.{_≡_, refl, sym, _∙_}
+use mathlib.Core.Path.{◌≡◌, refl, sym, ◌∙◌}
 use mathlib.Core.Bool.{Bool, true, false, not}
-use mathlib.Core.List.{List, [], _++_, append-nil}
-use Prim.Native.Nat.{ℕ, _+_, _-_, _≤_, _<_}
+use mathlib.Core.List.{List, [], ◌++◌, append-nil}
+use Prim.Native.Nat.{ℕ, ◌+◌, ◌-◌, ◌≤◌, ◌<◌}
 use native.Mathlib.Omega.{arith}
 use lib.Dec.{leb}
 use mir.Syntax.{w64}
 use mir.Val.{Fits}
 use lib.ListN.{length, take, drop, replicate, length-append}
 use borrow.Author.Tests.{le-leb, lt-leb, leb-true, not-true, not-false}
-use Rattle·theory.specs.Logic.{if_then_else_, unless_answer_then_}
-use Rattle·theory.specs.Bytes.{put}
-use Rattle·theory.proofs.Tests.{by-cases, never}
-use Rattle·theory.proofs.Bytes.{length-put, put-append}
-use Rattle·theory.proofs.Lent.{length-tail}
-use Rattle·wire.specs.Le.{bytes}
-use Rattle·protocol.specs.declared.Answer.{Answer}
-use Rattle·protocol.specs.declared.Answer.the-variants.{ShortReply}
-use Rattle·protocol.specs.Answers.{statusOf, qualifierOf, isDone}
-use Rattle·protocol.specs.declared.Body.{Body}
-use Rattle·reply·specs.specs.Result.{resultOf}
-use Rattle·reply·specs.specs.Reply.{headSize, headOf, finalOf, replyOf, replied, written}
+use Rattle.theory.specs.Logic.{if◌then◌else◌, unless◌answer◌then◌}
+use Rattle.theory.specs.Bytes.{put}
+use Rattle.theory.proofs.Tests.{by_cases, never}
+use Rattle.theory.proofs.Bytes.{length-put, put-append}
+use Rattle.theory.proofs.Lent.{length-tail}
+use Rattle.wire.specs.Le.{bytes}
+use Rattle.protocol.specs.declared.Answer.{Answer}
+use Rattle.protocol.specs.declared.Answer.TheVariants.{ShortReply}
+use Rattle.protocol.specs.Answers.{statusOf, qualifierOf, isDone}
+use Rattle.protocol.specs.declared.Body.{Body}
+use Rattle.reply.specs.Result.{result_of}
+use Rattle.reply.specs.Reply.{headSize, head_of, finalOf, replyOf, replied, written}
 
-pub head-long : (a : Answer) → length (headOf a) ≡ 8
-unfolding headOf bytes
+pub head-long : (a : Answer) → length (head_of a) ≡ 8
+unfolding head_of bytes
 head-long a = refl
 
 -- three writes make the head
 pub head-written : (a : Answer) (s q : ℕ) (l l₁ l₂ l₃ : List ℕ) → s ≡ statusOf a → q ≡ qualifierOf a
-    → l₁ ≡ put 0 (bytes 2 s) l → l₂ ≡ put 2 (bytes 2 q) l₁ → l₃ ≡ put 4 (bytes 4 0) l₂ → l₃ ≡ put 0 (headOf a) l
-unfolding headOf bytes
+    → l₁ ≡ put 0 (bytes 2 s) l → l₂ ≡ put 2 (bytes 2 q) l₁ → l₃ ≡ put 4 (bytes 4 0) l₂ → l₃ ≡ put 0 (head_of a) l
+unfolding head_of bytes
 head-written a s q l l₁ l₂ l₃ es eq e₁ e₂ e₃ =
     let x = bytes 2 (statusOf a) in
     let y = bytes 2 (qualifierOf a) in
@@ -40,38 +40,38 @@ head-written a s q l l₁ l₂ l₃ es eq e₁ e₂ e₃ =
 -- the code was told b of the answer
 module _ (a : Answer) (size room : ℕ) (b : Bool) (said : b ≡ isDone a) where
   final-refused : not b ≡ true → finalOf a size room ≡ a
-  unfolding finalOf if_then_else_
+  unfolding finalOf if◌then◌else◌
   final-refused n = rw (sym said ∙ not-true b n)
 
   final-short : not b ≡ false → 8 ≤ room → room - 8 < size → finalOf a size room ≡ ShortReply
-  unfolding finalOf if_then_else_ unless_answer_then_
+  unfolding finalOf if◌then◌else◌ unless◌answer◌then◌
   final-short n h k = rw (sym said ∙ not-false b n, lt-leb (8 + size) room (omega arith))
 
   final-fits : not b ≡ false → 8 ≤ room → size ≤ room - 8 → finalOf a size room ≡ a
-  unfolding finalOf if_then_else_ unless_answer_then_
+  unfolding finalOf if◌then◌else◌ unless◌answer◌then◌
   final-fits n h k = rw (sym said ∙ not-false b n, le-leb (8 + size) room (omega arith))
 
 -- a success in the end has room
 pub final-room : (a : Answer) (size room : ℕ) → isDone (finalOf a size room) ≡ true → 8 + size ≤ room
-unfolding finalOf if_then_else_ unless_answer_then_
+unfolding finalOf if◌then◌else◌ unless◌answer◌then◌
 final-room a size room =
-    by-cases (isDone a)
-    (λ d. rw d (by-cases (leb (8 + size) room) (λ l. rw l (λ e. leb-true (8 + size) room l)) (λ l. rw l (λ e. never e))))
+    by_cases (isDone a)
+    (λ d. rw d (by_cases (leb (8 + size) room) (λ l. rw l (λ e. leb-true (8 + size) room l)) (λ l. rw l (λ e. never e))))
     (λ d. rw d (λ e. never (sym d ∙ e)))
 
 -- ---- what is written ----
 
 -- a refusal, and a success with no result, is the head alone
-pub reply-refused : (a : Answer) (x : List ℕ) → isDone a ≡ false → replyOf a x ≡ headOf a
-unfolding replyOf if_then_else_
+pub reply-refused : (a : Answer) (x : List ℕ) → isDone a ≡ false → replyOf a x ≡ head_of a
+unfolding replyOf if◌then◌else◌
 reply-refused a x d = rw (d, append-nil)
 
-pub reply-empty : (a : Answer) → replyOf a [] ≡ headOf a
-unfolding replyOf if_then_else_
-reply-empty a = by-cases (isDone a) (λ d. rw (d, append-nil)) (λ d. rw (d, append-nil))
+pub reply-empty : (a : Answer) → replyOf a [] ≡ head_of a
+unfolding replyOf if◌then◌else◌
+reply-empty a = by_cases (isDone a) (λ d. rw (d, append-nil)) (λ d. rw (d, append-nil))
 
-pub reply-done : (a : Answer) (x : List ℕ) → isDone a ≡ true → replyOf a x ≡ headOf a ++ x
-unfolding replyOf if_then_else_
+pub reply-done : (a : Answer) (x : List ℕ) → isDone a ≡ true → replyOf a x ≡ head_of a ++ x
+unfolding replyOf if◌then◌else◌
 reply-done a x d = rw d
 
 -- x is the result, and the code was told b of the answer
@@ -88,36 +88,36 @@ module _ (a : Answer) (x l : List ℕ) (b : Bool) (said : b ≡ isDone a) where
     short-written y k e =
         e ∙ rw (← sized, final-short a size (length l) b said n h k, reply-refused ShortReply x refl, reply-refused ShortReply [] refl)
 
-    pub result-written : (l₁ l₂ : List ℕ) → size ≤ length l - headSize → l₁ ≡ put 0 (headOf a) l → l₂ ≡ put headSize x l₁
+    pub result-written : (l₁ l₂ : List ℕ) → size ≤ length l - headSize → l₁ ≡ put 0 (head_of a) l → l₂ ≡ put headSize x l₁
         → (headSize + size, l₂) ≡ written (replied a x (length l)) l
     unfolding replied written
     result-written l₁ l₂ k e₁ e₂ =
-        let p : put 0 (headOf a ++ x) l ≡ put headSize x (put 0 (headOf a) l) = put-append 0 (headOf a) x l ∙ rw (head-long a) in
+        let p : put 0 (head_of a ++ x) l ≡ put headSize x (put 0 (head_of a) l) = put-append 0 (head_of a) x l ∙ rw (head-long a) in
         rw (← sized, final-fits a size (length l) b said n h k, e₂, e₁, reply-done a x (sym said ∙ not-false b n), length-append, head-long a, p, sized)
 
 -- there is room for the result, in the buffer as the head left it and in the tail that is lent to the result's writer
-module _ (a : Answer) (l l′ : List ℕ) (size : ℕ) (h : headSize ≤ length l) (k : size ≤ length l - headSize) (e : l′ ≡ put 0 (headOf a) l) where
-  pub result-fits : 8 + size ≤ length l′
-  result-fits = rw (e, length-put) (omega arith)
+module _ (a : Answer) (l l' : List ℕ) (size : ℕ) (h : headSize ≤ length l) (k : size ≤ length l - headSize) (e : l' ≡ put 0 (head_of a) l) where
+  pub result_fits : 8 + size ≤ length l'
+  result_fits = rw (e, length-put) (omega arith)
 
-  pub tail-fits : (q : ℕ) (list v : List ℕ) (body : Body) → size ≡ length (resultOf q list v body)
-      → length (resultOf q list v body) ≤ length (take (length l′ - 8) (drop 8 l′))
-  tail-fits q list v body s = let f = result-fits in rw (length-tail 8 l′, ← s) (omega arith)
+  pub tail-fits : (q : ℕ) (list v : List ℕ) (body : Body) → size ≡ length (result_of q list v body)
+      → length (result_of q list v body) ≤ length (take (length l' - 8) (drop 8 l'))
+  tail-fits q list v body s = let f = result_fits in rw (length-tail 8 l', ← s) (omega arith)
 
 -- and its length is a word
 pub reply-word : (room size : ℕ) → headSize ≤ room → size ≤ room - headSize → Fits w64 room → Fits w64 (headSize + size)
 reply-word room size h k f = omega arith
 
 -- a reply with no result, which always fits
-pub answer-only : (a : Answer) (l l′ : List ℕ) → l′ ≡ put 0 (headOf a) l → (headSize, l′) ≡ written (replyOf a []) l
+pub answer-only : (a : Answer) (l l' : List ℕ) → l' ≡ put 0 (head_of a) l → (headSize, l') ≡ written (replyOf a []) l
 unfolding written
-answer-only a l l′ e = rw (e, reply-empty a, head-long a)
+answer-only a l l' e = rw (e, reply-empty a, head-long a)
 
 pub final-empty : (a : Answer) (room : ℕ) → headSize ≤ room → finalOf a 0 room ≡ a
-unfolding finalOf if_then_else_ unless_answer_then_
+unfolding finalOf if◌then◌else◌ unless◌answer◌then◌
 final-empty a room h =
     let f : leb (headSize + 0) room ≡ true = le-leb headSize room h in
-    by-cases (isDone a) (λ d. rw (d, f)) (λ d. rw d)
+    by_cases (isDone a) (λ d. rw (d, f)) (λ d. rw d)
 
 pub replied-empty : (a : Answer) (room : ℕ) → headSize ≤ room → replied a [] room ≡ replyOf a []
 unfolding replied

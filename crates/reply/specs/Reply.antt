@@ -1,21 +1,18 @@
 -- The reply, SPEC 3.3: steps 11 and 12 of SPEC 6.1. Assumes nothing.
-use mathlib.Core.List.{List, [], _++_}
-use Prim.Native.Nat.{ℕ, _+_}
-use lib.Dec.{leb}
-use lib.ListN.{length, replicate}
-use Rattle·theory.specs.Logic.{if_then_else_, unless_answer_then_}
-use Rattle·theory.specs.Bytes.{put}
-use Rattle·wire.specs.Le.{bytes}
-use Rattle·protocol.specs.declared.Answer.{Answer}
-use Rattle·protocol.specs.declared.Answer.the-variants.{ShortReply}
-use Rattle·protocol.specs.Answers.{statusOf, qualifierOf, isDone}
+use Rattle.std.specs.Prelude.{List, [], ◌++◌, ℕ, ◌+◌, leb, length, replicate}
+use Rattle.theory.specs.Logic.{if◌then◌else◌, unless◌answer◌then◌}
+use Rattle.theory.specs.Bytes.{put}
+use Rattle.wire.specs.Le.{bytes}
+use Rattle.protocol.specs.declared.Answer.{Answer}
+use Rattle.protocol.specs.declared.Answer.TheVariants.{ShortReply}
+use Rattle.protocol.specs.Answers.{statusOf, qualifierOf, isDone}
 
 -- status 2 bytes, qualifier 2, four zero bytes
 abbrev pub headSize : ℕ
 headSize = 8
 
-unfoldable pub headOf : Answer → List ℕ
-headOf a = bytes 2 (statusOf a) ++ (bytes 2 (qualifierOf a) ++ replicate 4 0)
+unfoldable pub head_of : Answer → List ℕ
+head_of a = bytes 2 (statusOf a) ++ (bytes 2 (qualifierOf a) ++ replicate 4 0)
 
 -- step 11: a success whose head and result do not fit the reply buffer is refused
 unfoldable pub finalOf : Answer → ℕ → ℕ → Answer
@@ -26,7 +23,7 @@ finalOf a size room =
 
 -- a refusal's reply is the head alone
 unfoldable pub replyOf : Answer → List ℕ → List ℕ
-replyOf a result = headOf a ++ (if isDone a then result else [])
+replyOf a result = head_of a ++ (if isDone a then result else [])
 
 -- steps 11 and 12: the reply to a command that comes to this answer and this result
 unfoldable pub replied : Answer → List ℕ → ℕ → List ℕ

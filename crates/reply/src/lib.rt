@@ -1,16 +1,13 @@
 // The reply to a command, SPEC 3.3: its head, its result in the lent tail, and steps 11 and 12 of SPEC 6.1.
-ghost use mathlib.Core.Path.{_≡_};
-ghost use Prim.Native.Nat.{ℕ, _+_, _≤_, _<_};
-ghost use mathlib.Core.List.{List, [], _++_};
-ghost use lib.ListN.{length};
-ghost use Rattle·theory.specs.Bytes.{put};
-ghost use Rattle·wire.specs.Le.{bytes};
-ghost use Rattle·inventory.specs.Inventory.{partCount, valuesSize};
-ghost use Rattle·capture.specs.Capture.{headersOf};
-ghost use Rattle·reply·specs.specs.Result.{numberBytes, resultOf};
-ghost use Rattle·reply·specs.specs.Reply.{headSize, headOf, finalOf, replyOf, replied, written};
-use protocol::Answer;
-use protocol::Body;
+ghost use Rattle.std.specs.Prelude.{◌≡◌, ℕ, ◌+◌, ◌≤◌, ◌<◌, List, [], ◌++◌, length};
+ghost use Rattle.theory.specs.Bytes.{put};
+ghost use Rattle.wire.specs.Le.{bytes};
+ghost use Rattle.inventory.specs.Inventory.{part_count, valuesSize};
+ghost use Rattle.capture.specs.Capture.{headersOf};
+ghost use Rattle.reply.specs.Result.{numberBytes, result_of};
+ghost use Rattle.reply.specs.Reply.{headSize, head_of, finalOf, replyOf, replied, written};
+
+use protocol::{Answer, Body};
 
 // The head: status 2 bytes, qualifier 2, four zero bytes; the result follows.
 const QUALIFIER_AT: usize = 2;
@@ -25,8 +22,8 @@ const MASK_SIZE: usize = 8;
 const NUMBER_SIZE: usize = 8;
 
 fn write_head(a: Answer, out: &mut [u8])
-    requires { ⌜ headSize ≤ length (now out) ⌝ }
-    ensures { λ _. ⌜ now (out .exit) ≡ put 0 (headOf a) (now (out .entry)) ⌝ }
+    requires { headSize ≤ length out.old }
+    ensures { out.new ≡ put 0 (head_of a) out.old }
 {
     wire::write(out, 0, 2, protocol::status(a) as u64);
     wire::write(out, QUALIFIER_AT, 2, protocol::qualifier(a) as u64);
@@ -35,8 +32,8 @@ fn write_head(a: Answer, out: &mut [u8])
 
 // A reply with no result: the bytes written.
 pub fn write_answer(a: Answer, reply: &mut [u8]) -> usize
-    requires { ⌜ headSize ≤ length (now reply) ⌝ }
-    ensures { λ r. ⌜ (r, now (reply .exit)) ≡ written (replyOf a []) (now (reply .entry)) ⌝ }
+    requires { headSize ≤ length reply.old }
+    ensures { (result, reply.new) ≡ written (replyOf a []) reply.old }
 {
     write_head(a, reply);
     HEAD_SIZE
@@ -44,8 +41,8 @@ pub fn write_answer(a: Answer, reply: &mut [u8]) -> usize
 
 // The reply to a list query: a mask of opcodes.
 pub fn write_mask(mask: u64, reply: &mut [u8]) -> usize
-    requires { ⌜ headSize ≤ length (now reply) ⌝ }
-    ensures { λ r. ⌜ (r, now (reply .exit)) ≡ written (replied Answer.Done (bytes 8 mask) (length (now (reply .entry)))) (now (reply .entry)) ⌝ }
+    requires { headSize ≤ length reply.old }
+    ensures { (result, reply.new) ≡ written (replied Answer.Done (bytes 8 mask) (length reply.old)) reply.old }
 {
     if reply.len() - HEAD_SIZE < MASK_SIZE {
         return write_answer(Answer::ShortReply, reply);
@@ -57,8 +54,8 @@ pub fn write_mask(mask: u64, reply: &mut [u8]) -> usize
 
 // The bytes of a result, whatever the values are.
 fn result_bytes(body: Body, queues: u8, list: &[u8]) -> usize
-    requires { ⌜ queues < 5 ⌝ }
-    ensures { λ r. ⌜ ((values : List ℕ) → length values ≡ valuesSize → r ≡ length (resultOf queues (now (list .entry)) values body)) ⌝ }
+    requires { queues < 5 }
+    ensures { (values : List ℕ) → length values ≡ valuesSize → result ≡ length (result_of queues list.now values body) }
 {
     match body {
         Body::Nothing => 0,
@@ -72,8 +69,8 @@ fn result_bytes(body: Body, queues: u8, list: &[u8]) -> usize
 
 // A 4-byte number and 4 zero bytes, at the front of what is lent.
 fn write_number(out: &mut [u8], n: u32)
-    requires { ⌜ 8 ≤ length (now out) ⌝ }
-    ensures { λ _. ⌜ now (out .exit) ≡ put 0 (numberBytes n) (now (out .entry)) ⌝ }
+    requires { 8 ≤ length out.old }
+    ensures { out.new ≡ put 0 (numberBytes n) out.old }
 {
     wire::write(out, 0, 4, n as u64);
     wire::write(out, 4, 4, 0);
@@ -81,8 +78,8 @@ fn write_number(out: &mut [u8], n: u32)
 
 // The count of the parts and their headers: a metadata list.
 fn write_metadata_list(out: &mut [u8], queues: u8)
-    requires { ⌜ 8 + length (headersOf queues) ≤ length (now out) ⌝ }
-    ensures { λ _. ⌜ now (out .exit) ≡ put 0 (numberBytes (partCount queues) ++ headersOf queues) (now (out .entry)) ⌝ }
+    requires { 8 + length (headersOf queues) ≤ length out.old }
+    ensures { out.new ≡ put 0 (numberBytes (part_count queues) ++ headersOf queues) out.old }
 {
     write_number(out, inventory::part_count(queues));
     capture::write_headers(&mut out[NUMBER_SIZE..], queues);
@@ -90,8 +87,8 @@ fn write_metadata_list(out: &mut [u8], queues: u8)
 
 // The result, at the front of the lent tail.
 fn write_result(body: Body, queues: u8, list: &[u8], values: &[u8], out: &mut [u8])
-    requires { ⌜ (queues < 5) × (length (now values) ≡ valuesSize) × (length (resultOf queues (now list) (now values) body) ≤ length (now out)) ⌝ }
-    ensures { λ _. ⌜ now (out .exit) ≡ put 0 (resultOf queues (now (list .entry)) (now (values .entry)) body) (now (out .entry)) ⌝ }
+    requires { (queues < 5) × (length values.now ≡ valuesSize) × (length (result_of queues list.now values.now body) ≤ length out.old) }
+    ensures { out.new ≡ put 0 (result_of queues list.now values.now body) out.old }
 {
     match body {
         Body::Nothing => {}
@@ -112,8 +109,8 @@ pub fn write_reading(
     values: &[u8],
     reply: &mut [u8],
 ) -> usize
-    requires { ⌜ (queues < 5) × (length (now values) ≡ valuesSize) × (headSize ≤ length (now reply)) ⌝ }
-    ensures { λ r. ⌜ (r, now (reply .exit)) ≡ written (replied answer (resultOf queues (now (list .entry)) (now (values .entry)) body) (length (now (reply .entry)))) (now (reply .entry)) ⌝ }
+    requires { (queues < 5) × (length values.now ≡ valuesSize) × (headSize ≤ length reply.old) }
+    ensures { (result, reply.new) ≡ written (replied answer (result_of queues list.now values.now body) (length reply.old)) reply.old }
 {
     if !protocol::is_done(answer) {
         return write_answer(answer, reply);

@@ -1,13 +1,13 @@
 -- The rules that a list obeys which step 10 accepts. Assumes nothing.
-use mathlib.Core.Path.{_≡_}
+use mathlib.Core.Path.{◌≡◌}
 use mathlib.Core.Bool.{true, false, not}
 use mathlib.Core.List.{List}
 use Prim.Native.Nat.{ℕ}
 use borrow.Author.Tests.{not-true}
-use Rattle·theory.proofs.Tests.{never, unless-passed}
-use Rattle·parts.specs.List.{PartList, whole}
-use Rattle·rules·specs.specs.declared.Cause.{Cause}
-use Rattle·rules·specs.specs.Rules.{knownOrSkipped, lengthRight, sizeRight, featuresSame, every, repeated, causeIn, isAccepted}
+use Rattle.theory.proofs.Tests.{never, unless-passed}
+use Rattle.parts.specs.List.{PartList, whole}
+use Rattle.rules.specs.declared.Cause.{Cause}
+use Rattle.rules.specs.Rules.{knownOrSkipped, lengthRight, sizeRight, featuresSame, every, repeated, causeIn, isAccepted}
 
 pub record Accepts (q : ℕ) (features : List ℕ) (ps : PartList) : Type 0 where
   pub sized : every (lengthRight q) ps ≡ true
@@ -22,9 +22,9 @@ pub accepts : (q : ℕ) (features : List ℕ) (ps : PartList) → isAccepted (ca
 unfolding causeIn
 accepts q features ps e =
     let a = unless-passed Passes (whole ps) _ _ never e in
-    let b = unless-passed Passes (every (knownOrSkipped q) ps) _ _ never (a .1) in
-    let c = unless-passed Passes (every (lengthRight q) ps) _ _ never (b .1) in
-    let d = unless-passed Passes (every (sizeRight q) ps) _ _ never (c .1) in
-    let f = unless-passed Passes (every (featuresSame features) ps) _ _ never (d .1) in
-    let g = unless-passed Passes (not (repeated q ps)) _ _ never (f .1) in
-    record { sized = c .0; rings = d .0; valued = f .0; once = not-true (repeated q ps) (g .0) }
+    let b = unless-passed Passes (every (knownOrSkipped q) ps) _ _ never a.1 in
+    let c = unless-passed Passes (every (lengthRight q) ps) _ _ never b.1 in
+    let d = unless-passed Passes (every (sizeRight q) ps) _ _ never c.1 in
+    let f = unless-passed Passes (every (featuresSame features) ps) _ _ never d.1 in
+    let g = unless-passed Passes (not (repeated q ps)) _ _ never f.1 in
+    record { sized = c.0; rings = d.0; valued = f.0; once = not-true (repeated q ps) g.0 }

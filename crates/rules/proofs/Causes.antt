@@ -1,35 +1,35 @@
 -- The walk of check_list, in which the parts that are left decide the cause of the whole list. Assumes nothing.
-use mathlib.Core.Path.{_≡_, sym, _∙_}
+use mathlib.Core.Path.{◌≡◌, sym, ◌∙◌}
 use mathlib.Core.Bool.{Bool, true, false}
 use mathlib.Core.List.{List}
-use Prim.Native.Nat.{ℕ, _+_, _-_}
-use native.Mathlib.Nat.{add-sub-cancel-left}
+use Prim.Native.Nat.{ℕ, ◌+◌, ◌-◌}
+use native.Mathlib.Nat.{add-sub_cancel_left}
 use borrow.Author.Tests.{eqb-true}
 use lib.Dec.{eqb}
-use lib.ListN.{getD, set, take, drop}
-use Rattle·theory.specs.Logic.{unless_answer_then_}
-use Rattle·theory.proofs.Tests.{by-cases, unless-cases, true-or, false-or}
-use Rattle·theory.specs.Bytes.{same}
-use Rattle·wire.specs.Le.{number}
-use Rattle·inventory.specs.Inventory.{rowAt, deviceFeatures, selectorOf, placeOf}
-use Rattle·inventory.specs.Queue.{valueAllowed}
-use Rattle·inventory.specs.Header.{selectorAt}
-use Rattle·inventory.specs.declared.Place.{Place}
-use Rattle·inventory.specs.declared.Place.the-variants.{At, Absent}
-use Rattle·inventory.proofs.Columns.{sizes, size-at}
-use Rattle·inventory.proofs.Rules.{table}
-use Rattle·parts.specs.declared.ListForm.{ListForm}
-use Rattle·parts.specs.declared.Step.{Step}
-use Rattle·parts.specs.declared.Step.the-variants as step
-use Rattle·parts.specs.List.{headerAt, stepAt, Part, PartList, part, partWith, partIn, partsFrom, whole}
-use Rattle·parts.proofs.Walk.{parts-end, parts-cut}
-use Rattle·parts.proofs.Turns.{opened}
-use Rattle·rules·specs.specs.declared.Cause.{Cause}
-use Rattle·rules·specs.specs.declared.Cause.the-variants.{Cut}
-use Rattle·rules·specs.specs.Rules.{known, knownOrSkipped, lengthRight, sizeRight, featuresSame, every, repeated, causeIn}
-use Rattle·rules·specs.specs.Ranks.{rankOf, absentRank, rowRank, least, causeAt}
-use Rattle·rules·proofs.proofs.Seen.{none, place, isSeen, withSeen, seenAgain, repeated-is}
-use Rattle·rules·proofs.proofs.Ranks.{least-assoc, rank-both, cause-least, cause-of-rank}
+use lib.ListN.{get_or, set, take, drop}
+use Rattle.theory.specs.Logic.{unless◌answer◌then◌}
+use Rattle.theory.proofs.Tests.{by_cases, unless-cases, true-or, false-or}
+use Rattle.theory.specs.Bytes.{same}
+use Rattle.wire.specs.Le.{number}
+use Rattle.inventory.specs.Inventory.{row_at, deviceFeatures, selectorOf, place_of}
+use Rattle.inventory.specs.Queue.{valueAllowed}
+use Rattle.inventory.specs.Header.{selectorAt}
+use Rattle.inventory.specs.declared.Place.{Place}
+use Rattle.inventory.specs.declared.Place.TheVariants.{At, Absent}
+use Rattle.inventory.proofs.Columns.{sizes, size-at}
+use Rattle.inventory.proofs.Rules.{table}
+use Rattle.parts.specs.declared.ListForm.{ListForm}
+use Rattle.parts.specs.declared.Step.{Step}
+use Rattle.parts.specs.declared.Step.TheVariants as step
+use Rattle.parts.specs.List.{header_at, stepAt, Part, PartList, part, partWith, partIn, partsFrom, whole}
+use Rattle.parts.proofs.Walk.{parts-end, parts_cut}
+use Rattle.parts.proofs.Turns.{opened}
+use Rattle.rules.specs.declared.Cause.{Cause}
+use Rattle.rules.specs.declared.Cause.TheVariants.{Cut}
+use Rattle.rules.specs.Rules.{known, knownOrSkipped, lengthRight, sizeRight, featuresSame, every, repeated, causeIn}
+use Rattle.rules.specs.Ranks.{rank_of, absentRank, rowRank, least, causeAt}
+use Rattle.rules.proofs.Seen.{none, place, isSeen, withSeen, seenAgain, repeated-is}
+use Rattle.rules.proofs.Ranks.{least-assoc, rank-both, cause-least, cause-of-rank}
 
 -- ---- what is left ----
 
@@ -38,7 +38,7 @@ unfoldable pub causeLeft : ℕ → List ℕ → Bool → ℕ → List Bool → P
 causeLeft q features d rank seen ps =
     unless whole ps answer Cut then
     causeAt (least rank
-    (rankOf (every (knownOrSkipped q) ps) (every (lengthRight q) ps) (every (sizeRight q) ps) (every (featuresSame features) ps)
+    (rank_of (every (knownOrSkipped q) ps) (every (lengthRight q) ps) (every (sizeRight q) ps) (every (featuresSame features) ps)
     (seenAgain q seen ps))) d
 
 pub cause-start : (q : ℕ) (features : List ℕ) (ps : PartList) → causeIn q features ps ≡ causeLeft q features (repeated q ps) 5 none ps
@@ -49,7 +49,7 @@ cause-start q features ps = rw (repeated-is q ps) (cause-of-rank _ _ _ _ _ _)
 
 abbrev partRank : ℕ → List ℕ → List Bool → Part → ℕ
 partRank q features seen p =
-    rankOf (knownOrSkipped q p) (lengthRight q p) (sizeRight q p) (featuresSame features p) (isSeen seen (place q p))
+    rank_of (knownOrSkipped q p) (lengthRight q p) (sizeRight q p) (featuresSame features p) (isSeen seen (place q p))
 
 cause-part : (q : ℕ) (features : List ℕ) (d : Bool) (rank : ℕ) (seen : List Bool) (p : Part) (ps : PartList)
     → causeLeft q features d rank seen (part p ps)
@@ -58,12 +58,12 @@ unfolding causeLeft whole every seenAgain
 cause-part q features d rank seen p ps = rw (← rank-both, least-assoc)
 
 module _ (q t s f : ℕ) (v features : List ℕ) (seen : List Bool) where
-  absent-rank-is : placeOf q t s ≡ Absent → eqb t deviceFeatures ≡ false → partRank q features seen (partWith t f s v) ≡ absentRank t f
+  absent-rank-is : place_of q t s ≡ Absent → eqb t deviceFeatures ≡ false → partRank q features seen (partWith t f s v) ≡ absentRank t f
   unfolding absentRank known knownOrSkipped lengthRight sizeRight featuresSame
   absent-rank-is e h = rw (e, h, false-or, true-or (valueAllowed t v), true-or (same v features))
 
-  row-rank-is : (i : ℕ) → placeOf q t s ≡ At i
-      → partRank q features seen (partWith t f s v) ≡ rowRank (rowAt i .size) (getD seen i false) t v features
+  row-rank-is : (i : ℕ) → place_of q t s ≡ At i
+      → partRank q features seen (partWith t f s v) ≡ rowRank (row_at i).size (get_or seen i false) t v features
   unfolding rowRank known knownOrSkipped lengthRight sizeRight featuresSame
   row-rank-is i e = rw (e, true-or, false-or)
 
@@ -71,7 +71,7 @@ module _ (q t s f : ℕ) (v features : List ℕ) (seen : List Bool) where
 
 selector-read : (form : ListForm) (l : List ℕ) (at t f s start len : ℕ) → stepAt form l at ≡ step.Part t f s start len
     → s ≡ selectorOf t (number (at + selectorAt) 8 l)
-unfolding stepAt headerAt
+unfolding stepAt header_at
 selector-read form l at t f s start len =
     unless-cases Says _ _ _ (λ b e. cc) λ b.
     unless-cases Says _ _ _ (λ b e. cc) λ b.
@@ -80,10 +80,10 @@ selector-read form l at t f s start len =
     Says : Step → Type 0
     Says r = r ≡ step.Part t f s start len → s ≡ selectorOf t (number (at + selectorAt) 8 l)
 
-other-type : (q t s n : ℕ) → s ≡ selectorOf t n → placeOf q t s ≡ Absent → eqb t deviceFeatures ≡ false
+other-type : (q t s n : ℕ) → s ≡ selectorOf t n → place_of q t s ≡ Absent → eqb t deviceFeatures ≡ false
 unfolding table
 other-type q t s n e h =
-    by-cases (eqb t deviceFeatures)
+    by_cases (eqb t deviceFeatures)
     (λ y. let z : At 0 ≡ Absent = rw (e, eqb-true t deviceFeatures y) at h in cc)
     (λ y. y)
 
@@ -92,34 +92,34 @@ other-type q t s n e h =
 module _ (form : ListForm) (l : List ℕ) (at : ℕ) (r : Step) (here : r ≡ stepAt form l at) where
   pub cause-end : (q : ℕ) (features : List ℕ) (d : Bool) (rank : ℕ) (seen : List Bool) (x y : Cause) → r ≡ step.End
       → x ≡ causeLeft q features d rank seen (partsFrom form l at) → y ≡ causeAt rank d → y ≡ x
-  unfolding causeLeft whole every seenAgain unless_answer_then_ rankOf
+  unfolding causeLeft whole every seenAgain unless◌answer◌then◌ rank_of
   cause-end q features d rank seen x y e h k = k ∙ sym (h ∙ rw (parts-end form l at (sym here ∙ e)) (cause-least rank d))
 
   pub cause-cut : (q : ℕ) (features : List ℕ) (d : Bool) (rank : ℕ) (seen : List Bool) (x : Cause) → r ≡ step.Cut
       → x ≡ causeLeft q features d rank seen (partsFrom form l at) → Cut ≡ x
-  unfolding causeLeft whole unless_answer_then_
-  cause-cut q features d rank seen x e h = sym (h ∙ rw (parts-cut form l at (sym here ∙ e)))
+  unfolding causeLeft whole unless◌answer◌then◌
+  cause-cut q features d rank seen x e h = sym (h ∙ rw (parts_cut form l at (sym here ∙ e)))
 
   -- a part is found; b is what place_of answered
-  module _ (t f s start len : ℕ) (found : r ≡ step.Part t f s start len) (q : ℕ) (seen : List Bool) (b : Place) (placed : b ≡ placeOf q t s) where
-    at-part : partsFrom form l at ≡ part (partIn l t f s start len) (partsFrom form l (start + len))
-    at-part = opened form l at r here t f s start len found
+  module _ (t f s start len : ℕ) (found : r ≡ step.Part t f s start len) (q : ℕ) (seen : List Bool) (b : Place) (placed : b ≡ place_of q t s) where
+    at_part : partsFrom form l at ≡ part (partIn l t f s start len) (partsFrom form l (start + len))
+    at_part = opened form l at r here t f s start len found
 
     -- n: the least rank, with that of this part, k
     module _ (features : List ℕ) (d : Bool) (rank k n : ℕ) (x : Cause) (e : x ≡ causeLeft q features d rank seen (partsFrom form l at))
         (lesser : n ≡ least rank k) where
       pub cause-absent : b ≡ Absent → k ≡ absentRank t f → x ≡ causeLeft q features d n seen (partsFrom form l (start + len))
       cause-absent a h =
-          let p : placeOf q t s ≡ Absent = sym placed ∙ a in
+          let p : place_of q t s ≡ Absent = sym placed ∙ a in
           let o = other-type q t s _ (selector-read form l at t f s start len (sym here ∙ found)) p in
-          e ∙ rw (at-part, cause-part, absent-rank-is q t s f _ features seen p o, p, ← h, ← lesser)
+          e ∙ rw (at_part, cause-part, absent-rank-is q t s f _ features seen p o, p, ← h, ← lesser)
 
       -- its value is lent, to start + len
       pub cause-row : (i : ℕ) → b ≡ At i
-          → k ≡ rowRank (getD sizes i 0) (getD seen i false) t (take (start + len - start) (drop start l)) features
+          → k ≡ rowRank (get_or sizes i 0) (get_or seen i false) t (take (start + len - start) (drop start l)) features
           → x ≡ causeLeft q features d n (set seen i true) (partsFrom form l (start + len))
       cause-row i a h =
-          let p : placeOf q t s ≡ At i = sym placed ∙ a in
-          let m : k ≡ rowRank (rowAt i .size) (getD seen i false) t (take len (drop start l)) features
-          = h ∙ rw (size-at i, add-sub-cancel-left start len) in
-          e ∙ rw (at-part, cause-part, row-rank-is q t s f _ features seen i p, p, ← m, ← lesser)
+          let p : place_of q t s ≡ At i = sym placed ∙ a in
+          let m : k ≡ rowRank (row_at i).size (get_or seen i false) t (take len (drop start l)) features
+          = h ∙ rw (size-at i, add-sub_cancel_left start len) in
+          e ∙ rw (at_part, cause-part, row-rank-is q t s f _ features seen i p, p, ← m, ← lesser)

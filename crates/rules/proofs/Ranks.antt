@@ -1,40 +1,40 @@
 -- Ranks: the least rank of two lists is the rank of both, and the cause of a list is that of its rank. Assumes nothing.
-use mathlib.Core.Path.{_≡_, refl, ap, _∙_}
+use mathlib.Core.Path.{◌≡◌, refl, ap, ◌∙◌}
 use mathlib.Core.Bool.{Bool, true, false, not}
-use Prim.Native.Nat.{ℕ, _≤_}
+use Prim.Native.Nat.{ℕ, ◌≤◌}
 use native.Mathlib.Omega.{arith}
 use lib.Dec.{leb}
-use borrow.Author.Needs.{needs}
-use borrow.Author.Tests.{leb-true, leb-false, le-leb, ne-eqb}
-use Rattle·theory.specs.Logic.{if_then_else_, unless_answer_then_, _and_, _or_}
-use Rattle·theory.proofs.Tests.{by-cases, not-or}
-use Rattle·rules·specs.specs.declared.Cause.{Cause}
-use Rattle·rules·specs.specs.declared.Cause.the-variants.{Accepted, Cut, Unknown, Length, Size, Features, Twice}
-use Rattle·rules·specs.specs.Ranks.{rankOf, least, causeAt}
+use borrow.Author.Rules.{rules}
+use borrow.Author.Tests.{leb-true, leb-false, le-leb, ne_eqb}
+use Rattle.theory.specs.Logic.{if◌then◌else◌, unless◌answer◌then◌, ◌and◌, ◌or◌}
+use Rattle.theory.proofs.Tests.{by_cases, not-or}
+use Rattle.rules.specs.declared.Cause.{Cause}
+use Rattle.rules.specs.declared.Cause.TheVariants.{Accepted, Cut, Unknown, Length, Size, Features, Twice}
+use Rattle.rules.specs.Ranks.{rank_of, least, causeAt}
 
 -- ---- the lesser of two ----
 
 least-left : (a b : ℕ) → a ≤ b → least a b ≡ a
-unfolding least if_then_else_
+unfolding least if◌then◌else◌
 least-left a b h = rw (le-leb a b h)
 
 least-right : (a b : ℕ) → b ≤ a → least a b ≡ b
-unfolding least if_then_else_
-least-right a b h = by-cases (leb a b) (λ e. rw e (omega (arith, leb-true a b e))) (λ e. rw e)
+unfolding least if◌then◌else◌
+least-right a b h = by_cases (leb a b) (λ e. rw e (omega (arith, leb-true a b e))) (λ e. rw e)
 
 pub least-assoc : (a b c : ℕ) → least a (least b c) ≡ least (least a b) c
 least-assoc a b c =
-    by-cases (leb b c)
+    by_cases (leb b c)
     (λ e.
     let h : b ≤ c = leb-true b c e in
     rw (least-left b c h)
-    (by-cases (leb a b)
+    (by_cases (leb a b)
     (λ f. let k : a ≤ b = leb-true a b f in let m : a ≤ c = omega arith in rw (least-left a b k, least-left a c m))
     (λ f. let k : b ≤ a = omega (arith, leb-false a b f) in rw (least-right a b k, least-left b c h))))
     (λ e.
     let h : c ≤ b = omega (arith, leb-false b c e) in
     rw (least-right b c h)
-    (by-cases (leb a b)
+    (by_cases (leb a b)
     (λ f. rw (least-left a b (leb-true a b f)))
     (λ f.
     let k : b ≤ a = omega (arith, leb-false a b f) in
@@ -43,32 +43,32 @@ least-assoc a b c =
 
 -- ---- the rank of two, step by step ----
 
-at-least : (r s : ℕ) (b : Bool) (y : ℕ) → r ≤ s → r ≤ y → r ≤ (unless b answer s then y)
-unfolding unless_answer_then_
-at-least r s true y h k = k
-at-least r s false y h k = h
+at_least : (r s : ℕ) (b : Bool) (y : ℕ) → r ≤ s → r ≤ y → r ≤ (unless b answer s then y)
+unfolding unless◌answer◌then◌
+at_least r s true y h k = k
+at_least r s false y h k = h
 
-least-step : (r : ℕ) (a b : Bool) (x y : ℕ) → r ≤ x → r ≤ y
+least_step : (r : ℕ) (a b : Bool) (x y : ℕ) → r ≤ x → r ≤ y
     → least (unless a answer r then x) (unless b answer r then y) ≡ unless a and b answer r then least x y
-unfolding unless_answer_then_ _and_
-least-step r true true x y h k = refl
-least-step r true false x y h k = least-right x r h
-least-step r false true x y h k = least-left r y k
-least-step r false false x y h k = least-left r r (omega arith)
+unfolding unless◌answer◌then◌ ◌and◌
+least_step r true true x y h k = refl
+least_step r true false x y h k = least-right x r h
+least_step r false true x y h k = least-left r y k
+least_step r false false x y h k = least-left r r (omega arith)
 
-pub rank-both : (k n z f d k′ n′ z′ f′ d′ : Bool)
-    → least (rankOf k n z f d) (rankOf k′ n′ z′ f′ d′) ≡ rankOf (k and k′) (n and n′) (z and z′) (f and f′) (d or d′)
-unfolding rankOf
-rank-both k n z f d k′ n′ z′ f′ d′ =
-    least-step 0 k k′ _ _ (omega arith) (omega arith)
-    ∙ ap (λ r. unless k and k′ answer 0 then r)
-    (least-step 1 n n′ _ _ (search (needs, at-least)) (search (needs, at-least))
-    ∙ ap (λ r. unless n and n′ answer 1 then r)
-    (least-step 2 z z′ _ _ (search (needs, at-least)) (search (needs, at-least))
-    ∙ ap (λ r. unless z and z′ answer 2 then r)
-    (least-step 3 f f′ _ _ (search (needs, at-least)) (search (needs, at-least))
-    ∙ ap (λ r. unless f and f′ answer 3 then r)
-    (least-step 4 (not d) (not d′) 5 5 (omega arith) (omega arith) ∙ rw (not-or d d′, least-left 5 5 (omega arith))))))
+pub rank-both : (k n z f d k' n' z' f' d' : Bool)
+    → least (rank_of k n z f d) (rank_of k' n' z' f' d') ≡ rank_of (k and k') (n and n') (z and z') (f and f') (d or d')
+unfolding rank_of
+rank-both k n z f d k' n' z' f' d' =
+    least_step 0 k k' _ _ (omega arith) (omega arith)
+    ∙ ap (λ r. unless k and k' answer 0 then r)
+    (least_step 1 n n' _ _ (search (rules, at_least)) (search (rules, at_least))
+    ∙ ap (λ r. unless n and n' answer 1 then r)
+    (least_step 2 z z' _ _ (search (rules, at_least)) (search (rules, at_least))
+    ∙ ap (λ r. unless z and z' answer 2 then r)
+    (least_step 3 f f' _ _ (search (rules, at_least)) (search (rules, at_least))
+    ∙ ap (λ r. unless f and f' answer 3 then r)
+    (least_step 4 (not d) (not d') 5 5 (omega arith) (omega arith) ∙ rw (not-or d d', least-left 5 5 (omega arith))))))
 
 -- ---- the cause of a rank ----
 
@@ -78,29 +78,29 @@ cause-is r k d x e h = rw e h
 -- b: what `repeats` answered
 module _ (r : ℕ) (d b : Bool) (told : b ≡ d) (last : r ≡ 4) where
   pub cause-twice : b ≡ true → Twice ≡ causeAt r d
-  unfolding causeAt if_then_else_
+  unfolding causeAt if◌then◌else◌
   cause-twice h = rw (last, ← told, h)
 
   pub cause-once : b ≡ false → Accepted ≡ causeAt r d
-  unfolding causeAt if_then_else_
+  unfolding causeAt if◌then◌else◌
   cause-once h = rw (last, ← told, h)
 
 -- a rank of 5 adds nothing
 pub cause-least : (r : ℕ) (d : Bool) → causeAt (least r 5) d ≡ causeAt r d
-unfolding causeAt if_then_else_
+unfolding causeAt if◌then◌else◌
 cause-least r d =
-    by-cases (leb r 5)
+    by_cases (leb r 5)
     (λ e. rw (least-left r 5 (leb-true r 5 e)))
     (λ e.
     let h = leb-false r 5 e in
-    let h′ : 5 ≤ r = omega arith in
+    let h' : 5 ≤ r = omega arith in
     rw (
-      least-right r 5 h′,
-      ne-eqb r 0 (λ z. omega arith),
-      ne-eqb r 1 (λ z. omega arith),
-      ne-eqb r 2 (λ z. omega arith),
-      ne-eqb r 3 (λ z. omega arith),
-      ne-eqb r 4 (λ z. omega arith),
+      least-right r 5 h',
+      ne_eqb r 0 (λ z. omega arith),
+      ne_eqb r 1 (λ z. omega arith),
+      ne_eqb r 2 (λ z. omega arith),
+      ne_eqb r 3 (λ z. omega arith),
+      ne_eqb r 4 (λ z. omega arith),
     ))
 
 pub cause-of-rank : (w k n z f d : Bool)
@@ -111,8 +111,8 @@ pub cause-of-rank : (w k n z f d : Bool)
     unless f answer Features then
     unless not d answer Twice then
     Accepted)
-    ≡ unless w answer Cut then causeAt (least 5 (rankOf k n z f d)) d
-unfolding unless_answer_then_ rankOf least causeAt if_then_else_
+    ≡ unless w answer Cut then causeAt (least 5 (rank_of k n z f d)) d
+unfolding unless◌answer◌then◌ rank_of least causeAt if◌then◌else◌
 cause-of-rank false k n z f d = refl
 cause-of-rank true false n z f d = refl
 cause-of-rank true true false z f d = refl

@@ -1,26 +1,26 @@
 -- The turns and returns of the walks that try the rules: what the parts that are left answer gives what the whole list
 -- answers. `r` is what next_part answered at `at`, `x` what the whole list answers. Assumes nothing.
-use mathlib.Core.Path.{_≡_, refl, _∙_}
+use mathlib.Core.Path.{◌≡◌, refl, ◌∙◌}
 use mathlib.Core.Bool.{Bool, true, false, not}
-use mathlib.Core.List.{List, [], _∷_}
-use Prim.Native.Nat.{ℕ, _+_, _-_}
-use native.Mathlib.Nat.{add-sub-cancel-left}
+use mathlib.Core.List.{List, [], ◌∷◌}
+use Prim.Native.Nat.{ℕ, ◌+◌, ◌-◌}
+use native.Mathlib.Nat.{add-sub_cancel_left}
 use types.Run.{OneOf}
-use denote.Enum.Declared.{tagOf}
+use denote.Enum.Declared.{tag_of}
 use borrow.Author.Tests.{not-true, not-false}
 use lib.ListN.{take, drop}
-use Rattle·theory.specs.Logic.{_or_}
-use Rattle·theory.proofs.Tests.{true-and, false-and, false-or}
-use Rattle·parts.specs.declared.ListForm.{ListForm}
-use Rattle·parts.specs.declared.Step.{Step}
-use Rattle·parts.specs.declared.Step.the-variants as step
-use Rattle·parts.specs.List.{stepAt, Part, part, partWith, partIn, partsFrom, among}
-use Rattle·parts.proofs.Turns.{stopped, opened}
-use Rattle·rules·specs.specs.Rules.{known, every, repeated}
+use Rattle.theory.specs.Logic.{◌or◌}
+use Rattle.theory.proofs.Tests.{true-and, false-and, false-or}
+use Rattle.parts.specs.declared.ListForm.{ListForm}
+use Rattle.parts.specs.declared.Step.{Step}
+use Rattle.parts.specs.declared.Step.TheVariants as step
+use Rattle.parts.specs.List.{stepAt, Part, part, partWith, partIn, partsFrom, among}
+use Rattle.parts.proofs.Turns.{stopped, opened}
+use Rattle.rules.specs.Rules.{known, every, repeated}
 
 module _ (form : ListForm) (l : List ℕ) (at : ℕ) (r : Step) (here : r ≡ stepAt form l at) where
   -- the walk treats the end and a part that is cut short alike
-  module _ (none : OneOf (1 ∷ 2 ∷ []) (tagOf Rattle·parts.proofs.Step.the-type r)) where
+  module _ (none : OneOf (1 ∷ 2 ∷ []) (tag_of Rattle.parts.specs.contracts.Step.the_type r)) where
     pub every-stop : (rule : Part → Bool) (x : Bool) → x ≡ every rule (partsFrom form l at) → x ≡ true
     unfolding every
     every-stop rule x e = e ∙ stopped form l at r here none (every rule) true refl refl
@@ -30,27 +30,27 @@ module _ (form : ListForm) (l : List ℕ) (at : ℕ) (r : Step) (here : r ≡ st
     repeated-stop queues x e = e ∙ stopped form l at r here none (repeated queues) false refl refl
 
   module _ (t f s start len : ℕ) (found : r ≡ step.Part t f s start len) where
-    at-part : partsFrom form l at ≡ part (partIn l t f s start len) (partsFrom form l (start + len))
-    at-part = opened form l at r here t f s start len found
+    at_part : partsFrom form l at ≡ part (partIn l t f s start len) (partsFrom form l (start + len))
+    at_part = opened form l at r here t f s start len found
 
     -- b: it obeys the rule. Its value is lent, to start + len
     module _ (rule : Part → Bool) (b x : Bool) (e : x ≡ every rule (partsFrom form l at))
         (told : b ≡ rule (partWith t f s (take (start + len - start) (drop start l)))) where
       pub every-on : not b ≡ false → x ≡ every rule (partsFrom form l (start + len))
       unfolding every
-      every-on h = e ∙ rw (at-part, ← add-sub-cancel-left start len, ← told, not-false b h, true-and)
+      every-on h = e ∙ rw (at_part, ← add-sub_cancel_left start len, ← told, not-false b h, true-and)
 
       pub every-out : not b ≡ true → x ≡ false
       unfolding every
-      every-out h = e ∙ rw (at-part, ← add-sub-cancel-left start len, ← told, not-true b h, false-and)
+      every-out h = e ∙ rw (at_part, ← add-sub_cancel_left start len, ← told, not-true b h, false-and)
 
     -- b: it is known
     module _ (queues : ℕ) (b x : Bool) (e : x ≡ repeated queues (partsFrom form l at)) (told : b ≡ known queues t s) where
       pub repeated-skip : not b ≡ true → x ≡ repeated queues (partsFrom form l (start + len))
       unfolding repeated
-      repeated-skip h = e ∙ rw (at-part, ← told, not-true b h, false-and, false-or)
+      repeated-skip h = e ∙ rw (at_part, ← told, not-true b h, false-and, false-or)
 
       pub repeated-rest : not b ≡ false
           → x ≡ among t s (partsFrom form l (start + len)) or repeated queues (partsFrom form l (start + len))
       unfolding repeated
-      repeated-rest h = e ∙ rw (at-part, ← told, not-false b h, true-and)
+      repeated-rest h = e ∙ rw (at_part, ← told, not-false b h, true-and)

@@ -1,23 +1,19 @@
 -- Step 10, a bad list: one given to be set, SPEC 5.5, and one asked for, SPEC 5.6. Assumes nothing.
-use mathlib.Core.Bool.{Bool, true, false, not}
-use mathlib.Core.List.{List}
-use Prim.Native.Nat.{ℕ, _%_}
-use lib.Dec.{ltb, eqb}
-use lib.ListN.{length}
-use Rattle·theory.specs.Logic.{unless_answer_then_, _and_, _or_}
-use Rattle·theory.specs.Bytes.{same}
-use Rattle·inventory.specs.Inventory.{rowAt, deviceFeatures, placeOf, onPlace}
-use Rattle·inventory.specs.Queue.{valueAllowed}
-use Rattle·parts.specs.declared.ListForm.the-variants.{Parts, Headers}
-use Rattle·parts.specs.List.{Part, PartList, end, cut, part, partsOf, whole, among}
-use Rattle·rules·specs.specs.declared.Cause.{Cause}
-use Rattle·rules·specs.specs.declared.Cause.the-variants.{Accepted, Cut, Unknown, Length, Size, Features, Twice}
+use Rattle.std.specs.Prelude.{Bool, true, false, not, List, ℕ, ◌%◌, ltb, eqb, length}
+use Rattle.theory.specs.Logic.{unless◌answer◌then◌, ◌and◌, ◌or◌}
+use Rattle.theory.specs.Bytes.{same}
+use Rattle.inventory.specs.Inventory.{row_at, deviceFeatures, place_of, onPlace}
+use Rattle.inventory.specs.Queue.{valueAllowed}
+use Rattle.parts.specs.declared.ListForm.TheVariants.{Parts, Headers}
+use Rattle.parts.specs.List.{Part, PartList, end, cut, part, parts_of, whole, among}
+use Rattle.rules.specs.declared.Cause.{Cause}
+use Rattle.rules.specs.declared.Cause.TheVariants.{Accepted, Cut, Unknown, Length, Size, Features, Twice}
 
 -- ---- rules of one part ----
 
 -- the member has this part: it is known (01's term)
 unfoldable pub known : ℕ → ℕ → ℕ → Bool
-known queues t s = onPlace (placeOf queues t s) (λ i. true) false
+known queues t s = onPlace (place_of queues t s) (λ i. true) false
 
 -- the optional bit is bit 0 of the flags; no part of the type 0x600 or above is skipped
 abbrev pub isOptional : ℕ → Bool
@@ -29,25 +25,25 @@ neverSkipped = 0x600
 -- a part that is not known is skipped where its optional bit is set and its type is low enough, and else refused
 unfoldable pub knownOrSkipped : ℕ → Part → Bool
 knownOrSkipped queues p =
-    known queues (p .partType) (p .selector)
-    or (isOptional (p .flags) and ltb (p .partType) neverSkipped)
+    known queues p.partType p.selector
+    or (isOptional p.flags and ltb p.partType neverSkipped)
 
 -- the value of a known part is as long as the table says
 unfoldable pub lengthRight : ℕ → Part → Bool
 lengthRight queues p =
-    onPlace (placeOf queues (p .partType) (p .selector)) (λ i. eqb (length (p .value)) (rowAt i .size)) true
+    onPlace (place_of queues p.partType p.selector) (λ i. eqb (length p.value) (row_at i).size) true
 
 -- a known queue part has a size that a ring has: SPEC 13.5
 unfoldable pub sizeRight : ℕ → Part → Bool
-sizeRight queues p = not (known queues (p .partType) (p .selector)) or valueAllowed (p .partType) (p .value)
+sizeRight queues p = not (known queues p.partType p.selector) or valueAllowed p.partType p.value
 
 -- device features that are given are the member's
 unfoldable pub featuresSame : List ℕ → Part → Bool
-featuresSame features p = not (eqb (p .partType) deviceFeatures) or same (p .value) features
+featuresSame features p = not (eqb p.partType deviceFeatures) or same p.value features
 
 -- a header asked for is that of a known part, whatever its flags
 unfoldable pub asksKnown : ℕ → Part → Bool
-asksKnown queues p = known queues (p .partType) (p .selector)
+asksKnown queues p = known queues p.partType p.selector
 
 -- ---- rules of a list ----
 
@@ -61,7 +57,7 @@ unfoldable pub repeated : ℕ → PartList → Bool
 repeated queues end = false
 repeated queues cut = false
 repeated queues (part p ps) =
-    (known queues (p .partType) (p .selector) and among (p .partType) (p .selector) ps)
+    (known queues p.partType p.selector and among p.partType p.selector ps)
     or repeated queues ps
 
 -- a list given to be set: the first cause, in the order of SPEC 5.5, that occurs anywhere in it
@@ -76,7 +72,7 @@ causeIn queues features ps =
     Accepted
 
 abbrev pub causeOf : ℕ → List ℕ → List ℕ → Cause
-causeOf queues features l = causeIn queues features (partsOf Parts l)
+causeOf queues features l = causeIn queues features (parts_of Parts l)
 
 abbrev pub isAccepted : Cause → Bool
 isAccepted Accepted = true
@@ -91,5 +87,5 @@ isAccepted Twice = false
 unfoldable pub askedIn : ℕ → PartList → Bool
 askedIn queues ps = whole ps and every (asksKnown queues) ps and not (repeated queues ps)
 
-abbrev pub askedOf : ℕ → List ℕ → Bool
-askedOf queues l = askedIn queues (partsOf Headers l)
+abbrev pub asked_of : ℕ → List ℕ → Bool
+asked_of queues l = askedIn queues (parts_of Headers l)

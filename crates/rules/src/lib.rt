@@ -1,19 +1,14 @@
 // Step 10, a bad list, SPEC 5.5 and 5.6: the rules of one part, and of a list.
-ghost use mathlib.Core.Path.{_≡_};
-ghost use mathlib.Core.Bool.{not};
-ghost use lib.Dec.{eqb};
-ghost use Rattle·theory.specs.Logic.{_or_};
-ghost use Rattle·theory.specs.Bytes.{same};
-ghost use Rattle·inventory.specs.Inventory.{deviceFeatures};
-ghost use Rattle·parts.specs.List.{partsOf};
-ghost use Rattle·rules·specs.specs.Rules.{known, asksKnown, every, repeated, causeOf, isAccepted, askedOf};
-ghost use Rattle·rules·specs.specs.Ranks.{absentRank, rowRank, least, causeAt};
-use inventory::DEVICE_FEATURES;
-use inventory::Place;
-use inventory::ROWS;
-use inventory::SIZES;
-use parts::ListForm;
-use parts::Step;
+ghost use Rattle.std.specs.Prelude.{◌≡◌, not, eqb};
+ghost use Rattle.theory.specs.Logic.{◌or◌};
+ghost use Rattle.theory.specs.Bytes.{same};
+ghost use Rattle.inventory.specs.Inventory.{deviceFeatures};
+ghost use Rattle.parts.specs.List.{parts_of};
+ghost use Rattle.rules.specs.Rules.{known, asksKnown, every, repeated, causeOf, isAccepted, asked_of};
+ghost use Rattle.rules.specs.Ranks.{absentRank, rowRank, least, causeAt};
+
+use inventory::{DEVICE_FEATURES, Place, ROWS, SIZES};
+use parts::{ListForm, Step};
 
 // A part of this type or above is never skipped.
 const NEVER_SKIPPED: u16 = 0x600;
@@ -33,6 +28,7 @@ const AGAIN: u8 = 4;
 const NO_CAUSE: u8 = 5;
 
 // Why a list given to be set is refused: the first cause, in the order of SPEC 5.5, that occurs anywhere in it, or none.
+#[derive(Drop)]
 pub enum Cause {
     Accepted,
     Cut,
@@ -47,7 +43,7 @@ pub enum Cause {
 
 // Whether a member with so many queues has got this part.
 pub fn is_known(queues: u8, t: u16, selector: u64) -> bool
-    ensures { λ r. ⌜ r ≡ known queues t selector ⌝ }
+    ensures { result ≡ known queues t selector }
 {
     if let Place::At(_) = inventory::place_of(queues, t, selector) {
         true
@@ -59,7 +55,7 @@ pub fn is_known(queues: u8, t: u16, selector: u64) -> bool
 // The rank of a part that the member has not got: it is skipped where it has the optional bit, bit 0 of the flags, and its
 // type is low enough.
 fn absent_rank(t: u16, flags: u8) -> u8
-    ensures { λ r. ⌜ r ≡ absentRank t flags ⌝ }
+    ensures { result ≡ absentRank t flags }
 {
     if flags % 2 != 1 {
         return UNKNOWN;
@@ -72,7 +68,7 @@ fn absent_rank(t: u16, flags: u8) -> u8
 
 // Whether a value is the features, where the part is the device features.
 fn is_features(t: u16, value: &[u8], features: &[u8]) -> bool
-    ensures { λ r. ⌜ r ≡ not (eqb t deviceFeatures) or same (now (value .entry)) (now (features .entry)) ⌝ }
+    ensures { result ≡ not (eqb t deviceFeatures) or same value.now features.now }
 {
     if t != DEVICE_FEATURES {
         return true;
@@ -82,7 +78,7 @@ fn is_features(t: u16, value: &[u8], features: &[u8]) -> bool
 
 // The rank of a part that the member has got, with the size of its row, and whether its row has been seen before.
 fn row_rank(size: u8, seen: bool, t: u16, value: &[u8], features: &[u8]) -> u8
-    ensures { λ r. ⌜ r ≡ rowRank size seen t (now (value .entry)) (now (features .entry)) ⌝ }
+    ensures { result ≡ rowRank size seen t value.now features.now }
 {
     if value.len() != size as usize {
         return LENGTH;
@@ -101,7 +97,7 @@ fn row_rank(size: u8, seen: bool, t: u16, value: &[u8], features: &[u8]) -> u8
 
 // Whether every header asked for is of a part that the member has got.
 fn every_known(list: &[u8], queues: u8) -> bool
-    ensures { λ r. ⌜ r ≡ every (asksKnown queues) (partsOf ListForm.Headers (now (list .entry))) ⌝ }
+    ensures { result ≡ every (asksKnown queues) (parts_of ListForm.Headers list.now) }
 {
     let mut at = 0;
     loop {
@@ -126,7 +122,7 @@ fn every_known(list: &[u8], queues: u8) -> bool
 
 // Whether a known part is named twice.
 fn repeats(form: ListForm, list: &[u8], queues: u8) -> bool
-    ensures { λ r. ⌜ r ≡ repeated queues (partsOf form (now (list .entry))) ⌝ }
+    ensures { result ≡ repeated queues (parts_of form list.now) }
 {
     let mut at = 0;
     'parts: loop {
@@ -167,7 +163,7 @@ fn repeats(form: ListForm, list: &[u8], queues: u8) -> bool
 
 // The lesser of two ranks.
 fn least(a: u8, b: u8) -> u8
-    ensures { λ r. ⌜ r ≡ least a b ⌝ }
+    ensures { result ≡ least a b }
 {
     if a <= b {
         return a;
@@ -177,7 +173,7 @@ fn least(a: u8, b: u8) -> u8
 
 // The cause of a list whose parts have this least rank. The rows seen spare the nested loops where no row was seen again.
 fn cause_at(rank: u8, list: &[u8], queues: u8) -> Cause
-    ensures { λ r. ⌜ r ≡ causeAt rank (repeated queues (partsOf ListForm.Parts (now (list .entry)))) ⌝ }
+    ensures { result ≡ causeAt rank (repeated queues (parts_of ListForm.Parts list.now)) }
 {
     match rank {
         UNKNOWN => Cause::Unknown,
@@ -196,7 +192,7 @@ fn cause_at(rank: u8, list: &[u8], queues: u8) -> Cause
 
 // Why a list given to be set is refused, if it is. One walk, which keeps the least rank of a part and the rows seen.
 pub fn check_list(queues: u8, features: &[u8], list: &[u8]) -> Cause
-    ensures { λ r. ⌜ r ≡ causeOf queues (now (features .entry)) (now (list .entry)) ⌝ }
+    ensures { result ≡ causeOf queues features.now list.now }
 {
     let sizes = SIZES;
     let mut seen = [false; ROWS];
@@ -230,7 +226,7 @@ pub fn check_list(queues: u8, features: &[u8], list: &[u8]) -> Cause
 
 // Whether there is no cause to refuse a list.
 pub fn is_accepted(c: Cause) -> bool
-    ensures { λ r. ⌜ r ≡ isAccepted c ⌝ }
+    ensures { result ≡ isAccepted c }
 {
     match c {
         Cause::Accepted => true,
@@ -245,7 +241,7 @@ pub fn is_accepted(c: Cause) -> bool
 
 // Whether a list of headers can be asked for.
 pub fn check_asked(queues: u8, list: &[u8]) -> bool
-    ensures { λ r. ⌜ r ≡ askedOf queues (now (list .entry)) ⌝ }
+    ensures { result ≡ asked_of queues list.now }
 {
     if !parts::is_whole(ListForm::Headers, list) {
         return false;

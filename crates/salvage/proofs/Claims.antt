@@ -1,23 +1,23 @@
 -- The claims of specs/Claims.antt hold. Assumes nothing.
-use mathlib.Core.Path.{_≡_, refl, sym, _∙_}
+use mathlib.Core.Path.{◌≡◌, refl, sym, ◌∙◌}
 use mathlib.Core.Bool.{Bool, true, false}
 use mathlib.Core.List.{List}
 use Prim.Native.Nat.{ℕ}
 use native.Mathlib.Omega.{arith}
-use Rattle·theory.specs.Logic.{indicator}
-use Rattle·theory.proofs.Tests.{by-cases}
-use Rattle·inventory.specs.Inventory.{rowAt}
-use Rattle·parts.specs.declared.ListForm.the-variants.{Parts}
-use Rattle·parts.specs.List.{partsOf}
-use Rattle·salvage·specs.specs.Salvage.{freshValue, rowValue, isKeptRow, keptItem, keptReport}
-use Rattle·salvage·specs.specs.Claims.{InSetup, HasRow, KeptOrFresh, KeepsOrFills, AddsUp, Claims}
-use Rattle·salvage·proofs.proofs.Whole.{endOf, end-value, list-is}
-use Rattle·salvage·proofs.proofs.Values.{few, kept-none, list-passes}
-use Rattle·salvage·proofs.proofs.Copies.{kept-first, first-kept, fresh-is}
-use Rattle·salvage·proofs.proofs.Totals.{report-total}
-use Rattle·salvage·proofs.proofs.Undamaged.{comes-back, undamaged-kept}
-use Rattle·salvage·proofs.proofs.Stops.{stops-at-cut}
-use Rattle·salvage·proofs.proofs.Under.{kept-long, dropped-long, done-exactly}
+use Rattle.theory.specs.Logic.{indicator}
+use Rattle.theory.proofs.Tests.{by_cases}
+use Rattle.inventory.specs.Inventory.{row_at}
+use Rattle.parts.specs.declared.ListForm.TheVariants.{Parts}
+use Rattle.parts.specs.List.{parts_of}
+use Rattle.salvage.specs.Salvage.{freshValue, rowValue, isKeptRow, keptItem, keptReport}
+use Rattle.salvage.specs.Claims.{InSetup, HasRow, KeptOrFresh, KeepsOrFills, AddsUp, Claims}
+use Rattle.salvage.proofs.Whole.{end_of, end-value, list-is}
+use Rattle.salvage.proofs.Values.{few, kept-none, list-passes}
+use Rattle.salvage.proofs.Copies.{kept-first, first-kept, fresh-is}
+use Rattle.salvage.proofs.Totals.{report-total}
+use Rattle.salvage.proofs.Undamaged.{comes_back, undamaged-kept}
+use Rattle.salvage.proofs.Stops.{stops-at-cut}
+use Rattle.salvage.proofs.Under.{kept-long, dropped-long, done-exactly}
 
 -- ---- a row ----
 
@@ -28,26 +28,26 @@ one-true false e = absurd (omega arith)
 
 module _ (q : ℕ) (features l : List ℕ) (g : InSetup q features) (i : ℕ) (r : HasRow q i) where
   abbrev t : ℕ
-  t = rowAt i .partType
+  t = (row_at i).partType
 
   abbrev s : ℕ
-  s = rowAt i .selector
+  s = (row_at i).selector
 
   -- x is what is written for it
-  row-kept : (x : List ℕ) → x ≡ rowValue q features l i
-      → KeptOrFresh features (partsOf Parts l) i (indicator (isKeptRow q features l i)) x
+  row_kept : (x : List ℕ) → x ≡ rowValue q features l i
+      → KeptOrFresh features (parts_of Parts l) i (indicator (isKeptRow q features l i)) x
   unfolding indicator
-  row-kept x e =
-      let ps = partsOf Parts l in
+  row_kept x e =
+      let ps = parts_of Parts l in
       let h = few q features l g in
       record {
         kept = λ y. rw e (kept-first q features h i r (freshValue q features i) ps (one-true (isKeptRow q features l i) y));
         first = λ y f. rw (first-kept q features h i r y ps f);
         filled = λ n.
-            by-cases (isKeptRow q features l i)
+            by_cases (isKeptRow q features l i)
             (λ y. absurd (n (rw y)))
             (λ z.
-            let x-fresh = e ∙ kept-none q features t s (freshValue q features i) ps z ∙ fresh-is features (g .long) i (r .below) q in
+            let x-fresh = e ∙ kept-none q features t s (freshValue q features i) ps z ∙ fresh-is features g.long i r.below q in
             (rw z, x-fresh));
       }
 
@@ -55,11 +55,11 @@ keeps-or-fills : KeepsOrFills
 unfolding keptReport keptItem
 keeps-or-fills q features l g =
     record {
-      values = endOf q features l (g .long) .values;
+      values = (end_of q features l g.long).values;
       numbers = λ i. indicator (isKeptRow q features l i);
-      list = sym (list-is q features l (g .long));
+      list = sym (list-is q features l g.long);
       report = refl;
-      each = λ i r. row-kept q features l g i r _ (end-value q features l (g .long) i (r .below));
+      each = λ i r. row_kept q features l g i r _ (end-value q features l g.long i r.below);
     }
 
 adds-up : AddsUp
@@ -67,7 +67,7 @@ adds-up q features l g =
     record {
       rows = kept-long q features l (few q features l g);
       causes = dropped-long q features l;
-      parts = report-total q features l (g .long);
+      parts = report-total q features l g.long;
     }
 
 pub claims : Claims
@@ -78,6 +78,6 @@ claims =
       keeps-or-fills = keeps-or-fills;
       adds-up = adds-up;
       stops-at-cut = stops-at-cut;
-      comes-back = comes-back;
+      comes_back = comes_back;
       undamaged-kept = undamaged-kept;
     }

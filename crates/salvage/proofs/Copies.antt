@@ -1,77 +1,77 @@
 -- What is kept of a row's part is its first allowed copy, as the claims have it, and what fills a row is what a fresh member has
 -- there. Assumes nothing.
-use mathlib.Core.Path.{_≡_, refl, ap, sym, _∙_}
+use mathlib.Core.Path.{◌≡◌, refl, ap, sym, ◌∙◌}
 use mathlib.Core.Bool.{true}
-use mathlib.Core.List.{List, _++_}
-use Prim.Native.Nat.{ℕ, _+_, _-_, _<_, _≤_}
+use mathlib.Core.List.{List, ◌++◌}
+use Prim.Native.Nat.{ℕ, ◌+◌, ◌-◌, ◌<◌, ◌≤◌}
 use native.Mathlib.Omega.{arith}
 use borrow.Author.Tests.{eqb-true, eq-eqb}
 use lib.Dec.{eqb}
 use lib.ListN.{length, replicate}
-use lib.Seq.{take-at, drop-append-add}
-use Rattle·theory.specs.Logic.{if_then_else_}
-use Rattle·theory.specs.Bytes.{bytesAt}
-use Rattle·theory.proofs.Tests.{by-cases, never, both, and-i, true-or, or-true, false-or, same-true, eq-same}
-use Rattle·theory.proofs.Lists.{take-replicate, drop-replicate}
-use Rattle·inventory.specs.Inventory.{rowAt, rowCount, deviceFeatures, featuresSize, featuresRow, offsetOf, placeOf, valueOf}
-use Rattle·inventory.specs.declared.Place.the-variants.{At}
-use Rattle·inventory.proofs.Find.{own-place}
-use Rattle·inventory.proofs.Rules.{row-zero, offset-zero, row-within, rows-apart, features-row}
-use Rattle·inventory.proofs.Values.{features-value}
-use Rattle·parts.specs.List.{Part, PartList, end, cut, part}
-use Rattle·rules.specs.Rules.{known, lengthRight, featuresSame}
-use Rattle·member.specs.Member.{freshOf}
-use Rattle·salvage·specs.specs.Salvage.{valueRight, allowed, isCopy, keptOr, isKept, freshValue}
-use Rattle·salvage·specs.specs.Claims.{HasRow, AllowedCopy, FirstCopy, here, later, freshBytes}
-use Rattle·salvage·proofs.proofs.Rows.{copy-place}
+use lib.Seq.{take_at, drop-append-add}
+use Rattle.theory.specs.Logic.{if◌then◌else◌}
+use Rattle.theory.specs.Bytes.{bytes_at}
+use Rattle.theory.proofs.Tests.{by_cases, never, both, and_i, true-or, or-true, false-or, same_true, eq-same}
+use Rattle.theory.proofs.Lists.{take-replicate, drop-replicate}
+use Rattle.inventory.specs.Inventory.{row_at, rowCount, deviceFeatures, featuresSize, featuresRow, offset_of, place_of, value_of}
+use Rattle.inventory.specs.declared.Place.TheVariants.{At}
+use Rattle.inventory.proofs.Find.{own-place}
+use Rattle.inventory.proofs.Rules.{row_zero, offset-zero, row_within, rows_apart, features-row}
+use Rattle.inventory.proofs.Values.{features-value}
+use Rattle.parts.specs.List.{Part, PartList, end, cut, part}
+use Rattle.rules.specs.Rules.{known, lengthRight, featuresSame}
+use Rattle.member.specs.Member.{fresh_of}
+use Rattle.salvage.specs.Salvage.{valueRight, allowed, isCopy, keptOr, isKept, freshValue}
+use Rattle.salvage.specs.Claims.{HasRow, AllowedCopy, FirstCopy, here, later, freshBytes}
+use Rattle.salvage.proofs.Rows.{copy-place}
 
 -- ---- the first allowed copy of row i's part ----
 
 module _ (q : ℕ) (features : List ℕ) (few : q < 5) (i : ℕ) (r : HasRow q i) where
   abbrev t : ℕ
-  t = rowAt i .partType
+  t = (row_at i).partType
 
   abbrev s : ℕ
-  s = rowAt i .selector
+  s = (row_at i).selector
 
   copy-allowed : (p : Part) → isCopy q features t s p ≡ true → AllowedCopy features i p
   unfolding isCopy allowed lengthRight valueRight featuresSame
   copy-allowed p c =
-      let place = copy-place q features p i (r .below) c in
-      let n = both _ _ (both _ _ c .0) in
-      let a = both _ _ (both _ _ (both _ _ c .1) .1) in
-      let v = both _ _ (a .1) in
+      let place = copy-place q features p i r.below c in
+      let n = both _ _ (both _ _ c).0 in
+      let a = both _ _ (both _ _ (both _ _ c).1).1 in
+      let v = both _ _ a.1 in
       record {
-        type-is = eqb-true _ _ (n .0);
-        selector-is = eqb-true _ _ (n .1);
-        sized = eqb-true _ _ (rw place at (a .0));
-        ring = v .0;
-        own-features = λ e. same-true _ _ (sym (false-or _) ∙ rw (eq-eqb _ _ e) at (v .1));
+        type-is = eqb-true _ _ n.0;
+        selector-is = eqb-true _ _ n.1;
+        sized = eqb-true _ _ (rw place at a.0);
+        ring = v.0;
+        own-features = λ e. same_true _ _ (sym (false-or _) ∙ rw (eq-eqb _ _ e) at v.1);
       }
 
   features-same : (p : Part) → AllowedCopy features i p → featuresSame features p ≡ true
   unfolding featuresSame
   features-same p a =
-      by-cases (eqb (p .partType) deviceFeatures)
-      (λ e. rw (eq-same (p .value) features (a .own-features (eqb-true _ _ e))) (or-true _))
+      by_cases (eqb p.partType deviceFeatures)
+      (λ e. rw (eq-same p.value features (a.own-features (eqb-true _ _ e))) (or-true _))
       (λ e. rw e (true-or _))
 
   allowed-copy : (p : Part) → AllowedCopy features i p → isCopy q features t s p ≡ true
   unfolding isCopy allowed known lengthRight valueRight
   allowed-copy p a =
-      let place : placeOf q (p .partType) (p .selector) ≡ At i =
-      rw (a .type-is, a .selector-is) (own-place q i few (r .below) (r .there)) in
-      and-i _ _
-      (and-i _ _ (eq-eqb _ _ (a .type-is)) (eq-eqb _ _ (a .selector-is)))
-      (and-i _ _ (rw place) (and-i _ _ (rw place (eq-eqb _ _ (a .sized))) (and-i _ _ (a .ring) (features-same p a))))
+      let place : place_of q p.partType p.selector ≡ At i =
+      rw (a.type-is, a.selector-is) (own-place q i few r.below r.there) in
+      and_i _ _
+      (and_i _ _ (eq-eqb _ _ a.type-is) (eq-eqb _ _ a.selector-is))
+      (and_i _ _ (rw place) (and_i _ _ (rw place (eq-eqb _ _ a.sized)) (and_i _ _ a.ring (features-same p a))))
 
   pub kept-first : (x : List ℕ) (ps : PartList) → isKept q features t s ps ≡ true
       → FirstCopy features i (keptOr q features t s x ps) ps
-  unfolding isKept keptOr if_then_else_
+  unfolding isKept keptOr if◌then◌else◌
   kept-first x end k = never k
   kept-first x cut k = never k
   kept-first x (part p ps) k =
-      by-cases (isCopy q features t s p)
+      by_cases (isCopy q features t s p)
       (λ c. rw c (here (copy-allowed p c) refl))
       (λ c. rw c (later (λ a. never (sym c ∙ allowed-copy p a)) (kept-first x ps (sym (false-or _) ∙ rw c at k))))
 
@@ -83,7 +83,7 @@ module _ (q : ℕ) (features : List ℕ) (few : q < 5) (i : ℕ) (r : HasRow q i
 -- ---- a fresh row ----
 
 -- bytes behind x, where only zeros are
-zeros-behind : (x : List ℕ) (k m n : ℕ) → n ≤ m → bytesAt (length x + k) n (x ++ replicate (k + m) 0) ≡ replicate n 0
+zeros-behind : (x : List ℕ) (k m n : ℕ) → n ≤ m → bytes_at (length x + k) n (x ++ replicate (k + m) 0) ≡ replicate n 0
 zeros-behind x k m n h = rw (drop-append-add x (replicate (k + m) 0) k, drop-replicate {A = ℕ} k m 0) (take-replicate n m 0 h)
 
 module _ (features : List ℕ) (sixteen : length features ≡ featuresSize) (i : ℕ) (h : i < rowCount) where
@@ -91,21 +91,21 @@ module _ (features : List ℕ) (sixteen : length features ≡ featuresSize) (i :
   v = features ++ replicate 189 0
 
   -- the device features stand before every other row
-  fresh-zeros : 0 < i → valueOf v i ≡ replicate (rowAt i .size) 0
+  fresh-zeros : 0 < i → value_of v i ≡ replicate (row_at i).size 0
   fresh-zeros z =
-      let first = rw (offset-zero, row-zero) at (rows-apart featuresRow (omega arith) i h z) in
-      let ends = row-within i h in
-      let at : length features + (offsetOf i - 16) ≡ offsetOf i = omega arith in
-      let rest : offsetOf i - 16 + (205 - offsetOf i) ≡ 189 = omega arith in
-      rw (at, rest) at (zeros-behind features (offsetOf i - 16) (205 - offsetOf i) (rowAt i .size) (omega arith))
+      let first = rw (offset-zero, row_zero) at (rows_apart featuresRow (omega arith) i h z) in
+      let ends = row_within i h in
+      let at : length features + (offset_of i - 16) ≡ offset_of i = omega arith in
+      let rest : offset_of i - 16 + (205 - offset_of i) ≡ 189 = omega arith in
+      rw (at, rest) at (zeros-behind features (offset_of i - 16) (205 - offset_of i) (row_at i).size (omega arith))
 
   pub fresh-is : (q : ℕ) → freshValue q features i ≡ freshBytes features i
-  unfolding freshValue freshOf if_then_else_
+  unfolding freshValue fresh_of if◌then◌else◌
   fresh-is q =
-      by-cases (eqb (rowAt i .partType) deviceFeatures)
+      by_cases (eqb (row_at i).partType deviceFeatures)
       (λ e.
       let first = features-row i h (eqb-true _ _ e) in
-      ap (valueOf v) first ∙ features-value v ∙ take-at features (replicate 189 0) featuresSize sixteen ∙ rw e)
+      ap (value_of v) first ∙ features-value v ∙ take_at features (replicate 189 0) featuresSize sixteen ∙ rw e)
       (λ e.
-      let other : i ≡ 0 → ⊥ = λ z. never (sym e ∙ rw (z, row-zero)) in
+      let other : i ≡ 0 → ⊥ = λ z. never (sym e ∙ rw (z, row_zero)) in
       fresh-zeros (omega (arith, other)) ∙ rw e)

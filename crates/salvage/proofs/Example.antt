@@ -1,36 +1,36 @@
 -- Worked examples, so that no claim is empty: a damaged list with parts of each fate, cut in its last header and in its last
 -- value, and a whole capture. Assumes nothing.
-use mathlib.Core.Path.{_≡_, refl}
+use mathlib.Core.Path.{◌≡◌, refl}
 use mathlib.Core.Bool.{Bool, true}
-use mathlib.Core.List.{List, [], _∷_, _++_}
+use mathlib.Core.List.{List, [], ◌∷◌, ◌++◌}
 use Prim.Native.Nat.{ℕ}
 use native.Mathlib.Omega.{arith}
 use lib.Dec.{eqb}
 use lib.ListN.{replicate}
-use Rattle·theory.specs.Logic.{if_then_else_, unless_answer_then_, _and_, _or_, within, indicator}
-use Rattle·theory.specs.Bytes.{put, same}
-use Rattle·theory.specs.Items.{itemsFrom}
-use Rattle·theory.proofs.Table.{every}
-use Rattle·wire.specs.Le.{le, bytes, number}
-use Rattle·inventory.specs.Inventory.{Row, rows, rowAt, present, offsetOf, selectorOf, isRow, seek, placeOf}
-use Rattle·inventory.specs.Queue.{powerBelow, ringSize, queueAllowed, valueAllowed}
-use Rattle·inventory.specs.Header.{headerOf}
-use Rattle·inventory.proofs.Rules.{every-row}
-use Rattle·parts.specs.declared.ListForm.the-variants.{Parts}
-use Rattle·parts.specs.List.{headerAt, stepAt, atMost, partsFrom, partsOf, whole, among}
-use Rattle·rules.specs.Rules.{known, knownOrSkipped, lengthRight, sizeRight, featuresSame, every as everyPart, repeated, causeIn}
-use Rattle·capture.specs.Capture.{partAt, asks, partItem, partsWritten, captureOf}
-use Rattle·member.specs.Member.{freshOf}
-use Rattle·salvage·specs.specs.Salvage.{valueRight, allowed, isCopy, keptOr, isKept, fateOf, droppedFrom, bytesRead, freshValue, repairedItem, repaired, keptItem, keptReport, droppedReport, Salvage, salvage, isTaken, salvaged, salvageOf}
-use Rattle·salvage·specs.specs.Claims.{Asks, InSetup, HasRow, FirstCopy, here, Undamaged}
+use Rattle.theory.specs.Logic.{if◌then◌else◌, unless◌answer◌then◌, ◌and◌, ◌or◌, within, indicator}
+use Rattle.theory.specs.Bytes.{put, same}
+use Rattle.theory.specs.Items.{itemsFrom}
+use Rattle.theory.proofs.Table.{every}
+use Rattle.wire.specs.Le.{le, bytes, number}
+use Rattle.inventory.specs.Inventory.{Row, rows, row_at, present, offset_of, selectorOf, is_row, seek, place_of}
+use Rattle.inventory.specs.Queue.{powerBelow, ringSize, queueAllowed, valueAllowed}
+use Rattle.inventory.specs.Header.{headerOf}
+use Rattle.inventory.proofs.Rules.{every-row}
+use Rattle.parts.specs.declared.ListForm.TheVariants.{Parts}
+use Rattle.parts.specs.List.{header_at, stepAt, at_most, partsFrom, parts_of, whole, among}
+use Rattle.rules.specs.Rules.{known, knownOrSkipped, lengthRight, sizeRight, featuresSame, every as everyPart, repeated, causeIn}
+use Rattle.capture.specs.Capture.{part_at, asks, partItem, partsWritten, captureOf}
+use Rattle.member.specs.Member.{fresh_of}
+use Rattle.salvage.specs.Salvage.{valueRight, allowed, isCopy, keptOr, isKept, fateOf, droppedFrom, bytesRead, freshValue, repairedItem, repaired, keptItem, keptReport, droppedReport, Salvage, salvage, is_taken, salvaged, salvageOf}
+use Rattle.salvage.specs.Claims.{Asks, InSetup, HasRow, FirstCopy, here, Undamaged}
 
 -- every definition, opened at once
 unfoldable model : Unit {0}
-unfolding if_then_else_ unless_answer_then_ _and_ _or_ within indicator put same itemsFrom le bytes number
-    rows rowAt present offsetOf selectorOf isRow seek placeOf powerBelow ringSize queueAllowed valueAllowed headerOf
-    headerAt stepAt atMost partsFrom whole among known knownOrSkipped lengthRight sizeRight featuresSame everyPart repeated causeIn partAt asks partItem partsWritten freshOf
+unfolding if◌then◌else◌ unless◌answer◌then◌ ◌and◌ ◌or◌ within indicator put same itemsFrom le bytes number
+    rows row_at present offset_of selectorOf is_row seek place_of powerBelow ringSize queueAllowed valueAllowed headerOf
+    header_at stepAt at_most partsFrom whole among known knownOrSkipped lengthRight sizeRight featuresSame everyPart repeated causeIn part_at asks partItem partsWritten fresh_of
     valueRight allowed isCopy keptOr isKept fateOf droppedFrom bytesRead freshValue repairedItem repaired keptItem keptReport droppedReport
-    isTaken salvaged salvageOf
+    is_taken salvaged salvageOf
 model = tt
 
 abbrev zeros : ℕ → List ℕ
@@ -83,8 +83,8 @@ twoKept left =
 
 abbrev alike : Salvage → Salvage → Bool
 alike a b =
-    eqb (a .written) (b .written) and same (a .list) (b .list) and same (a .kept) (b .kept) and same (a .dropped) (b .dropped)
-    and eqb (a .left) (b .left)
+    eqb a.written b.written and same a.list b.list and same a.kept b.kept and same a.dropped b.dropped
+    and eqb a.left b.left
 
 header-torn : alike (called tornHeader) (twoKept 5) ≡ true
 unfolding model
@@ -115,22 +115,22 @@ asked : Asks (record { known = true; queues = 1; features = features }) parts (s
 asked = record { known = refl; short = omega arith; list = omega arith; kept = omega arith; dropped = omega arith }
 
 -- of two allowed copies of the device status, row 6, the first
-first : FirstCopy features 6 (15 ∷ []) (partsOf Parts (piece 3 1 (15 ∷ []) ++ piece 3 1 (7 ∷ [])))
+first : FirstCopy features 6 (15 ∷ []) (parts_of Parts (piece 3 1 (15 ∷ []) ++ piece 3 1 (7 ∷ [])))
 unfolding model
 first =
     here (record { type-is = refl; selector-is = refl; sized = refl; ring = refl; own-features = λ e. absurd (omega arith) }) refl
 
 -- each row of the table is there, if the member has it
-abbrev hasRow : Row → Bool
-hasRow r = if present 1 r then among (r .partType) (r .selector) (partsOf Parts fresh) else true
+abbrev has_row : Row → Bool
+has_row r = if present 1 r then among r.partType r.selector (parts_of Parts fresh) else true
 
-has-rows : every (λ k r. hasRow r) 0 rows ≡ true
+has-rows : every (λ k r. has_row r) 0 rows ≡ true
 unfolding model every
 has-rows = refl
 
-undamaged-each : (i : ℕ) → HasRow 1 i → among (rowAt i .partType) (rowAt i .selector) (partsOf Parts fresh) ≡ true
-unfolding if_then_else_
-undamaged-each i r = rw (r .there) at (every-row (λ k r. hasRow r) has-rows i (r .below))
+undamaged-each : (i : ℕ) → HasRow 1 i → among (row_at i).partType (row_at i).selector (parts_of Parts fresh) ≡ true
+unfolding if◌then◌else◌
+undamaged-each i r = rw r.there at (every-row (λ k r. has_row r) has-rows i r.below)
 
 undamaged : Undamaged 1 features fresh
 unfolding model

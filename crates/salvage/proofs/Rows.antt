@@ -1,26 +1,26 @@
 -- What the walk leaves in a row: the first allowed copy of its part, or what was there; and its flag, whether there is one.
 -- Assumes nothing.
-use mathlib.Core.Path.{_≡_, refl, sym, _∙_}
+use mathlib.Core.Path.{◌≡◌, refl, sym, ◌∙◌}
 use mathlib.Core.Bool.{Bool, true, false, not}
-use mathlib.Core.Logic.{_≢_}
+use mathlib.Core.Logic.{◌≢◌}
 use mathlib.Core.List.{List}
-use Prim.Native.Nat.{ℕ, _+_, _<_}
+use Prim.Native.Nat.{ℕ, ◌+◌, ◌<◌}
 use native.Mathlib.Omega.{arith}
 use borrow.Author.Tests.{eqb-true, eq-eqb, not-true, not-false}
-use lib.ListN.{length, getD, set}
-use lib.Seq.{getD-set-same, getD-set-other}
-use Rattle·theory.specs.Logic.{if_then_else_, _and_, _or_}
-use Rattle·theory.proofs.Tests.{by-cases, unless-cases, both, and-i, false-and, and-false, and-true, or-true, or-false, true-or, never, or-assoc, if-same}
-use Rattle·inventory.proofs.Values.{own-value, other-value}
-use Rattle·inventory.specs.Inventory.{rowAt, rowCount, placeOf, onPlace, valueOf}
-use Rattle·inventory.specs.declared.Place.{Place}
-use Rattle·inventory.specs.declared.Place.the-variants.{At, Absent}
-use Rattle·inventory.proofs.Find.{place-found, rows-distinct}
-use Rattle·parts.specs.List.{Part, PartList, end, cut, part}
-use Rattle·rules.specs.Rules.{known, lengthRight}
-use Rattle·salvage·specs.specs.Salvage.{allowed, isCopy, keptOr, isKept, Fate, Kept, Dropped, fateOf}
-use Rattle·salvage·specs.specs.Walk.{State, dropping, taken, walked, Sized}
-use Rattle·salvage·proofs.proofs.Fates.{flag, keptBefore, done, taken-fate, taken-sized}
+use lib.ListN.{length, get_or, set}
+use lib.Seq.{get_or-set_same, get_or-set_other}
+use Rattle.theory.specs.Logic.{if◌then◌else◌, ◌and◌, ◌or◌}
+use Rattle.theory.proofs.Tests.{by_cases, unless-cases, both, and_i, false-and, and-false, and-true, or-true, or-false, true-or, never, or_assoc, if-same}
+use Rattle.inventory.proofs.Values.{own_value, other-value}
+use Rattle.inventory.specs.Inventory.{row_at, rowCount, place_of, onPlace, value_of}
+use Rattle.inventory.specs.declared.Place.{Place}
+use Rattle.inventory.specs.declared.Place.TheVariants.{At, Absent}
+use Rattle.inventory.proofs.Find.{place_found, rows-distinct}
+use Rattle.parts.specs.List.{Part, PartList, end, cut, part}
+use Rattle.rules.specs.Rules.{known, lengthRight}
+use Rattle.salvage.specs.Salvage.{allowed, isCopy, keptOr, isKept, Fate, Kept, Dropped, fateOf}
+use Rattle.salvage.specs.Walk.{State, dropping, taken, walked, Sized}
+use Rattle.salvage.proofs.Fates.{flag, keptBefore, done, taken-fate, taken-sized}
 
 -- ---- one part: it is kept exactly if it is allowed and no copy of it was kept before ----
 
@@ -34,107 +34,107 @@ fate-cases q features b p P drops keeps =
     unless-cases P _ _ _ (λ e. drops _ (omega arith) (rw e (false-and _))) λ e.
     unless-cases P _ _ _ (λ n. drops _ (omega arith) (rw (n, false-and, and-false) (and-false _))) λ n.
     unless-cases P _ _ _ (λ v. drops _ (omega arith) (rw (v, and-false, and-false) (and-false _))) λ v.
-    keeps (not-true b e) (and-i _ _ k (and-i _ _ n v))
+    keeps (not-true b e) (and_i _ _ k (and_i _ _ n v))
 
 module _ (q : ℕ) (features : List ℕ) (p : Part) where
   -- an allowed part has a row
-  pub allowed-place : {P : Type 0} → allowed q features p ≡ true → ((j : ℕ) → placeOf q (p .partType) (p .selector) ≡ At j → P) → P
+  pub allowed-place : {P : Type 0} → allowed q features p ≡ true → ((j : ℕ) → place_of q p.partType p.selector ≡ At j → P) → P
   unfolding allowed known
-  allowed-place {P} a f = cases (placeOf q (p .partType) (p .selector)) refl (both _ _ a .0)
+  allowed-place {P} a f = cases (place_of q p.partType p.selector) refl (both _ _ a).0
     where
-      cases : (r : Place) → placeOf q (p .partType) (p .selector) ≡ r → onPlace r (λ i. true) false ≡ true → P
+      cases : (r : Place) → place_of q p.partType p.selector ≡ r → onPlace r (λ i. true) false ≡ true → P
       cases (At j) e k = f j e
       cases Absent e k = never cc
 
-  sized-at : (j : ℕ) → allowed q features p ≡ true → placeOf q (p .partType) (p .selector) ≡ At j → length (p .value) ≡ rowAt j .size
+  sized-at : (j : ℕ) → allowed q features p ≡ true → place_of q p.partType p.selector ≡ At j → length p.value ≡ (row_at j).size
   unfolding allowed lengthRight
-  sized-at j a e = eqb-true _ _ (rw e at (both _ _ (both _ _ a .1) .0))
+  sized-at j a e = eqb-true _ _ (rw e at (both _ _ (both _ _ a).1).0)
 
   -- whether it is an allowed copy of row i's part
   module _ (i : ℕ) (below : i < rowCount) where
-    abbrev pub copyOf : Bool
-    copyOf = isCopy q features (rowAt i .partType) (rowAt i .selector) p
+    abbrev pub copy_of : Bool
+    copy_of = isCopy q features (row_at i).partType (row_at i).selector p
 
-    copy-allowed : copyOf ≡ true → allowed q features p ≡ true
+    copy-allowed : copy_of ≡ true → allowed q features p ≡ true
     unfolding isCopy
-    copy-allowed c = both _ _ c .1
+    copy-allowed c = (both _ _ c).1
 
     -- then its row is i, and else another
-    pub copy-place : copyOf ≡ true → placeOf q (p .partType) (p .selector) ≡ At i
+    pub copy-place : copy_of ≡ true → place_of q p.partType p.selector ≡ At i
     unfolding isCopy
     copy-place c =
-        let n = both _ _ (both _ _ c .0) in
-        allowed-place (both _ _ c .1)
+        let n = both _ _ (both _ _ c).0 in
+        allowed-place (both _ _ c).1
         (λ j e.
-        let f = place-found q (p .partType) (p .selector) j e in
-        let same : j ≡ i = rows-distinct j i (f .below) below (f .type-is ∙ eqb-true _ _ (n .0)) (f .selector-is ∙ eqb-true _ _ (n .1)) in
+        let f = place_found q p.partType p.selector j e in
+        let same : j ≡ i = rows-distinct j i f.below below (f.type-is ∙ eqb-true _ _ n.0) (f.selector-is ∙ eqb-true _ _ n.1) in
         rw same at e)
 
-    other-place : (j : ℕ) → allowed q features p ≡ true → copyOf ≡ false → placeOf q (p .partType) (p .selector) ≡ At j → i ≢ j
+    other_place : (j : ℕ) → allowed q features p ≡ true → copy_of ≡ false → place_of q p.partType p.selector ≡ At j → i ≢ j
     unfolding isCopy
-    other-place j a c e same =
-        let f = place-found q (p .partType) (p .selector) j e in
-        let t : p .partType ≡ rowAt i .partType = sym (f .type-is) ∙ rw same in
-        let s : p .selector ≡ rowAt i .selector = sym (f .selector-is) ∙ rw same in
-        let y = and-i _ _ (and-i _ _ (eq-eqb _ _ t) (eq-eqb _ _ s)) a in
+    other_place j a c e same =
+        let f = place_found q p.partType p.selector j e in
+        let t : p.partType ≡ (row_at i).partType = sym f.type-is ∙ rw same in
+        let s : p.selector ≡ (row_at i).selector = sym f.selector-is ∙ rw same in
+        let y = and_i _ _ (and_i _ _ (eq-eqb _ _ t) (eq-eqb _ _ s)) a in
         never cc
 
     -- ---- what it leaves in row i ----
 
-    record After (s s′ : State) : Type 0 where
-      flagged : flag s′ i ≡ flag s i or copyOf
-      valued : valueOf (s′ .values) i ≡ (if flag s i then valueOf (s .values) i else if copyOf then p .value else valueOf (s .values) i)
+    record After (s s' : State) : Type 0 where
+      flagged : flag s' i ≡ flag s i or copy_of
+      valued : value_of s'.values i ≡ (if flag s i then value_of s.values i else if copy_of then p.value else value_of s.values i)
 
     module _ (s : State) (n : ℕ) (h : Sized n s) where
-      before-is : copyOf ≡ true → keptBefore q p s ≡ flag s i
+      before-is : copy_of ≡ true → keptBefore q p s ≡ flag s i
       before-is c = rw (copy-place c)
 
       after-dropped : (cause : ℕ) → not (keptBefore q p s) and allowed q features p ≡ false → After s (dropping s cause)
-      unfolding if_then_else_
+      unfolding if◌then◌else◌
       after-dropped cause none =
-          by-cases copyOf
+          by_cases copy_of
           (λ c.
           let kept : flag s i ≡ true = sym (before-is c) ∙ not-false _ (sym (rw (copy-allowed c) (and-true _)) ∙ none) in
           record { flagged = rw (kept, c) (sym (true-or _)); valued = rw kept })
           (λ c. record { flagged = rw c (sym (or-false _)); valued = rw c (sym (if-same (flag s i) _)) })
 
-      after-kept : keptBefore q p s ≡ false → allowed q features p ≡ true → After s (done q Kept p s)
-      unfolding if_then_else_
-      after-kept free a =
-          by-cases copyOf
+      after_kept : keptBefore q p s ≡ false → allowed q features p ≡ true → After s (done q Kept p s)
+      unfolding if◌then◌else◌
+      after_kept free a =
+          by_cases copy_of
           (λ c.
           let place = copy-place c in
           let clear : flag s i ≡ false = sym (before-is c) ∙ free in
           let size = sized-at i a place in
-          let set-flag : getD (set (s .kept) i 1) i 0 ≡ 1 = getD-set-same (s .kept) i 1 0 (omega (arith, h .kept)) in
-          let there = own-value i below (p .value) (s .values) size (h .values) in
+          let set-flag : get_or (set s.kept i 1) i 0 ≡ 1 = get_or-set_same s.kept i 1 0 (omega (arith, h.kept)) in
+          let there = own_value i below p.value s.values size h.values in
           rw place (record { flagged = rw (set-flag, c) (sym (or-true _)); valued = rw (clear, c) there }))
           (λ c.
           allowed-place a
           (λ j place.
-          let other = other-place j a c place in
-          let f = place-found q (p .partType) (p .selector) j place in
-          let kept-on : getD (set (s .kept) j 1) i 0 ≡ getD (s .kept) i 0 = getD-set-other (s .kept) j i 1 0 other in
+          let other = other_place j a c place in
+          let f = place_found q p.partType p.selector j place in
+          let kept_on : get_or (set s.kept j 1) i 0 ≡ get_or s.kept i 0 = get_or-set_other s.kept j i 1 0 other in
           let size = sized-at j a place in
-          let on = other-value j (f .below) (p .value) (s .values) size i below other in
-          rw place (record { flagged = rw (kept-on, c) (sym (or-false _)); valued = on ∙ rw c (sym (if-same (flag s i) _)) })))
+          let on = other-value j f.below p.value s.values size i below other in
+          rw place (record { flagged = rw (kept_on, c) (sym (or-false _)); valued = on ∙ rw c (sym (if-same (flag s i) _)) })))
 
       taken-row : After s (taken q features p s)
       taken-row =
           rw (taken-fate q p s features)
-          (fate-cases q features (keptBefore q p s) p (λ f. After s (done q f p s)) (λ cause few. after-dropped cause) after-kept)
+          (fate-cases q features (keptBefore q p s) p (λ f. After s (done q f p s)) (λ cause few. after-dropped cause) after_kept)
 
-      pub taken-flag : flag (taken q features p s) i ≡ flag s i or copyOf
-      taken-flag = taken-row .flagged
+      pub taken-flag : flag (taken q features p s) i ≡ flag s i or copy_of
+      taken-flag = taken-row.flagged
 
 -- ---- all parts ----
 
 module _ (q : ℕ) (features : List ℕ) (i : ℕ) (below : i < rowCount) where
   abbrev t : ℕ
-  t = rowAt i .partType
+  t = (row_at i).partType
 
   abbrev v : ℕ
-  v = rowAt i .selector
+  v = (row_at i).selector
 
   pub walked-flag : (ps : PartList) (s : State) (n : ℕ) → Sized n s → flag (walked q features ps s) i ≡ flag s i or isKept q features t v ps
   unfolding walked isKept
@@ -142,17 +142,17 @@ module _ (q : ℕ) (features : List ℕ) (i : ℕ) (below : i < rowCount) where
   walked-flag cut s n h = sym (or-false _)
   walked-flag (part p ps) s n h =
       walked-flag ps (taken q features p s) (n + 1) (taken-sized q n features p s h)
-      ∙ rw (taken-flag q features p i below s n h) (or-assoc _ _ _)
+      ∙ rw (taken-flag q features p i below s n h) (or_assoc _ _ _)
 
   pub walked-value : (ps : PartList) (s : State) (n : ℕ) → Sized n s
-      → valueOf (walked q features ps s .values) i ≡ (if flag s i then valueOf (s .values) i else keptOr q features t v (valueOf (s .values) i) ps)
-  unfolding walked keptOr if_then_else_ _or_
+      → value_of (walked q features ps s).values i ≡ (if flag s i then value_of s.values i else keptOr q features t v (value_of s.values i) ps)
+  unfolding walked keptOr if◌then◌else◌ ◌or◌
   walked-value end s n h = sym (if-same (flag s i) _)
   walked-value cut s n h = sym (if-same (flag s i) _)
   walked-value (part p ps) s n h =
       let a = taken-row q features p i below s n h in
       walked-value ps (taken q features p s) (n + 1) (taken-sized q n features p s h)
-      ∙ rw (a .flagged, a .valued) (choose (flag s i) (isCopy q features t v p) ps (valueOf (s .values) i) (p .value))
+      ∙ rw (a.flagged, a.valued) (choose (flag s i) (isCopy q features t v p) ps (value_of s.values i) p.value)
     where
       choose : (a c : Bool) (ps : PartList) (x y : List ℕ)
           → (if a or c then if a then x else if c then y else x else keptOr q features t v (if a then x else if c then y else x) ps)

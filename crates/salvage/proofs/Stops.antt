@@ -1,26 +1,26 @@
 -- Where the walk over a damaged list stops: at its end, or at a part that is cut, and what lies before that is whole. There is no
 -- other such place. Assumes nothing.
-use mathlib.Core.Path.{_≡_, refl, sym, _∙_}
+use mathlib.Core.Path.{◌≡◌, refl, sym, ◌∙◌}
 use mathlib.Core.Bool.{true}
 use mathlib.Core.List.{List}
-use Prim.Native.Nat.{ℕ, zero, suc, _+_, _-_, _<_, _≤_}
+use Prim.Native.Nat.{ℕ, zero, suc, ◌+◌, ◌-◌, ◌<◌, ◌≤◌}
 use native.Mathlib.Nat.{add-zero}
 use native.Mathlib.Omega.{arith}
 use borrow.Author.Tests.{ltb-true, ltb-false, leb-true, leb-false, lt-ltb, le-leb, lt-leb}
-use lib.ListN.{length, getD, take}
-use lib.Seq.{length-take-le, getD-take}
-use Rattle·theory.specs.Logic.{unless_answer_then_}
-use Rattle·theory.proofs.Bytes.{length-bytesAt}
-use Rattle·theory.proofs.Tests.{never, unless-cases}
-use Rattle·wire.proofs.Le.{number-alike}
-use Rattle·inventory.specs.Header.{flagsAt, selectorAt, lengthAt, headerSize}
-use Rattle·parts.specs.declared.ListForm.the-variants.{Parts}
-use Rattle·parts.specs.declared.Step.{Step}
-use Rattle·parts.specs.declared.Step.the-variants as step
-use Rattle·parts.specs.List.{valueSize, headerAt, stepAt, PartList, part, partIn, partsFrom, partsOf, whole}
-use Rattle·parts.proofs.Walk.{step-end, step-found, step-part, parts-end, parts-cut, parts-part}
-use Rattle·salvage·specs.specs.Salvage.{bytesRead, leftOver}
-use Rattle·salvage·specs.specs.Claims.{StopsAt, atEnd, inHeader, inValue, StopsAtCut}
+use lib.ListN.{length, get_or, take}
+use lib.Seq.{length-take-le, get_or-take}
+use Rattle.theory.specs.Logic.{unless◌answer◌then◌}
+use Rattle.theory.proofs.Bytes.{length-bytesAt}
+use Rattle.theory.proofs.Tests.{never, unless-cases}
+use Rattle.wire.proofs.Le.{number-alike}
+use Rattle.inventory.specs.Header.{flagsAt, selectorAt, length_at, headerSize}
+use Rattle.parts.specs.declared.ListForm.TheVariants.{Parts}
+use Rattle.parts.specs.declared.Step.{Step}
+use Rattle.parts.specs.declared.Step.TheVariants as step
+use Rattle.parts.specs.List.{valueSize, header_at, stepAt, PartList, part, partIn, partsFrom, parts_of, whole}
+use Rattle.parts.proofs.Walk.{step_end, step-found, step_part, parts-end, parts_cut, parts-part}
+use Rattle.salvage.specs.Salvage.{bytesRead, leftOver}
+use Rattle.salvage.specs.Claims.{StopsAt, atEnd, inHeader, inValue, StopsAtCut}
 
 -- ---- one step ----
 
@@ -28,7 +28,7 @@ module _ (l : List ℕ) (at : ℕ) where
   step-cases : (P : Step → Type 0) → (length l ≤ at → P step.End)
       → (at < length l → length l < at + headerSize → P step.Cut)
       → (at + headerSize ≤ length l → length l < at + headerSize + valueSize Parts l at → P step.Cut)
-      → P (headerAt Parts l at)
+      → P (header_at Parts l at)
       → P (stepAt Parts l at)
   unfolding stepAt
   step-cases P ends header value found =
@@ -43,34 +43,34 @@ module _ (l : List ℕ) (at : ℕ) where
       λ c. found
 
   step-ended : stepAt Parts l at ≡ step.End → length l ≤ at
-  unfolding headerAt
+  unfolding header_at
   step-ended =
       step-cases (λ r. r ≡ step.End → length l ≤ at) (λ h e. h) (λ a b e. never cc) (λ a b e. never cc) (λ e. never cc)
 
-  step-cut : stepAt Parts l at ≡ step.Cut → StopsAt l at
-  unfolding headerAt
-  step-cut =
+  step_cut : stepAt Parts l at ≡ step.Cut → StopsAt l at
+  unfolding header_at
+  step_cut =
       step-cases (λ r. r ≡ step.Cut → StopsAt l at)
       (λ h e. never cc) (λ a b e. inHeader a b) (λ a b e. inValue a b) (λ e. never cc)
 
   module _ {t f s start len : ℕ} where
-    step-header : stepAt Parts l at ≡ step.Part t f s start len → headerAt Parts l at ≡ step.Part t f s start len
+    step-header : stepAt Parts l at ≡ step.Part t f s start len → header_at Parts l at ≡ step.Part t f s start len
     step-header =
-        step-cases (λ r. r ≡ step.Part t f s start len → headerAt Parts l at ≡ step.Part t f s start len)
+        step-cases (λ r. r ≡ step.Part t f s start len → header_at Parts l at ≡ step.Part t f s start len)
         (λ h e. never cc) (λ a b e. never cc) (λ a b e. never cc) (λ e. e)
 
-    header-size : headerAt Parts l at ≡ step.Part t f s start len → valueSize Parts l at ≡ len
-    unfolding headerAt
+    header-size : header_at Parts l at ≡ step.Part t f s start len → valueSize Parts l at ≡ len
+    unfolding header_at
     header-size e = cc
 
   -- where it stops, no part is read
-  none-read : StopsAt l at → bytesRead (partsFrom Parts l at) ≡ 0
-  unfolding bytesRead stepAt unless_answer_then_
-  none-read (atEnd e) = rw (parts-end Parts l at (step-end Parts l at (omega arith)))
-  none-read (inHeader a b) =
+  none_read : StopsAt l at → bytesRead (partsFrom Parts l at) ≡ 0
+  unfolding bytesRead stepAt unless◌answer◌then◌
+  none_read (atEnd e) = rw (parts-end Parts l at (step_end Parts l at (omega arith)))
+  none_read (inHeader a b) =
       let c : stepAt Parts l at ≡ step.Cut = rw (lt-ltb at (length l) a, lt-leb headerSize (length l - at) (omega arith)) in
-      rw (parts-cut Parts l at c)
-  none-read (inValue a b) =
+      rw (parts_cut Parts l at c)
+  none_read (inValue a b) =
       let below : at < length l = omega arith in
       let c : stepAt Parts l at ≡ step.Cut =
       rw (
@@ -78,7 +78,7 @@ module _ (l : List ℕ) (at : ℕ) where
         le-leb headerSize (length l - at) (omega arith),
         lt-leb (valueSize Parts l at) (length l - (at + headerSize)) (omega arith),
       ) in
-      rw (parts-cut Parts l at c)
+      rw (parts_cut Parts l at c)
 
 -- ---- the bytes before a place, as a list of their own ----
 
@@ -86,38 +86,38 @@ module _ (l : List ℕ) (n : ℕ) (h : n ≤ length l) where
   abbrev front : List ℕ
   front = take n l
 
-  front-long : length front ≡ n
-  front-long = length-take-le n l h
+  front_long : length front ≡ n
+  front_long = length-take-le n l h
 
-  front-byte : (i : ℕ) → i < n → getD front i 0 ≡ getD l i 0
-  front-byte i k = getD-take n l i 0 k
+  front-byte : (i : ℕ) → i < n → get_or front i 0 ≡ get_or l i 0
+  front-byte i k = get_or-take n l i 0 k
 
-  header-same : (at : ℕ) → at + headerSize ≤ n → headerAt Parts front at ≡ headerAt Parts l at
-  unfolding headerAt
+  header-same : (at : ℕ) → at + headerSize ≤ n → header_at Parts front at ≡ header_at Parts l at
+  unfolding header_at
   header-same at k =
       rw (
         number-alike n front l front-byte 2 at (omega arith),
         front-byte (at + flagsAt) (omega arith),
         number-alike n front l front-byte 8 (at + selectorAt) (omega arith),
-        number-alike n front l front-byte 4 (at + lengthAt) (omega arith),
+        number-alike n front l front-byte 4 (at + length_at) (omega arith),
       )
 
   module _ (at : ℕ) {t f s start len : ℕ} where
     -- a part that ends before the place stands there too
-    step-in : start + len ≤ n → stepAt Parts l at ≡ step.Part t f s start len → stepAt Parts front at ≡ step.Part t f s start len
-    step-in k e =
-        let w = step-part Parts l at e in
-        let same = header-same at (omega (arith, w .starts)) ∙ step-header l at e in
+    step_in : start + len ≤ n → stepAt Parts l at ≡ step.Part t f s start len → stepAt Parts front at ≡ step.Part t f s start len
+    step_in k e =
+        let w = step_part Parts l at e in
+        let same = header-same at (omega (arith, w.starts)) ∙ step-header l at e in
         let size = header-size front at same in
-        step-found Parts front at (omega (arith, w .starts, front-long)) (omega (arith, w .starts, front-long)) ∙ same
+        step-found Parts front at (omega (arith, w.starts, front_long)) (omega (arith, w.starts, front_long)) ∙ same
 
     step-out : stepAt Parts front at ≡ step.Part t f s start len → stepAt Parts l at ≡ step.Part t f s start len
     step-out e =
-        let w = step-part Parts front at e in
-        let k : start + len ≤ n = omega (arith, w .ends, front-long) in
-        let same = sym (header-same at (omega (arith, w .starts))) ∙ step-header front at e in
+        let w = step_part Parts front at e in
+        let k : start + len ≤ n = omega (arith, w.ends, front_long) in
+        let same = sym (header-same at (omega (arith, w.starts))) ∙ step-header front at e in
         let size = header-size l at same in
-        step-found Parts l at (omega (arith, w .starts)) (omega (arith, w .starts)) ∙ same
+        step-found Parts l at (omega (arith, w.starts)) (omega (arith, w.starts)) ∙ same
 
 -- ---- from a position on ----
 
@@ -133,30 +133,30 @@ stops-here l at ps h z s =
     let none : length (take at l) ≤ at = omega (arith, length-take-le at l h) in
     record {
       inside = rw (z, add-zero) h;
-      before = rw (z, add-zero, parts-end Parts (take at l) at (step-end Parts (take at l) at none));
+      before = rw (z, add-zero, parts-end Parts (take at l) at (step_end Parts (take at l) at none));
       stops = rw (z, add-zero) s;
     }
 
 stops-from : (n : ℕ) (l : List ℕ) (at : ℕ) → at ≤ length l → length l ≤ at + n → StopsFrom l at (partsFrom Parts l at)
 unfolding bytesRead whole
 stops-from zero l at i h =
-    rw (parts-end Parts l at (step-end Parts l at (omega arith))) (stops-here l at _ i refl (atEnd (omega arith)))
+    rw (parts-end Parts l at (step_end Parts l at (omega arith))) (stops-here l at _ i refl (atEnd (omega arith)))
 stops-from (suc n) l at i h = cases (stepAt Parts l at) refl (λ k. stops-from n l k)
   where
     cases : (r : Step) → stepAt Parts l at ≡ r
         → ((k : ℕ) → k ≤ length l → length l ≤ k + n → StopsFrom l k (partsFrom Parts l k))
         → StopsFrom l at (partsFrom Parts l at)
     cases (step.Part t f s start len) e ih =
-        let w = step-part Parts l at e in
+        let w = step_part Parts l at e in
         let k = start + len in
-        let long = length-bytesAt start len l (w .ends) in
-        let rest = ih k (w .ends) (omega (arith, w .starts)) in
+        let long = length-bytesAt start len l w.ends in
+        let rest = ih k w.ends (omega (arith, w.starts)) in
         let stop = k + bytesRead (partsFrom Parts l k) in
-        let on : at + bytesRead (part (partIn l t f s start len) (partsFrom Parts l k)) ≡ stop = omega (arith, w .starts, long) in
-        let here = parts-part Parts (take stop l) at (step-in l stop (rest .inside) at (omega arith) e) in
+        let on : at + bytesRead (part (partIn l t f s start len) (partsFrom Parts l k)) ≡ stop = omega (arith, w.starts, long) in
+        let here = parts-part Parts (take stop l) at (step_in l stop rest.inside at (omega arith) e) in
         rw (parts-part Parts l at e)
-        (record { inside = rw on (rest .inside); before = rw (on, here) (rest .before); stops = rw on (rest .stops) })
-    cases step.Cut e ih = rw (parts-cut Parts l at e) (stops-here l at _ i refl (step-cut l at e))
+        (record { inside = rw on rest.inside; before = rw (on, here) rest.before; stops = rw on rest.stops })
+    cases step.Cut e ih = rw (parts_cut Parts l at e) (stops-here l at _ i refl (step_cut l at e))
     cases step.End e ih =
         let z = step-ended l at e in
         rw (parts-end Parts l at e) (stops-here l at _ i refl (atEnd (omega arith)))
@@ -173,27 +173,27 @@ read-to l n h (suc k) at i j y = cases (stepAt Parts (take n l) at) refl (λ on.
         → on + bytesRead (partsFrom Parts l on) ≡ n + bytesRead (partsFrom Parts l n))
         → at + bytesRead (partsFrom Parts l at) ≡ n + bytesRead (partsFrom Parts l n)
     cases (step.Part t f s start len) e ih =
-        let w = step-part Parts (take n l) at e in
-        let long = front-long l n h in
-        let size = length-bytesAt start len l (omega (arith, w .ends)) in
+        let w = step_part Parts (take n l) at e in
+        let long = front_long l n h in
+        let size = length-bytesAt start len l (omega (arith, w.ends)) in
         let after = rw (parts-part Parts (take n l) at e) at y in
-        let rest = ih (start + len) (omega (arith, w .ends)) (omega (arith, w .starts)) after in
-        rw (parts-part Parts l at (step-out l n h at e)) (omega (arith, w .starts))
-    cases step.Cut e ih = never (rw (parts-cut Parts (take n l) at e) at y)
+        let rest = ih (start + len) (omega (arith, w.ends)) (omega (arith, w.starts)) after in
+        rw (parts-part Parts l at (step-out l n h at e)) (omega (arith, w.starts))
+    cases step.Cut e ih = never (rw (parts_cut Parts (take n l) at e) at y)
     cases step.End e ih =
         let z = step-ended (take n l) at e in
-        let same : at ≡ n = omega (arith, front-long l n h) in
+        let same : at ≡ n = omega (arith, front_long l n h) in
         rw same
 
 pub stops-at-cut : StopsAtCut
 stops-at-cut l =
     let s = stops-from (length l) l 0 (omega arith) (omega arith) in
-    let at : length l - leftOver l ≡ 0 + bytesRead (partsOf Parts l) = omega (arith, s .inside) in
+    let at : length l - leftOver l ≡ 0 + bytesRead (parts_of Parts l) = omega (arith, s.inside) in
     record {
       inside = omega arith;
-      before = rw at (s .before);
-      stops = rw at (s .stops);
+      before = rw at s.before;
+      stops = rw at s.stops;
       only = λ n h y e.
           let r = read-to l n h n 0 (omega arith) (omega arith) y in
-          omega (arith, none-read l n e);
+          omega (arith, none_read l n e);
     }

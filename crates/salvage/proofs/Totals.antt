@@ -1,32 +1,32 @@
 -- What is kept and dropped adds up to the parts read: each part of the walk adds one to the flags or to the counts. Assumes nothing.
-use mathlib.Core.Path.{_≡_, refl, ap, sym, _∙_}
+use mathlib.Core.Path.{◌≡◌, refl, ap, sym, ◌∙◌}
 use mathlib.Core.Bool.{true}
-use mathlib.Core.List.{List, [], _∷_, _++_}
-use Prim.Native.Nat.{ℕ, zero, suc, _+_, _<_, _≤_}
+use mathlib.Core.List.{List, [], ◌∷◌, ◌++◌}
+use Prim.Native.Nat.{ℕ, zero, suc, ◌+◌, ◌<◌, ◌≤◌}
 use native.Mathlib.Nat.{zero-add, add-zero}
 use native.Mathlib.Numerals.{add-one}
 use native.Mathlib.Omega.{arith}
 use borrow.Author.Tests.{eqb-true, eqb-false, not-true, not-false}
-use lib.ListN.{length, getD, drop, set, replicate, drop-of-length-le}
+use lib.ListN.{length, get_or, drop, set, replicate, drop_of_length-le}
 use lib.Seq.{drop-cons}
-use Rattle·theory.specs.Logic.{if_then_else_, indicator}
-use Rattle·theory.specs.Items.{itemsFrom}
-use Rattle·theory.proofs.Tests.{by-cases, either}
-use Rattle·theory.proofs.Sums.{sumFrom, sums-same}
-use Rattle·inventory.specs.Inventory.{rowAt, rowCount, featuresSize, present, total}
-use Rattle·inventory.proofs.Find.{place-found}
-use Rattle·parts.specs.declared.ListForm.the-variants.{Parts}
-use Rattle·parts.specs.List.{Part, PartList, end, cut, part, partsOf}
-use Rattle·salvage·specs.specs.Salvage.{isCopy, isKept, isKeptRow, keptItem, keptReport, droppedReport}
-use Rattle·salvage·specs.specs.Walk.{State, taken, walked, Sized}
-use Rattle·salvage·specs.specs.Claims.{partsRead}
-use Rattle·salvage·proofs.proofs.Fates.{keptBefore, done, taken-fate, taken-sized}
-use Rattle·salvage·proofs.proofs.Rows.{fate-cases, allowed-place, copy-place}
-use Rattle·salvage·proofs.proofs.Whole.{startOf, start-sized, endOf, end-sized, end-flag, counts-are}
+use Rattle.theory.specs.Logic.{if◌then◌else◌, indicator}
+use Rattle.theory.specs.Items.{itemsFrom}
+use Rattle.theory.proofs.Tests.{by_cases, either}
+use Rattle.theory.proofs.Sums.{sumFrom, sums_same}
+use Rattle.inventory.specs.Inventory.{row_at, rowCount, featuresSize, present, total}
+use Rattle.inventory.proofs.Find.{place_found}
+use Rattle.parts.specs.declared.ListForm.TheVariants.{Parts}
+use Rattle.parts.specs.List.{Part, PartList, end, cut, part, parts_of}
+use Rattle.salvage.specs.Salvage.{isCopy, isKept, isKeptRow, keptItem, keptReport, droppedReport}
+use Rattle.salvage.specs.Walk.{State, taken, walked, Sized}
+use Rattle.salvage.specs.Claims.{partsRead}
+use Rattle.salvage.proofs.Fates.{keptBefore, done, taken-fate, taken-sized}
+use Rattle.salvage.proofs.Rows.{fate-cases, allowed-place, copy-place}
+use Rattle.salvage.proofs.Whole.{start_of, start-sized, end_of, end-sized, end-flag, counts-are}
 
 -- ---- totals ----
 
-total-set : (l : List ℕ) (i x : ℕ) → i < length l → total (set l i x) + getD l i 0 ≡ total l + x
+total-set : (l : List ℕ) (i x : ℕ) → i < length l → total (set l i x) + get_or l i 0 ≡ total l + x
 total-set [] i x h = absurd (omega arith)
 total-set (y ∷ l) zero x h = omega arith
 total-set (y ∷ l) (suc i) x h = omega (arith, total-set l i x (omega arith))
@@ -44,30 +44,30 @@ unfolding itemsFrom sumFrom
 total-items item zero i = refl
 total-items item (suc k) i = total-append (item i) (itemsFrom item k (i + 1)) ∙ rw (total-items item k (i + 1))
 
-total-from : (l : List ℕ) (k i : ℕ) → i + k ≡ length l → total (drop i l) ≡ sumFrom (λ j. getD l j 0) k i
+total-from : (l : List ℕ) (k i : ℕ) → i + k ≡ length l → total (drop i l) ≡ sumFrom (λ j. get_or l j 0) k i
 unfolding sumFrom
-total-from l zero i e = let h : length l ≤ i = omega arith in rw (drop-of-length-le l h)
+total-from l zero i e = let h : length l ≤ i = omega arith in rw (drop_of_length-le l h)
 total-from l (suc k) i e =
     let h : i < length l = omega arith in
     let rest = ap (λ j. total (drop j l)) (sym (add-one i)) ∙ total-from l k (i + 1) (omega arith) in
-    ap total (drop-cons l i 0 h) ∙ ap (λ n. getD l i 0 + n) rest
+    ap total (drop-cons l i 0 h) ∙ ap (λ n. get_or l i 0 + n) rest
 
 -- ---- one part adds one ----
 
 abbrev sum : State → ℕ
-sum s = total (s .kept) + total (s .dropped)
+sum s = total s.kept + total s.dropped
 
 taken-total : (q : ℕ) (features : List ℕ) (p : Part) (s : State) (n : ℕ) → Sized n s → sum (taken q features p s) ≡ sum s + 1
 taken-total q features p s n h =
     rw (taken-fate q p s features)
     (fate-cases q features (keptBefore q p s) p (λ f. sum (done q f p s) ≡ sum s + 1)
-    (λ cause few none. omega (arith, total-set (s .dropped) cause (getD (s .dropped) cause 0 + 1) (omega (arith, h .dropped))))
+    (λ cause few none. omega (arith, total-set s.dropped cause (get_or s.dropped cause 0 + 1) (omega (arith, h.dropped))))
     (λ free a.
     allowed-place q features p a
     (λ j e.
-    let f = place-found q (p .partType) (p .selector) j e in
-    let clear : getD (s .kept) j 0 ≡ 0 = eqb-true _ 0 (not-false _ (rw e at free)) in
-    rw e (omega (arith, total-set (s .kept) j 1 (omega (arith, h .kept, f .below)))))))
+    let f = place_found q p.partType p.selector j e in
+    let clear : get_or s.kept j 0 ≡ 0 = eqb-true _ 0 (not-false _ (rw e at free)) in
+    rw e (omega (arith, total-set s.kept j 1 (omega (arith, h.kept, f.below)))))))
 
 pub walked-total : (q : ℕ) (features : List ℕ) (ps : PartList) (s : State) (n : ℕ) → Sized n s → sum (walked q features ps s) ≡ sum s + partsRead ps
 unfolding walked partsRead
@@ -83,43 +83,43 @@ walked-total q features (part p ps) s n h =
 -- ---- the report ----
 
 -- what is kept is a part that the member has
-kept-there : (q : ℕ) (features : List ℕ) (i : ℕ) → i < rowCount → (ps : PartList)
-    → isKept q features (rowAt i .partType) (rowAt i .selector) ps ≡ true → present q (rowAt i) ≡ true
+kept_there : (q : ℕ) (features : List ℕ) (i : ℕ) → i < rowCount → (ps : PartList)
+    → isKept q features (row_at i).partType (row_at i).selector ps ≡ true → present q (row_at i) ≡ true
 unfolding isKept
-kept-there q features i h end k = cc
-kept-there q features i h cut k = cc
-kept-there q features i h (part p ps) k =
-    either (isCopy q features (rowAt i .partType) (rowAt i .selector) p) _ k
-    (λ c. place-found q _ _ i (copy-place q features p i h c) .there)
-    (kept-there q features i h ps)
+kept_there q features i h end k = cc
+kept_there q features i h cut k = cc
+kept_there q features i h (part p ps) k =
+    either (isCopy q features (row_at i).partType (row_at i).selector p) _ k
+    (λ c. (place_found q _ _ i (copy-place q features p i h c)).there)
+    (kept_there q features i h ps)
 
 module _ (q : ℕ) (features l : List ℕ) (sixteen : length features ≡ featuresSize) where
   abbrev endKept : List ℕ
-  endKept = endOf q features l sixteen .kept
+  endKept = (end_of q features l sixteen).kept
 
   -- a row's flag is what it adds to the report
-  row-total : (i : ℕ) → i < rowCount → total (keptItem q features l i) ≡ getD endKept i 0
-  unfolding keptItem if_then_else_ indicator
+  row-total : (i : ℕ) → i < rowCount → total (keptItem q features l i) ≡ get_or endKept i 0
+  unfolding keptItem if◌then◌else◌ indicator
   row-total i h =
       let e = end-flag q features l sixteen i h in
-      let low = end-sized q features l sixteen .flags i in
-      by-cases (isKeptRow q features l i)
+      let low = (end-sized q features l sixteen).flags i in
+      by_cases (isKeptRow q features l i)
       (λ y.
-      let some = eqb-false (getD endKept i 0) 0 (not-true _ (e ∙ y)) in
-      rw (kept-there q features i h (partsOf Parts l) y, y) (omega arith))
+      let some = eqb-false (get_or endKept i 0) 0 (not-true _ (e ∙ y)) in
+      rw (kept_there q features i h (parts_of Parts l) y, y) (omega arith))
       (λ n.
-      let none = eqb-true (getD endKept i 0) 0 (not-false _ (e ∙ n)) in
-      by-cases (present q (rowAt i)) (λ p. rw (p, n, none)) (λ p. rw (p, none)))
+      let none = eqb-true (get_or endKept i 0) 0 (not-false _ (e ∙ n)) in
+      by_cases (present q (row_at i)) (λ p. rw (p, n, none)) (λ p. rw (p, none)))
 
   pub kept-total : total (keptReport q features l) ≡ total endKept
   unfolding keptReport
   kept-total =
       total-items (keptItem q features l) rowCount 0
-      ∙ sums-same (λ j. total (keptItem q features l j)) (λ j. getD endKept j 0) rowCount rowCount 0 refl row-total
-      ∙ sym (total-from endKept rowCount 0 (sym (end-sized q features l sixteen .kept)))
+      ∙ sums_same (λ j. total (keptItem q features l j)) (λ j. get_or endKept j 0) rowCount rowCount 0 refl row-total
+      ∙ sym (total-from endKept rowCount 0 (sym (end-sized q features l sixteen).kept))
 
-  pub report-total : total (keptReport q features l) + total (droppedReport q features l) ≡ partsRead (partsOf Parts l)
+  pub report-total : total (keptReport q features l) + total (droppedReport q features l) ≡ partsRead (parts_of Parts l)
   report-total =
       rw (kept-total, ← counts-are q features l sixteen)
-      (walked-total q features (partsOf Parts l) (startOf q features) 0 (start-sized q features sixteen)
+      (walked-total q features (parts_of Parts l) (start_of q features) 0 (start-sized q features sixteen)
       ∙ rw (total-zeros rowCount, total-zeros 4) (zero-add _))

@@ -1,44 +1,44 @@
 -- A list of which nothing is dropped: each of its parts is allowed, so that the first copy of each is kept. Nothing is dropped of
 -- a list that step 10 accepts and that has no unknown part. Assumes nothing.
-use mathlib.Core.Path.{_≡_, refl, ap, sym, _∙_}
+use mathlib.Core.Path.{◌≡◌, refl, ap, sym, ◌∙◌}
 use mathlib.Core.Bool.{Bool, true, false}
-use mathlib.Core.List.{List, [], _∷_}
-use Prim.Native.Nat.{ℕ, zero, suc, _<_}
+use mathlib.Core.List.{List, [], ◌∷◌}
+use Prim.Native.Nat.{ℕ, zero, suc, ◌<◌}
 use native.Mathlib.Omega.{arith}
 use borrow.Author.Tests.{eqb-true, eq-eqb}
 use lib.Dec.{eqb}
-use lib.ListN.{length, getD, take, replicate}
-use lib.Seq.{take-all}
-use Rattle·theory.specs.Logic.{if_then_else_, unless_answer_then_, _and_, _or_, indicator}
-use Rattle·theory.specs.Bytes.{same}
-use Rattle·theory.specs.Items.{itemsFrom}
-use Rattle·theory.proofs.Tests.{by-cases, never, unless-passed, both, neither, and-i, or-i, and-true, true-and, false-or, same-true}
-use Rattle·theory.proofs.Ladder.{or-left, or-right}
-use Rattle·theory.proofs.Items.{items-same}
-use Rattle·inventory.specs.Inventory.{rowAt, rowCount, present, partCount}
-use Rattle·inventory.specs.Queue.{valueAllowed}
-use Rattle·inventory.proofs.Rules.{table, every-count}
-use Rattle·parts.specs.declared.ListForm.the-variants.{Parts}
-use Rattle·parts.specs.List.{Part, PartList, end, cut, part, partsOf, whole, among, valueOr}
-use Rattle·rules.specs.Rules.{known, lengthRight, sizeRight, featuresSame, every, repeated, causeIn, isAccepted}
-use Rattle·rules.proofs.Accepted.{accepts}
-use Rattle·salvage·specs.specs.Salvage.{valueRight, allowed, isCopy, keptOr, isKept, Kept, fateOf, isDropped, droppedFrom, leftOver, isKeptRow, keptItem, keptReport, droppedReport}
-use Rattle·salvage·specs.specs.Claims.{InSetup, HasRow, atEnd, NoneDropped, Back, Undamaged, UndamagedKept}
-use Rattle·salvage·proofs.proofs.Rows.{fate-cases}
-use Rattle·salvage·proofs.proofs.Values.{few, value-written}
-use Rattle·salvage·proofs.proofs.Stops.{stops-at-cut}
+use lib.ListN.{length, get_or, take, replicate}
+use lib.Seq.{take_all}
+use Rattle.theory.specs.Logic.{if◌then◌else◌, unless◌answer◌then◌, ◌and◌, ◌or◌, indicator}
+use Rattle.theory.specs.Bytes.{same}
+use Rattle.theory.specs.Items.{itemsFrom}
+use Rattle.theory.proofs.Tests.{by_cases, never, unless-passed, both, neither, and_i, or-i, and-true, true-and, false-or, same_true}
+use Rattle.theory.proofs.Ladder.{or_left, or_right}
+use Rattle.theory.proofs.Items.{items-same}
+use Rattle.inventory.specs.Inventory.{row_at, rowCount, present, part_count}
+use Rattle.inventory.specs.Queue.{valueAllowed}
+use Rattle.inventory.proofs.Rules.{table, every-count}
+use Rattle.parts.specs.declared.ListForm.TheVariants.{Parts}
+use Rattle.parts.specs.List.{Part, PartList, end, cut, part, parts_of, whole, among, valueOr}
+use Rattle.rules.specs.Rules.{known, lengthRight, sizeRight, featuresSame, every, repeated, causeIn, isAccepted}
+use Rattle.rules.proofs.Accepted.{accepts}
+use Rattle.salvage.specs.Salvage.{valueRight, allowed, isCopy, keptOr, isKept, Kept, fateOf, isDropped, droppedFrom, leftOver, isKeptRow, keptItem, keptReport, droppedReport}
+use Rattle.salvage.specs.Claims.{InSetup, HasRow, atEnd, NoneDropped, Back, Undamaged, UndamagedKept}
+use Rattle.salvage.proofs.Rows.{fate-cases}
+use Rattle.salvage.proofs.Values.{few, value_written}
+use Rattle.salvage.proofs.Stops.{stops-at-cut}
 
 module _ (q : ℕ) (features : List ℕ) where
   -- ---- nothing is dropped ----
 
   -- of a part that is in no count
-  none-here : (b : Bool) (p : Part) → ((cause : ℕ) → cause < 4 → indicator (isDropped cause (fateOf q features b p)) ≡ 0)
+  none_here : (b : Bool) (p : Part) → ((cause : ℕ) → cause < 4 → indicator (isDropped cause (fateOf q features b p)) ≡ 0)
       → allowed q features p ≡ true
   unfolding indicator
-  none-here b p =
+  none_here b p =
       fate-cases q features b p
       (λ f. ((cause : ℕ) → cause < 4 → indicator (isDropped cause f) ≡ 0) → allowed q features p ≡ true)
-      (λ cause l none z. let one : _≡_ {A = ℕ} 1 0 = rw (eq-eqb cause cause refl) at (z cause l) in absurd (omega arith))
+      (λ cause l none z. let one : ◌≡◌ {A = ℕ} 1 0 = rw (eq-eqb cause cause refl) at (z cause l) in absurd (omega arith))
       (λ free a z. a)
 
   all-allowed : (before ps : PartList) → ((cause : ℕ) → cause < 4 → droppedFrom q features cause before ps ≡ 0)
@@ -47,14 +47,14 @@ module _ (q : ℕ) (features : List ℕ) where
   all-allowed before end z = refl
   all-allowed before cut z = refl
   all-allowed before (part p ps) z =
-      and-i _ _
-      (none-here (isKept q features (p .partType) (p .selector) before) p (λ cause l. let e = z cause l in omega arith))
+      and_i _ _
+      (none_here (isKept q features p.partType p.selector before) p (λ cause l. let e = z cause l in omega arith))
       (all-allowed (part p before) ps (λ cause l. let e = z cause l in omega arith))
 
   -- ---- each part is allowed ----
 
   module _ (t s : ℕ) where
-    copy-named : (p : Part) → allowed q features p ≡ true → isCopy q features t s p ≡ eqb (p .partType) t and eqb (p .selector) s
+    copy-named : (p : Part) → allowed q features p ≡ true → isCopy q features t s p ≡ eqb p.partType t and eqb p.selector s
     unfolding isCopy
     copy-named p a = rw a (and-true _)
 
@@ -62,66 +62,66 @@ module _ (q : ℕ) (features : List ℕ) where
     unfolding every isKept among
     kept-among end a = refl
     kept-among cut a = refl
-    kept-among (part p ps) a = let b = both _ _ a in rw (copy-named p (b .0), kept-among ps (b .1))
+    kept-among (part p ps) a = let b = both _ _ a in rw (copy-named p b.0, kept-among ps b.1)
 
     kept-first : (x : List ℕ) (ps : PartList) → every (allowed q features) ps ≡ true → among t s ps ≡ true
         → keptOr q features t s x ps ≡ valueOr t s ps []
-    unfolding every keptOr among valueOr if_then_else_ _or_
+    unfolding every keptOr among valueOr if◌then◌else◌ ◌or◌
     kept-first x end a y = cc
     kept-first x cut a y = cc
     kept-first x (part p ps) a y =
         let b = both _ _ a in
-        by-cases (eqb (p .partType) t and eqb (p .selector) s)
-        (λ e. rw (copy-named p (b .0), e))
-        (λ e. rw (copy-named p (b .0), e) (kept-first x ps (b .1) (rw e at y)))
+        by_cases (eqb p.partType t and eqb p.selector s)
+        (λ e. rw (copy-named p b.0, e))
+        (λ e. rw (copy-named p b.0, e) (kept-first x ps b.1 (rw e at y)))
 
 -- ---- the report of all kept ----
 
 abbrev oneFor : ℕ → ℕ → List ℕ
-oneFor q i = if present q (rowAt i) then 1 ∷ [] else []
+oneFor q i = if present q (row_at i) then 1 ∷ [] else []
 
-all-ones : (q : ℕ) → q < 5 → itemsFrom (oneFor q) rowCount 0 ≡ replicate (partCount q) 1
+all_ones : (q : ℕ) → q < 5 → itemsFrom (oneFor q) rowCount 0 ≡ replicate (part_count q) 1
 unfolding table itemsFrom same
-all-ones q h = same-true _ _ (every-count (λ q. same (itemsFrom (oneFor q) rowCount 0) (replicate (partCount q) 1)) refl q h)
+all_ones q h = same_true _ _ (every-count (λ q. same (itemsFrom (oneFor q) rowCount 0) (replicate (part_count q) 1)) refl q h)
 
 module _ (q : ℕ) (features l : List ℕ) (g : InSetup q features) (u : NoneDropped q features l) where
-  counts-zero : (cause : ℕ) → cause < 4 → droppedFrom q features cause end (partsOf Parts l) ≡ 0
+  counts_zero : (cause : ℕ) → cause < 4 → droppedFrom q features cause end (parts_of Parts l) ≡ 0
   unfolding droppedReport
-  counts-zero zero h = ap (λ (x : List ℕ). getD x 0 0) (u .none-dropped)
-  counts-zero (suc zero) h = ap (λ (x : List ℕ). getD x 1 0) (u .none-dropped)
-  counts-zero (suc (suc zero)) h = ap (λ (x : List ℕ). getD x 2 0) (u .none-dropped)
-  counts-zero (suc (suc (suc zero))) h = ap (λ (x : List ℕ). getD x 3 0) (u .none-dropped)
-  counts-zero (suc (suc (suc (suc n)))) h = absurd (omega arith)
+  counts_zero zero h = ap (λ (x : List ℕ). get_or x 0 0) u.none_dropped
+  counts_zero (suc zero) h = ap (λ (x : List ℕ). get_or x 1 0) u.none_dropped
+  counts_zero (suc (suc zero)) h = ap (λ (x : List ℕ). get_or x 2 0) u.none_dropped
+  counts_zero (suc (suc (suc zero))) h = ap (λ (x : List ℕ). get_or x 3 0) u.none_dropped
+  counts_zero (suc (suc (suc (suc n)))) h = absurd (omega arith)
 
-  each-allowed : every (allowed q features) (partsOf Parts l) ≡ true
-  each-allowed = all-allowed q features end (partsOf Parts l) counts-zero
+  each-allowed : every (allowed q features) (parts_of Parts l) ≡ true
+  each-allowed = all-allowed q features end (parts_of Parts l) counts_zero
 
   each-kept : (i : ℕ) → HasRow q i → isKeptRow q features l i ≡ true
-  each-kept i r = kept-among q features (rowAt i .partType) (rowAt i .selector) (partsOf Parts l) each-allowed ∙ u .each i r
+  each-kept i r = kept-among q features (row_at i).partType (row_at i).selector (parts_of Parts l) each-allowed ∙ u.each i r
 
-  pub comes-back : Back q features l
-  unfolding keptReport keptItem if_then_else_ indicator
-  comes-back =
+  pub comes_back : Back q features l
+  unfolding keptReport keptItem if◌then◌else◌ indicator
+  comes_back =
       record {
         values = λ i r.
-            value-written q features l g i r
-            ∙ kept-first q features (rowAt i .partType) (rowAt i .selector) _ (partsOf Parts l) each-allowed (u .each i r);
+            value_written q features l g i r
+            ∙ kept-first q features (row_at i).partType (row_at i).selector _ (parts_of Parts l) each-allowed (u.each i r);
         kept =
             items-same (keptItem q features l) (oneFor q) rowCount rowCount 0 refl
             (λ i h.
-            by-cases (present q (rowAt i))
+            by_cases (present q (row_at i))
             (λ y. rw (y, each-kept i (record { below = h; there = y })))
             (λ n. rw n))
-            ∙ all-ones q (few q features l g);
-        dropped = u .none-dropped;
-        left = u .none-left;
+            ∙ all_ones q (few q features l g);
+        dropped = u.none_dropped;
+        left = u.none_left;
       }
 
 -- ---- by the list alone ----
 
 module _ (q : ℕ) (features : List ℕ) where
   abbrev isKnown : Part → Bool
-  isKnown p = known q (p .partType) (p .selector)
+  isKnown p = known q p.partType p.selector
 
   rules-allow : (ps : PartList) → every isKnown ps ≡ true → every (lengthRight q) ps ≡ true → every (sizeRight q) ps ≡ true
       → every (featuresSame features) ps ≡ true → every (allowed q features) ps ≡ true
@@ -133,66 +133,66 @@ module _ (q : ℕ) (features : List ℕ) where
       let b = both _ _ l in
       let c = both _ _ z in
       let d = both _ _ f in
-      let ring : valueAllowed (p .partType) (p .value) ≡ true = sym (false-or _) ∙ rw (a .0) at (c .0) in
-      and-i _ _ (and-i _ _ (a .0) (and-i _ _ (b .0) (and-i _ _ ring (d .0)))) (rules-allow ps (a .1) (b .1) (c .1) (d .1))
+      let ring : valueAllowed p.partType p.value ≡ true = sym (false-or _) ∙ rw a.0 at c.0 in
+      and_i _ _ (and_i _ _ a.0 (and_i _ _ b.0 (and_i _ _ ring d.0))) (rules-allow ps a.1 b.1 c.1 d.1)
 
   -- an allowed part of which no copy was kept
   allowed-kept : (p : Part) → allowed q features p ≡ true → fateOf q features false p ≡ Kept
-  unfolding allowed fateOf unless_answer_then_
+  unfolding allowed fateOf unless◌answer◌then◌
   allowed-kept p a =
       let b = both _ _ a in
-      let c = both _ _ (b .1) in
-      rw (b .0, c .0, c .1)
+      let c = both _ _ b.1 in
+      rw (b.0, c.0, c.1)
 
   -- a copy of p is not among the parts behind it
   other-copy : (p : Part) (ps : PartList) (t s : ℕ) → allowed q features p ≡ true
-      → isKnown p and among (p .partType) (p .selector) ps ≡ false → among t s ps ≡ true → isCopy q features t s p ≡ false
+      → isKnown p and among p.partType p.selector ps ≡ false → among t s ps ≡ true → isCopy q features t s p ≡ false
   unfolding isCopy allowed
   other-copy p ps t s a once there =
-      by-cases (isCopy q features t s p)
+      by_cases (isCopy q features t s p)
       (λ c.
-      let n = both _ _ (both _ _ c .0) in
-      let none : among (p .partType) (p .selector) ps ≡ false = sym (true-and _) ∙ rw (both _ _ a .0) at once in
-      never (sym (rw (eqb-true (p .partType) t (n .0), eqb-true (p .selector) s (n .1)) at none) ∙ there))
+      let n = both _ _ (both _ _ c).0 in
+      let none : among p.partType p.selector ps ≡ false = sym (true-and _) ∙ rw (both _ _ a).0 at once in
+      never (sym (rw (eqb-true p.partType t n.0, eqb-true p.selector s n.1) at none) ∙ there))
       (λ c. c)
 
   -- before: none of the parts is kept there
-  none-dropped : (cause : ℕ) (before ps : PartList) → every (allowed q features) ps ≡ true → repeated q ps ≡ false
+  none_dropped : (cause : ℕ) (before ps : PartList) → every (allowed q features) ps ≡ true → repeated q ps ≡ false
       → ((t s : ℕ) → among t s ps ≡ true → isKept q features t s before ≡ false) → droppedFrom q features cause before ps ≡ 0
   unfolding every repeated among isKept droppedFrom indicator
-  none-dropped cause before end a r clear = refl
-  none-dropped cause before cut a r clear = refl
-  none-dropped cause before (part p ps) a r clear =
+  none_dropped cause before end a r clear = refl
+  none_dropped cause before cut a r clear = refl
+  none_dropped cause before (part p ps) a r clear =
       let b = both _ _ a in
       let n = neither _ _ r in
-      let named = and-i _ _ (eq-eqb (p .partType) (p .partType) refl) (eq-eqb (p .selector) (p .selector) refl) in
-      let own = clear (p .partType) (p .selector) (or-left _ (among (p .partType) (p .selector) ps) named) in
-      let rest = none-dropped cause (part p before) ps (b .1) (n .1)
-      (λ t s m. or-i _ _ (other-copy p ps t s (b .0) (n .0) m) (clear t s (or-right _ _ m))) in
-      rw (own, allowed-kept p (b .0), rest)
+      let named = and_i _ _ (eq-eqb p.partType p.partType refl) (eq-eqb p.selector p.selector refl) in
+      let own = clear p.partType p.selector (or_left _ (among p.partType p.selector ps) named) in
+      let rest = none_dropped cause (part p before) ps b.1 n.1
+      (λ t s m. or-i _ _ (other-copy p ps t s b.0 n.0 m) (clear t s (or_right _ _ m))) in
+      rw (own, allowed-kept p b.0, rest)
 
 module _ (q : ℕ) (features l : List ℕ) (u : Undamaged q features l) where
   undamaged-dropped : droppedReport q features l ≡ replicate 4 0
   unfolding droppedReport isKept
   undamaged-dropped =
-      let ps = partsOf Parts l in
-      let a = accepts q features ps (u .accepted) in
-      let allow = rules-allow q features ps (u .inventory) (a .sized) (a .rings) (a .valued) in
+      let ps = parts_of Parts l in
+      let a = accepts q features ps u.accepted in
+      let allow = rules-allow q features ps u.inventory a.sized a.rings a.valued in
       let none : (cause : ℕ) → droppedFrom q features cause end ps ≡ 0 =
-      λ cause. none-dropped q features cause end ps allow (a .once) (λ t s m. refl) in
+      λ cause. none_dropped q features cause end ps allow a.once (λ t s m. refl) in
       rw (none 0, none 1, none 2, none 3)
 
-  undamaged-whole : whole (partsOf Parts l) ≡ true
+  undamaged-whole : whole (parts_of Parts l) ≡ true
   unfolding causeIn
-  undamaged-whole = unless-passed (λ c. isAccepted c ≡ true) (whole (partsOf Parts l)) _ _ never (u .accepted) .0
+  undamaged-whole = (unless-passed (λ c. isAccepted c ≡ true) (whole (parts_of Parts l)) _ _ never u.accepted).0
 
   undamaged-left : leftOver l ≡ 0
   undamaged-left =
-      let all : take (length l) l ≡ l = take-all (length l) l (omega arith) in
-      let e = stops-at-cut l .only (length l) (omega arith) (rw all undamaged-whole) (atEnd refl) in
+      let all : take (length l) l ≡ l = take_all (length l) l (omega arith) in
+      let e = (stops-at-cut l).only (length l) (omega arith) (rw all undamaged-whole) (atEnd refl) in
       omega arith
 
 pub undamaged-kept : UndamagedKept
 undamaged-kept q features l g u =
-    comes-back q features l g
-    (record { each = u .each; none-dropped = undamaged-dropped q features l u; none-left = undamaged-left q features l u })
+    comes_back q features l g
+    (record { each = u.each; none_dropped = undamaged-dropped q features l u; none_left = undamaged-left q features l u })

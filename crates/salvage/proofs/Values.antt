@@ -1,111 +1,111 @@
 -- The values of what is written: in each row that of the first allowed copy, or the fresh one; and what holds of each of the
 -- two. So step 10 passes it. Assumes nothing.
-use mathlib.Core.Path.{_≡_, refl, ap, sym, _∙_}
+use mathlib.Core.Path.{◌≡◌, refl, ap, sym, ◌∙◌}
 use mathlib.Core.Bool.{true, false}
 use mathlib.Core.List.{List, []}
-use Prim.Native.Nat.{ℕ, _<_}
+use Prim.Native.Nat.{ℕ, ◌<◌}
 use native.Mathlib.Omega.{arith}
 use borrow.Author.Tests.{eqb-true, eq-eqb}
 use lib.ListN.{length}
-use Rattle·theory.specs.Logic.{if_then_else_, _or_}
-use Rattle·theory.specs.Bytes.{bytesAt}
-use Rattle·theory.proofs.Tests.{by-cases, both, false-or, within-high, same-true}
-use Rattle·inventory.proofs.Values.{features-value}
-use Rattle·inventory.specs.Inventory.{rowAt, deviceFeatures, featuresSize, featuresRow, valuesSize, partsSize, valueOf}
-use Rattle·inventory.specs.Queue.{valueAllowed, queuesAllowed}
-use Rattle·inventory.proofs.Rules.{row-zero, offset-zero}
-use Rattle·inventory.proofs.Queue.{row-allowed, rows-allowed}
-use Rattle·parts.specs.declared.ListForm.the-variants.{Parts}
-use Rattle·parts.specs.List.{Part, PartList, end, cut, part, partsOf}
-use Rattle·rules.specs.Rules.{featuresSame, causeOf, isAccepted}
-use Rattle·capture.proofs.Sizes.{capture-length}
-use Rattle·restore.proofs.RoundTrip.{accepted, capture-value}
-use Rattle·member.specs.Member.{freshOf}
-use Rattle·member.proofs.Sound.{SoundMember, sound-fresh}
-use Rattle·salvage·specs.specs.Salvage.{valueRight, allowed, isCopy, keptOr, isKept, freshValue, rowValue, repaired}
-use Rattle·salvage·specs.specs.Claims.{InSetup, HasRow, valueAt}
-use Rattle·salvage·proofs.proofs.Whole.{endOf, end-sized, end-value, list-is}
+use Rattle.theory.specs.Logic.{if◌then◌else◌, ◌or◌}
+use Rattle.theory.specs.Bytes.{bytes_at}
+use Rattle.theory.proofs.Tests.{by_cases, both, false-or, within-high, same_true}
+use Rattle.inventory.proofs.Values.{features-value}
+use Rattle.inventory.specs.Inventory.{row_at, deviceFeatures, featuresSize, featuresRow, valuesSize, partsSize, value_of}
+use Rattle.inventory.specs.Queue.{valueAllowed, queuesAllowed}
+use Rattle.inventory.proofs.Rules.{row_zero, offset-zero}
+use Rattle.inventory.proofs.Queue.{row-allowed, rows-allowed}
+use Rattle.parts.specs.declared.ListForm.TheVariants.{Parts}
+use Rattle.parts.specs.List.{Part, PartList, end, cut, part, parts_of}
+use Rattle.rules.specs.Rules.{featuresSame, causeOf, isAccepted}
+use Rattle.capture.proofs.Sizes.{capture-length}
+use Rattle.restore.proofs.RoundTrip.{accepted, capture-value}
+use Rattle.member.specs.Member.{fresh_of}
+use Rattle.member.proofs.Sound.{SoundMember, sound-fresh}
+use Rattle.salvage.specs.Salvage.{valueRight, allowed, isCopy, keptOr, isKept, freshValue, rowValue, repaired}
+use Rattle.salvage.specs.Claims.{InSetup, HasRow, value_at}
+use Rattle.salvage.proofs.Whole.{end_of, end-sized, end-value, list-is}
 
 -- ---- the first allowed copy ----
 
 module _ (q : ℕ) (features : List ℕ) (t s : ℕ) where
   -- what holds of each allowed copy and of x holds of what is kept, or else x
-  kept-or : (P : List ℕ → Type 0) (x : List ℕ) → P x → ((p : Part) → isCopy q features t s p ≡ true → P (p .value))
+  kept-or : (P : List ℕ → Type 0) (x : List ℕ) → P x → ((p : Part) → isCopy q features t s p ≡ true → P p.value)
       → (ps : PartList) → P (keptOr q features t s x ps)
-  unfolding keptOr if_then_else_
+  unfolding keptOr if◌then◌else◌
   kept-or P x h f end = h
   kept-or P x h f cut = h
   kept-or P x h f (part p ps) =
-      by-cases (isCopy q features t s p) (λ c. rw c (f p c)) (λ c. rw c (kept-or P x h f ps))
+      by_cases (isCopy q features t s p) (λ c. rw c (f p c)) (λ c. rw c (kept-or P x h f ps))
 
   pub kept-none : (x : List ℕ) (ps : PartList) → isKept q features t s ps ≡ false → keptOr q features t s x ps ≡ x
-  unfolding keptOr isKept if_then_else_ _or_
+  unfolding keptOr isKept if◌then◌else◌ ◌or◌
   kept-none x end k = refl
   kept-none x cut k = refl
   kept-none x (part p ps) k =
-      by-cases (isCopy q features t s p) (λ c. let z : true ≡ false = rw c at k in cc) (λ c. rw c (kept-none x ps (rw c at k)))
+      by_cases (isCopy q features t s p) (λ c. let z : true ≡ false = rw c at k in cc) (λ c. rw c (kept-none x ps (rw c at k)))
 
-  copy-named : (p : Part) → isCopy q features t s p ≡ true → p .partType ≡ t
+  copy-named : (p : Part) → isCopy q features t s p ≡ true → p.partType ≡ t
   unfolding isCopy
-  copy-named p c = eqb-true _ _ (both _ _ (both _ _ c .0) .0)
+  copy-named p c = eqb-true _ _ (both _ _ (both _ _ c).0).0
 
   copy-right : (p : Part) → isCopy q features t s p ≡ true → valueRight features p ≡ true
   unfolding isCopy allowed
-  copy-right p c = both _ _ (both _ _ (both _ _ c .1) .1) .1
+  copy-right p c = (both _ _ (both _ _ (both _ _ c).1).1).1
 
   -- its value is allowed, and device features are those given
-  copy-allowed : (p : Part) → isCopy q features t s p ≡ true → valueAllowed t (p .value) ≡ true
+  copy-allowed : (p : Part) → isCopy q features t s p ≡ true → valueAllowed t p.value ≡ true
   unfolding valueRight
-  copy-allowed p c = rw (← copy-named p c) (both _ _ (copy-right p c) .0)
+  copy-allowed p c = rw (← copy-named p c) (both _ _ (copy-right p c)).0
 
-  copy-features : t ≡ deviceFeatures → (p : Part) → isCopy q features t s p ≡ true → p .value ≡ features
+  copy-features : t ≡ deviceFeatures → (p : Part) → isCopy q features t s p ≡ true → p.value ≡ features
   unfolding valueRight featuresSame
   copy-features d p c =
-      let f = both _ _ (copy-right p c) .1 in
-      same-true _ _ (sym (false-or _) ∙ rw (eq-eqb _ _ (copy-named p c ∙ d)) at f)
+      let f = (both _ _ (copy-right p c)).1 in
+      same_true _ _ (sym (false-or _) ∙ rw (eq-eqb _ _ (copy-named p c ∙ d)) at f)
 
 -- ---- what is written ----
 
 module _ (q : ℕ) (features l : List ℕ) (g : InSetup q features) where
   abbrev v : List ℕ
-  v = endOf q features l (g .long) .values
+  v = (end_of q features l g.long).values
 
   pub few : q < 5
-  few = omega (arith, within-high 1 4 q (g .count))
+  few = omega (arith, within-high 1 4 q g.count)
 
   long : length v ≡ valuesSize
-  long = end-sized q features l (g .long) .values
+  long = (end-sized q features l g.long).values
 
   -- a fresh member has allowed queues, and these device features
-  fresh : SoundMember 0 0 features (freshOf q features)
-  fresh = sound-fresh 0 0 features q (g .count) (g .long)
+  fresh : SoundMember 0 0 features (fresh_of q features)
+  fresh = sound-fresh 0 0 features q g.count g.long
 
   queues : queuesAllowed q v ≡ true
-  unfolding freshValue freshOf
+  unfolding freshValue fresh_of
   queues =
       rows-allowed q v long
       (λ i h y.
-      rw (end-value q features l (g .long) i h)
-      (kept-or q features (rowAt i .partType) (rowAt i .selector) (λ x. valueAllowed (rowAt i .partType) x ≡ true) (freshValue q features i)
-      (row-allowed q (freshOf q features .values) (fresh .allowed) i h y)
-      (copy-allowed q features (rowAt i .partType) (rowAt i .selector)) (partsOf Parts l)))
+      rw (end-value q features l g.long i h)
+      (kept-or q features (row_at i).partType (row_at i).selector (λ x. valueAllowed (row_at i).partType x ≡ true) (freshValue q features i)
+      (row-allowed q (fresh_of q features).values fresh.allowed i h y)
+      (copy-allowed q features (row_at i).partType (row_at i).selector) (parts_of Parts l)))
 
-  front : bytesAt 0 featuresSize v ≡ features
+  front : bytes_at 0 featuresSize v ≡ features
   unfolding freshValue
   front =
-      let own : valueOf v featuresRow ≡ rowValue q features l featuresRow = end-value q features l (g .long) featuresRow (omega arith) in
+      let own : value_of v featuresRow ≡ rowValue q features l featuresRow = end-value q features l g.long featuresRow (omega arith) in
       let kept : rowValue q features l featuresRow ≡ features =
-      kept-or q features (rowAt featuresRow .partType) (rowAt featuresRow .selector) (λ x. x ≡ features) (freshValue q features featuresRow)
-      (rw (offset-zero, row-zero) (fresh .kept))
-      (copy-features q features (rowAt featuresRow .partType) (rowAt featuresRow .selector) (rw row-zero)) (partsOf Parts l) in
+      kept-or q features (row_at featuresRow).partType (row_at featuresRow).selector (λ x. x ≡ features) (freshValue q features featuresRow)
+      (rw (offset-zero, row_zero) fresh.kept)
+      (copy-features q features (row_at featuresRow).partType (row_at featuresRow).selector (rw row_zero)) (parts_of Parts l) in
       sym (features-value v) ∙ own ∙ kept
 
   pub list-passes : isAccepted (causeOf q features (repaired q features l)) ≡ true
-  list-passes = ap isAccepted (rw (front, list-is q features l (g .long)) at (accepted q v few long queues v refl))
+  list-passes = ap isAccepted (rw (front, list-is q features l g.long) at (accepted q v few long queues v refl))
 
   pub repaired-long : length (repaired q features l) ≡ partsSize q
-  repaired-long = rw (← list-is q features l (g .long)) (capture-length q v few long)
+  repaired-long = rw (← list-is q features l g.long) (capture-length q v few long)
 
-  pub value-written : (i : ℕ) → HasRow q i → valueAt i (repaired q features l) ≡ rowValue q features l i
-  value-written i r =
-      rw (← list-is q features l (g .long)) (capture-value q v few long i (r .below) (r .there) [] ∙ end-value q features l (g .long) i (r .below))
+  pub value_written : (i : ℕ) → HasRow q i → value_at i (repaired q features l) ≡ rowValue q features l i
+  value_written i r =
+      rw (← list-is q features l g.long) (capture-value q v few long i r.below r.there [] ∙ end-value q features l g.long i r.below)

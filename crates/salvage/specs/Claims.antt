@@ -1,48 +1,43 @@
 -- WHAT IS CLAIMED of a salvage: when it is done, what it writes and what it reports: 02, request 8. The record Claims at the end
 -- lists it, ../proofs/Claims.antt proves it, and ../proofs/Example.antt has lists that meet the hypotheses. The papers' numbers
 -- stand here once more, apart from the definitions. Assumes nothing.
-use mathlib.Core.Path.{_≡_}
-use mathlib.Core.Bool.{true}
-use mathlib.Core.List.{List, [], _∷_, _++_}
-use Prim.Native.Nat.{ℕ, _+_, _*_, _-_, _≤_, _<_}
-use lib.Dec.{eqb}
-use lib.ListN.{length, take, drop, replicate}
-use Rattle·theory.specs.Logic.{if_then_else_, within}
-use Rattle·theory.specs.Items.{itemsFrom}
-use Rattle·wire.specs.Le.{number}
-use Rattle·inventory.specs.Inventory.{rowAt, present, total, valueOf}
-use Rattle·inventory.specs.Queue.{valueAllowed}
-use Rattle·parts.specs.declared.ListForm.the-variants.{Parts}
-use Rattle·parts.specs.List.{Part, PartList, end, cut, part, partsOf, whole, among, valueOr}
-use Rattle·rules.specs.Rules.{known, every, causeOf, isAccepted}
-use Rattle·capture.specs.Capture.{captureOf}
-use Rattle·setups.specs.declared.MemberSetup.{MemberSetup}
-use Rattle·setups.specs.Member.{memberSetup}
-use Rattle·salvage·specs.specs.Salvage.{leftOver, repaired, keptReport, droppedReport, Salvage, salvage, salvageUnder}
+use Rattle.std.specs.Prelude.{◌≡◌, true, List, [], ◌∷◌, ◌++◌, ℕ, ◌+◌, ◌*◌, ◌-◌, ◌≤◌, ◌<◌, eqb, length, take, drop, replicate}
+use Rattle.theory.specs.Logic.{if◌then◌else◌, within}
+use Rattle.theory.specs.Items.{itemsFrom}
+use Rattle.wire.specs.Le.{number}
+use Rattle.inventory.specs.Inventory.{row_at, present, total, value_of}
+use Rattle.inventory.specs.Queue.{valueAllowed}
+use Rattle.parts.specs.declared.ListForm.TheVariants.{Parts}
+use Rattle.parts.specs.List.{Part, PartList, end, cut, part, parts_of, whole, among, valueOr}
+use Rattle.rules.specs.Rules.{known, every, causeOf, isAccepted}
+use Rattle.capture.specs.Capture.{captureOf}
+use Rattle.setups.specs.declared.MemberSetup.{MemberSetup}
+use Rattle.setups.specs.Member.{memberSetup}
+use Rattle.salvage.specs.Salvage.{leftOver, repaired, keptReport, droppedReport, Salvage, salvage, salvageUnder}
 
 -- ---- when it is done ----
 
 -- what it asks: a setup that has this member, at most 4,064 bytes, and room for the list, for a byte for each part and for four
 -- counts; s is what the setup says of the member, and demands: Lists.MembersKnown when it has it
 pub record Asks (s : MemberSetup) (damaged : List ℕ) (b : Salvage) : Type 0 where
-  pub known : s .known ≡ true
+  pub known : s.known ≡ true
   pub short : length damaged ≤ 4064
-  pub list : 157 + 72 * s .queues ≤ length (b .list)
-  pub kept : 7 + 2 * s .queues ≤ length (b .kept)
-  pub dropped : 4 ≤ length (b .dropped)
+  pub list : 157 + 72 * s.queues ≤ length b.list
+  pub kept : 7 + 2 * s.queues ≤ length b.kept
+  pub dropped : 4 ≤ length b.dropped
 
 -- the list and the report at the front of what was lent, and the rest as it was
 pub record Writes (s : MemberSetup) (damaged : List ℕ) (b after : Salvage) : Type 0 where
-  pub written : after .written ≡ 157 + 72 * s .queues
-  pub list : after .list ≡ repaired (s .queues) (s .features) damaged ++ drop (157 + 72 * s .queues) (b .list)
-  pub kept : after .kept ≡ keptReport (s .queues) (s .features) damaged ++ drop (7 + 2 * s .queues) (b .kept)
-  pub dropped : after .dropped ≡ droppedReport (s .queues) (s .features) damaged ++ drop 4 (b .dropped)
-  pub left : after .left ≡ leftOver damaged
+  pub written : after.written ≡ 157 + 72 * s.queues
+  pub list : after.list ≡ repaired s.queues s.features damaged ++ drop (157 + 72 * s.queues) b.list
+  pub kept : after.kept ≡ keptReport s.queues s.features damaged ++ drop (7 + 2 * s.queues) b.kept
+  pub dropped : after.dropped ≡ droppedReport s.queues s.features damaged ++ drop 4 b.dropped
+  pub left : after.left ≡ leftOver damaged
 
 -- it is done exactly if it is given what it asks, and else nothing is written
 pub record DoneOrRefused (s : MemberSetup) (damaged : List ℕ) (b : Salvage) : Type 0 where
   pub done : Asks s damaged b → Writes s damaged b (salvageUnder s damaged b)
-  pub refused : (Asks s damaged b → ⊥) → salvageUnder s damaged b ≡ salvage 0 (b .list) (b .kept) (b .dropped) (b .left)
+  pub refused : (Asks s damaged b → ⊥) → salvageUnder s damaged b ≡ salvage 0 b.list b.kept b.dropped b.left
 
 abbrev pub DoneExactly : Type 0
 DoneExactly = (setup : List ℕ) (m : ℕ) (damaged : List ℕ) (b : Salvage) → DoneOrRefused (memberSetup setup m) damaged b
@@ -57,7 +52,7 @@ pub record InSetup (queues : ℕ) (features : List ℕ) : Type 0 where
 -- a row that the member has
 pub record HasRow (queues i : ℕ) : Type 0 where
   pub below : i < 15
-  pub there : present queues (rowAt i) ≡ true
+  pub there : present queues (row_at i) ≡ true
 
 -- Step 10 passes what is written
 abbrev pub Passes : Type 0
@@ -67,21 +62,21 @@ Passes = (queues : ℕ) (features damaged : List ℕ) → InSetup queues feature
 -- what document 01 and request 5 allow as row i's part: its type and selector, the table's length, a queue size that a ring has,
 -- and as device features the setup's
 pub record AllowedCopy (features : List ℕ) (i : ℕ) (p : Part) : Type 0 where
-  pub type-is : p .partType ≡ rowAt i .partType
-  pub selector-is : p .selector ≡ rowAt i .selector
-  pub sized : length (p .value) ≡ rowAt i .size
-  pub ring : valueAllowed (p .partType) (p .value) ≡ true
-  pub own-features : p .partType ≡ 0x100 → p .value ≡ features
+  pub type-is : p.partType ≡ (row_at i).partType
+  pub selector-is : p.selector ≡ (row_at i).selector
+  pub sized : length p.value ≡ (row_at i).size
+  pub ring : valueAllowed p.partType p.value ≡ true
+  pub own-features : p.partType ≡ 0x100 → p.value ≡ features
 
 -- x is the value of the first of these, among the parts up to one that is cut: no part before it is one
 pub data FirstCopy (features : List ℕ) (i : ℕ) (x : List ℕ) : PartList → Type 0 where
-  here : {p : Part} {ps : PartList} → AllowedCopy features i p → p .value ≡ x → FirstCopy features i x (part p ps)
+  here : {p : Part} {ps : PartList} → AllowedCopy features i p → p.value ≡ x → FirstCopy features i x (part p ps)
   later : {p : Part} {ps : PartList} → (AllowedCopy features i p → ⊥) → FirstCopy features i x ps
       → FirstCopy features i x (part p ps)
 
 -- what a fresh member has in row i: the setup's device features, else zeros
 abbrev pub freshBytes : List ℕ → ℕ → List ℕ
-freshBytes features i = if eqb (rowAt i .partType) 0x100 then features else replicate (rowAt i .size) 0
+freshBytes features i = if eqb (row_at i).partType 0x100 then features else replicate (row_at i).size 0
 
 -- row i has the value x, and the report k for it: 1 exactly if there is an allowed copy, and x is the first one's value; else 0,
 -- and x is fresh
@@ -96,8 +91,8 @@ pub record Captures (queues : ℕ) (features damaged : List ℕ) : Type 0 where
   pub values : List ℕ
   pub numbers : ℕ → ℕ
   pub list : repaired queues features damaged ≡ captureOf queues values
-  pub report : keptReport queues features damaged ≡ itemsFrom (λ i. if present queues (rowAt i) then numbers i ∷ [] else []) 15 0
-  pub each : (i : ℕ) → HasRow queues i → KeptOrFresh features (partsOf Parts damaged) i (numbers i) (valueOf values i)
+  pub report : keptReport queues features damaged ≡ itemsFrom (λ i. if present queues (row_at i) then numbers i ∷ [] else []) 15 0
+  pub each : (i : ℕ) → HasRow queues i → KeptOrFresh features (parts_of Parts damaged) i (numbers i) (value_of values i)
 
 abbrev pub KeepsOrFills : Type 0
 KeepsOrFills = (queues : ℕ) (features damaged : List ℕ) → InSetup queues features → Captures queues features damaged
@@ -115,7 +110,7 @@ pub record Counts (queues : ℕ) (features damaged : List ℕ) : Type 0 where
   pub rows : length (keptReport queues features damaged) ≡ 7 + 2 * queues
   pub causes : length (droppedReport queues features damaged) ≡ 4
   pub parts : total (keptReport queues features damaged) + total (droppedReport queues features damaged)
-      ≡ partsRead (partsOf Parts damaged)
+      ≡ partsRead (parts_of Parts damaged)
 
 abbrev pub AddsUp : Type 0
 AddsUp = (queues : ℕ) (features damaged : List ℕ) → InSetup queues features → Counts queues features damaged
@@ -130,9 +125,9 @@ pub data StopsAt (l : List ℕ) (at : ℕ) : Type 0 where
 -- The bytes left over are those from such a place on, and the list before it is whole. There is no other such place.
 pub record Stops (damaged : List ℕ) : Type 0 where
   pub inside : leftOver damaged ≤ length damaged
-  pub before : whole (partsOf Parts (take (length damaged - leftOver damaged) damaged)) ≡ true
+  pub before : whole (parts_of Parts (take (length damaged - leftOver damaged) damaged)) ≡ true
   pub stops : StopsAt damaged (length damaged - leftOver damaged)
-  pub only : (at : ℕ) → at ≤ length damaged → whole (partsOf Parts (take at damaged)) ≡ true → StopsAt damaged at
+  pub only : (at : ℕ) → at ≤ length damaged → whole (parts_of Parts (take at damaged)) ≡ true → StopsAt damaged at
       → leftOver damaged ≡ length damaged - at
 
 abbrev pub StopsAtCut : Type 0
@@ -141,21 +136,21 @@ StopsAtCut = (damaged : List ℕ) → Stops damaged
 -- ---- a list that is not damaged ----
 
 -- the value of row i's part in a list, the first if there are more
-abbrev pub valueAt : ℕ → List ℕ → List ℕ
-valueAt i l = valueOr (rowAt i .partType) (rowAt i .selector) (partsOf Parts l) []
+abbrev pub value_at : ℕ → List ℕ → List ℕ
+value_at i l = valueOr (row_at i).partType (row_at i).selector (parts_of Parts l) []
 
 -- it comes back with the same values and a report of all kept and zeros
 pub record Back (queues : ℕ) (features list : List ℕ) : Type 0 where
-  pub values : (i : ℕ) → HasRow queues i → valueAt i (repaired queues features list) ≡ valueAt i list
+  pub values : (i : ℕ) → HasRow queues i → value_at i (repaired queues features list) ≡ value_at i list
   pub kept : keptReport queues features list ≡ replicate (7 + 2 * queues) 1
   pub dropped : droppedReport queues features list ≡ replicate 4 0
   pub left : leftOver list ≡ 0
 
 -- 02's words, by the report: each part of the inventory, none dropped, nothing left over; one that is there twice is dropped
 pub record NoneDropped (queues : ℕ) (features list : List ℕ) : Type 0 where
-  pub each : (i : ℕ) → HasRow queues i → among (rowAt i .partType) (rowAt i .selector) (partsOf Parts list) ≡ true
-  pub none-dropped : droppedReport queues features list ≡ replicate 4 0
-  pub none-left : leftOver list ≡ 0
+  pub each : (i : ℕ) → HasRow queues i → among (row_at i).partType (row_at i).selector (parts_of Parts list) ≡ true
+  pub none_dropped : droppedReport queues features list ≡ replicate 4 0
+  pub none_left : leftOver list ≡ 0
 
 abbrev pub ComesBack : Type 0
 ComesBack = (queues : ℕ) (features list : List ℕ) → InSetup queues features → NoneDropped queues features list
@@ -164,8 +159,8 @@ ComesBack = (queues : ℕ) (features list : List ℕ) → InSetup queues feature
 -- by the list alone: step 10 accepts it, each part of the inventory is there, and no other
 pub record Undamaged (queues : ℕ) (features list : List ℕ) : Type 0 where
   pub accepted : isAccepted (causeOf queues features list) ≡ true
-  pub each : (i : ℕ) → HasRow queues i → among (rowAt i .partType) (rowAt i .selector) (partsOf Parts list) ≡ true
-  pub inventory : every (λ p. known queues (p .partType) (p .selector)) (partsOf Parts list) ≡ true
+  pub each : (i : ℕ) → HasRow queues i → among (row_at i).partType (row_at i).selector (parts_of Parts list) ≡ true
+  pub inventory : every (λ p. known queues p.partType p.selector) (parts_of Parts list) ≡ true
 
 abbrev pub UndamagedKept : Type 0
 UndamagedKept = (queues : ℕ) (features list : List ℕ) → InSetup queues features → Undamaged queues features list
@@ -177,5 +172,5 @@ pub record Claims : Type 0 where
   pub keeps-or-fills : KeepsOrFills
   pub adds-up : AddsUp
   pub stops-at-cut : StopsAtCut
-  pub comes-back : ComesBack
+  pub comes_back : ComesBack
   pub undamaged-kept : UndamagedKept

@@ -1,43 +1,39 @@
 -- A list that step 10 passes, made of a damaged one, and the report of it: 02, request 8. Assumes nothing.
-use mathlib.Core.Bool.{Bool, false, not}
-use mathlib.Core.List.{List, [], _∷_, _++_}
-use Prim.Native.Nat.{ℕ, _+_, _-_}
-use lib.Dec.{leb, eqb}
-use lib.ListN.{length}
-use Rattle·theory.specs.Logic.{if_then_else_, unless_answer_then_, _and_, _or_, within, indicator}
-use Rattle·theory.specs.Bytes.{put}
-use Rattle·theory.specs.Items.{itemsFrom}
-use Rattle·inventory.specs.Inventory.{rowAt, rowCount, featuresSize, present, partCount, partsSize, valueOf}
-use Rattle·inventory.specs.Queue.{valueAllowed}
-use Rattle·inventory.specs.Header.{headerSize, headerOf}
-use Rattle·parts.specs.declared.ListForm.the-variants.{Parts}
-use Rattle·parts.specs.List.{Part, PartList, end, cut, part, partsOf, longestList}
-use Rattle·rules.specs.Rules.{known, lengthRight, featuresSame}
-use Rattle·member.specs.Member.{freshOf}
-use Rattle·setups.specs.declared.MemberSetup.{MemberSetup}
+use Rattle.std.specs.Prelude.{Bool, false, not, List, [], ◌∷◌, ◌++◌, ℕ, ◌+◌, ◌-◌, leb, eqb, length}
+use Rattle.theory.specs.Logic.{if◌then◌else◌, unless◌answer◌then◌, ◌and◌, ◌or◌, within, indicator}
+use Rattle.theory.specs.Bytes.{put}
+use Rattle.theory.specs.Items.{itemsFrom}
+use Rattle.inventory.specs.Inventory.{row_at, rowCount, featuresSize, present, part_count, partsSize, value_of}
+use Rattle.inventory.specs.Queue.{valueAllowed}
+use Rattle.inventory.specs.Header.{headerSize, headerOf}
+use Rattle.parts.specs.declared.ListForm.TheVariants.{Parts}
+use Rattle.parts.specs.List.{Part, PartList, end, cut, part, parts_of, longestList}
+use Rattle.rules.specs.Rules.{known, lengthRight, featuresSame}
+use Rattle.member.specs.Member.{fresh_of}
+use Rattle.setups.specs.declared.MemberSetup.{MemberSetup}
 
 -- ---- the parts that are kept ----
 
 -- the two rules of a known part's value, one cause here: a queue's size is one that a ring has (request 5), and device
 -- features are the setup's
 unfoldable pub valueRight : List ℕ → Part → Bool
-valueRight features p = valueAllowed (p .partType) (p .value) and featuresSame features p
+valueRight features p = valueAllowed p.partType p.value and featuresSame features p
 
 -- what document 01 and request 5 allow: a part of the inventory, as long as the table says, rightly valued
 unfoldable pub allowed : ℕ → List ℕ → Part → Bool
 allowed queues features p =
-    known queues (p .partType) (p .selector) and (lengthRight queues p and valueRight features p)
+    known queues p.partType p.selector and (lengthRight queues p and valueRight features p)
 
 -- an allowed copy of the part of this type and selector
 unfoldable pub isCopy : ℕ → List ℕ → ℕ → ℕ → Part → Bool
-isCopy queues features t s p = eqb (p .partType) t and eqb (p .selector) s and allowed queues features p
+isCopy queues features t s p = eqb p.partType t and eqb p.selector s and allowed queues features p
 
 -- the first of these is kept: its value, or x where there is none
 unfoldable pub keptOr : ℕ → List ℕ → ℕ → ℕ → List ℕ → PartList → List ℕ
 keptOr queues features t s x end = x
 keptOr queues features t s x cut = x
 keptOr queues features t s x (part p ps) =
-    if isCopy queues features t s p then p .value else keptOr queues features t s x ps
+    if isCopy queues features t s p then p.value else keptOr queues features t s x ps
 
 -- whether there is one
 unfoldable pub isKept : ℕ → List ℕ → ℕ → ℕ → PartList → Bool
@@ -67,7 +63,7 @@ pub data Fate : Type 0 where
 -- what becomes of a part, and whether a copy of it was kept before: the first cause that applies
 unfoldable pub fateOf : ℕ → List ℕ → Bool → Part → Fate
 fateOf queues features before p =
-    unless known queues (p .partType) (p .selector) answer Dropped unknown then
+    unless known queues p.partType p.selector answer Dropped unknown then
     unless not before answer Dropped copy then
     unless lengthRight queues p answer Dropped wrongSize then
     unless valueRight features p answer Dropped wrongValue then
@@ -82,7 +78,7 @@ unfoldable pub droppedFrom : ℕ → List ℕ → ℕ → PartList → PartList 
 droppedFrom queues features cause before end = 0
 droppedFrom queues features cause before cut = 0
 droppedFrom queues features cause before (part p ps) =
-    indicator (isDropped cause (fateOf queues features (isKept queues features (p .partType) (p .selector) before) p))
+    indicator (isDropped cause (fateOf queues features (isKept queues features p.partType p.selector before) p))
     + droppedFrom queues features cause (part p before) ps
 
 -- ---- the bytes left over ----
@@ -91,37 +87,37 @@ droppedFrom queues features cause before (part p ps) =
 unfoldable pub bytesRead : PartList → ℕ
 bytesRead end = 0
 bytesRead cut = 0
-bytesRead (part p ps) = headerSize + length (p .value) + bytesRead ps
+bytesRead (part p ps) = headerSize + length p.value + bytesRead ps
 
 -- from the start of the header at which the walk stopped
 abbrev pub leftOver : List ℕ → ℕ
-leftOver damaged = length damaged - bytesRead (partsOf Parts damaged)
+leftOver damaged = length damaged - bytesRead (parts_of Parts damaged)
 
 -- ---- what is written ----
 
 -- a row's value of a fresh member: SPEC 2.5
 unfoldable pub freshValue : ℕ → List ℕ → ℕ → List ℕ
-freshValue queues features i = valueOf (freshOf queues features .values) i
+freshValue queues features i = value_of (fresh_of queues features).values i
 
 module _ (queues : ℕ) (features damaged : List ℕ) where
   abbrev pub isKeptRow : ℕ → Bool
-  isKeptRow i = isKept queues features (rowAt i .partType) (rowAt i .selector) (partsOf Parts damaged)
+  isKeptRow i = isKept queues features (row_at i).partType (row_at i).selector (parts_of Parts damaged)
 
   -- what is missing has the fresh value
   abbrev pub rowValue : ℕ → List ℕ
   rowValue i =
-      keptOr queues features (rowAt i .partType) (rowAt i .selector) (freshValue queues features i) (partsOf Parts damaged)
+      keptOr queues features (row_at i).partType (row_at i).selector (freshValue queues features i) (parts_of Parts damaged)
 
   -- the table's headers in the table's order
   unfoldable pub repairedItem : ℕ → List ℕ
-  repairedItem i = if present queues (rowAt i) then headerOf (rowAt i) ++ rowValue i else []
+  repairedItem i = if present queues (row_at i) then headerOf (row_at i) ++ rowValue i else []
 
   unfoldable pub repaired : List ℕ
   repaired = itemsFrom repairedItem rowCount 0
 
   -- for every part of the inventory 1 if it is kept, 0 if it is filled
   unfoldable pub keptItem : ℕ → List ℕ
-  keptItem i = if present queues (rowAt i) then indicator (isKeptRow i) ∷ [] else []
+  keptItem i = if present queues (row_at i) then indicator (isKeptRow i) ∷ [] else []
 
   unfoldable pub keptReport : List ℕ
   keptReport = itemsFrom keptItem rowCount 0
@@ -130,7 +126,7 @@ module _ (queues : ℕ) (features damaged : List ℕ) where
   droppedReport = count unknown ∷ count copy ∷ count wrongSize ∷ count wrongValue ∷ []
     where
       count : ℕ → ℕ
-      count cause = droppedFrom queues features cause end (partsOf Parts damaged)
+      count cause = droppedFrom queues features cause end (parts_of Parts damaged)
 
 -- ---- the call ----
 
@@ -148,30 +144,30 @@ salvage written list kept dropped left =
 
 -- what is not refused: a queue count and features of a setup, a list that is not too long, and buffers with room for what is
 -- written, each by its length
-unfoldable pub isTaken : ℕ → ℕ → ℕ → ℕ → ℕ → ℕ → Bool
-isTaken queues features damaged list kept dropped =
+unfoldable pub is_taken : ℕ → ℕ → ℕ → ℕ → ℕ → ℕ → Bool
+is_taken queues features damaged list kept dropped =
     within 1 4 queues and eqb features featuresSize and leb damaged longestList
-    and leb (partsSize queues) list and leb (partCount queues) kept and leb 4 dropped
+    and leb (partsSize queues) list and leb (part_count queues) kept and leb 4 dropped
 
 -- b is what was there before the call
 unfoldable pub salvaged : ℕ → List ℕ → List ℕ → Salvage → Salvage
 salvaged queues features damaged b =
     salvage (partsSize queues)
-    (put 0 (repaired queues features damaged) (b .list))
-    (put 0 (keptReport queues features damaged) (b .kept))
-    (put 0 (droppedReport queues features damaged) (b .dropped))
+    (put 0 (repaired queues features damaged) b.list)
+    (put 0 (keptReport queues features damaged) b.kept)
+    (put 0 (droppedReport queues features damaged) b.dropped)
     (leftOver damaged)
 
 -- what is refused writes nothing
 abbrev pub refused : Salvage → Salvage
-refused b = salvage 0 (b .list) (b .kept) (b .dropped) (b .left)
+refused b = salvage 0 b.list b.kept b.dropped b.left
 
 unfoldable pub salvageOf : ℕ → List ℕ → List ℕ → Salvage → Salvage
 salvageOf queues features damaged b =
-    if isTaken queues (length features) (length damaged) (length (b .list)) (length (b .kept)) (length (b .dropped))
+    if is_taken queues (length features) (length damaged) (length b.list) (length b.kept) (length b.dropped)
     then salvaged queues features damaged b
     else refused b
 
 -- s is what the setup says of the member; a bad setup, or a number that is no member's, is refused by the same name
 unfoldable pub salvageUnder : MemberSetup → List ℕ → Salvage → Salvage
-salvageUnder s damaged b = unless s .known answer refused b then salvageOf (s .queues) (s .features) damaged b
+salvageUnder s damaged b = unless s.known answer refused b then salvageOf s.queues s.features damaged b

@@ -1,18 +1,13 @@
 -- The walk over a damaged list with what it has kept and dropped so far, for the private functions that take it. No public
 -- contract cites this. Assumes nothing.
-use mathlib.Core.Bool.{not}
-use mathlib.Core.List.{List, [], _∷_}
-use mathlib.Core.Path.{_≡_}
-use Prim.Native.Nat.{ℕ, _+_, _≤_, _<_, _^_}
-use lib.Dec.{eqb}
-use lib.ListN.{length, getD, set}
-use Rattle·theory.specs.Logic.{if_then_else_, unless_answer_then_, indicator}
-use Rattle·theory.specs.Bytes.{put}
-use Rattle·theory.specs.Items.{itemsFrom}
-use Rattle·inventory.specs.Inventory.{featuresSize, rowAt, rowCount, present, offsetOf, valuesSize, partCount, partsSize, placeOf, onPlace}
-use Rattle·parts.specs.declared.ListForm.the-variants.{Parts}
-use Rattle·parts.specs.List.{Part, PartList, end, cut, part, partsOf, longestList}
-use Rattle·salvage·specs.specs.Salvage.{valueRight, unknown, copy, wrongSize, wrongValue, bytesRead}
+use Rattle.std.specs.Prelude.{not, List, [], ◌∷◌, ◌≡◌, ℕ, ◌+◌, ◌≤◌, ◌<◌, ◌^◌, eqb, length, get_or, set}
+use Rattle.theory.specs.Logic.{if◌then◌else◌, unless◌answer◌then◌, indicator}
+use Rattle.theory.specs.Bytes.{put}
+use Rattle.theory.specs.Items.{itemsFrom}
+use Rattle.inventory.specs.Inventory.{featuresSize, row_at, rowCount, present, offset_of, valuesSize, part_count, partsSize, place_of, onPlace}
+use Rattle.parts.specs.declared.ListForm.TheVariants.{Parts}
+use Rattle.parts.specs.List.{Part, PartList, end, cut, part, parts_of, longestList}
+use Rattle.salvage.specs.Salvage.{valueRight, unknown, copy, wrongSize, wrongValue, bytesRead}
 
 -- the values of all rows, for each row 1 if it is kept, and the parts dropped for each cause
 pub record State : Type 0 where
@@ -25,23 +20,23 @@ state values kept dropped = record { values = values; kept = kept; dropped = dro
 
 -- one more is dropped for a cause
 abbrev pub counted : List ℕ → ℕ → List ℕ
-counted dropped cause = set dropped cause (getD dropped cause 0 + 1)
+counted dropped cause = set dropped cause (get_or dropped cause 0 + 1)
 
 abbrev pub dropping : State → ℕ → State
-dropping s cause = state (s .values) (s .kept) (counted (s .dropped) cause)
+dropping s cause = state s.values s.kept (counted s.dropped cause)
 
 abbrev pub keeping : State → ℕ → List ℕ → State
-keeping s i value = state (put (offsetOf i) value (s .values)) (set (s .kept) i 1) (s .dropped)
+keeping s i value = state (put (offset_of i) value s.values) (set s.kept i 1) s.dropped
 
 -- the next part
 unfoldable pub taken : ℕ → List ℕ → Part → State → State
 taken queues features p s =
-    onPlace (placeOf queues (p .partType) (p .selector))
+    onPlace (place_of queues p.partType p.selector)
     (λ i.
-    unless eqb (getD (s .kept) i 0) 0 answer dropping s copy then
-    unless eqb (length (p .value)) (rowAt i .size) answer dropping s wrongSize then
+    unless eqb (get_or s.kept i 0) 0 answer dropping s copy then
+    unless eqb (length p.value) (row_at i).size answer dropping s wrongSize then
     unless valueRight features p answer dropping s wrongValue then
-    keeping s i (p .value))
+    keeping s i p.value)
     (dropping s unknown)
 
 -- all parts
@@ -52,21 +47,21 @@ walked queues features (part p ps) s = walked queues features ps (taken queues f
 
 -- how long what is lent is, that a flag is at most 1, and each count at most n
 pub record Sized (n : ℕ) (s : State) : Type 0 where
-  pub values : length (s .values) ≡ valuesSize
-  pub kept : length (s .kept) ≡ rowCount
-  pub dropped : length (s .dropped) ≡ 4
-  pub flags : (i : ℕ) → getD (s .kept) i 0 ≤ 1
-  pub counts : (cause : ℕ) → getD (s .dropped) cause 0 ≤ n
+  pub values : length s.values ≡ valuesSize
+  pub kept : length s.kept ≡ rowCount
+  pub dropped : length s.dropped ≡ 4
+  pub flags : (i : ℕ) → get_or s.kept i 0 ≤ 1
+  pub counts : (cause : ℕ) → get_or s.dropped cause 0 ≤ n
 
 -- there is a count for a cause, and it can grow
 pub record Countable (dropped : List ℕ) (cause : ℕ) : Type 0 where
   pub there : cause < length dropped
-  pub room : getD dropped cause 0 + 1 < 2 ^ 32
+  pub room : get_or dropped cause 0 + 1 < 2 ^ 32
 
 -- what a walk over a damaged list leaves, and where it stopped
 pub record Walked (queues : ℕ) (features damaged : List ℕ) (before after : State) (stop : ℕ) : Type 0 where
-  pub leaves : after ≡ walked queues features (partsOf Parts damaged) before
-  pub stops : stop ≡ bytesRead (partsOf Parts damaged)
+  pub leaves : after ≡ walked queues features (parts_of Parts damaged) before
+  pub stops : stop ≡ bytesRead (parts_of Parts damaged)
   pub inside : stop ≤ length damaged
 
 -- what it asks: nothing is dropped yet, and the list is not too long
@@ -77,16 +72,16 @@ pub record Begins (before : State) (damaged : List ℕ) : Type 0 where
 -- ---- the report of kept rows ----
 
 unfoldable pub flagItem : ℕ → List ℕ → ℕ → List ℕ
-flagItem queues kept i = if present queues (rowAt i) then indicator (not (eqb (getD kept i 0) 0)) ∷ [] else []
+flagItem queues kept i = if present queues (row_at i) then indicator (not (eqb (get_or kept i 0) 0)) ∷ [] else []
 
-unfoldable pub flagsOf : ℕ → List ℕ → List ℕ
-flagsOf queues kept = itemsFrom (flagItem queues kept) rowCount 0
+unfoldable pub flags_of : ℕ → List ℕ → List ℕ
+flags_of queues kept = itemsFrom (flagItem queues kept) rowCount 0
 
 -- a flag for each row, and room for those of the rows that the member has
 pub record KeptFits (queues : ℕ) (kept out : List ℕ) : Type 0 where
   pub few : queues < 5
   pub flags : length kept ≡ rowCount
-  pub room : partCount queues ≤ length out
+  pub room : part_count queues ≤ length out
 
 -- ---- what is not refused ----
 
@@ -95,5 +90,5 @@ pub record Fits (queues : ℕ) (features damaged list kept dropped : List ℕ) :
   pub features-long : length features ≡ featuresSize
   pub short : length damaged ≤ longestList
   pub list-room : partsSize queues ≤ length list
-  pub kept-room : partCount queues ≤ length kept
+  pub kept-room : part_count queues ≤ length kept
   pub dropped-room : 4 ≤ length dropped

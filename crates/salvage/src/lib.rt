@@ -1,22 +1,14 @@
 // A damaged list of parts made into one that step 10 passes, with a report: 02, request 8.
-ghost use mathlib.Core.Path.{_≡_};
-ghost use Prim.Native.Nat.{_≤_};
-ghost use lib.ListN.{length};
-ghost use Rattle·theory.specs.Bytes.{put};
-ghost use Rattle·parts.specs.List.{partWith, longestList};
-ghost use Rattle·setups.specs.Member.{memberSetup};
-ghost use Rattle·salvage·specs.specs.Salvage.{valueRight, salvage, salvaged, isTaken, salvageOf, salvageUnder};
-ghost use Rattle·salvage·specs.specs.Walk.{counted, state, taken, Sized, Countable, Walked, Begins, flagsOf, KeptFits, Fits};
-use inventory::DEVICE_FEATURES;
-use inventory::Place;
-use inventory::ROWS;
-use inventory::SELECTORS;
-use inventory::TYPES;
-use member::FEATURES_SIZE;
-use member::VALUES_SIZE;
-use parts::LONGEST_LIST;
-use parts::ListForm;
-use parts::Step;
+ghost use Rattle.std.specs.Prelude.{◌≡◌, ◌≤◌, length};
+ghost use Rattle.theory.specs.Bytes.{put};
+ghost use Rattle.parts.specs.List.{partWith, longestList};
+ghost use Rattle.setups.specs.Member.{memberSetup};
+ghost use Rattle.salvage.specs.Salvage.{valueRight, salvage, salvaged, is_taken, salvageOf, salvageUnder};
+ghost use Rattle.salvage.specs.Walk.{counted, state, taken, Sized, Countable, Walked, Begins, flags_of, KeptFits, Fits};
+
+use inventory::{DEVICE_FEATURES, Place, ROWS, SELECTORS, TYPES};
+use member::{FEATURES_SIZE, VALUES_SIZE};
+use parts::{LONGEST_LIST, ListForm, Step};
 
 // The causes for which parts are dropped, by their place in the report.
 const UNKNOWN: usize = 0;
@@ -31,7 +23,7 @@ const CAUSES: usize = 4;
 
 // Whether a known part's value is right: a queue's size is one that a ring has, and device features are those given.
 fn is_value_right(features: &[u8], t: u16, value: &[u8]) -> bool
-    ensures { λ r. ⌜ r ≡ valueRight (now (features .entry)) (partWith t 0 0 (now (value .entry))) ⌝ }
+    ensures { result ≡ valueRight features.now (partWith t 0 0 value.now) }
 {
     if !inventory::is_value_allowed(t, value) {
         return false;
@@ -44,8 +36,8 @@ fn is_value_right(features: &[u8], t: u16, value: &[u8]) -> bool
 
 // One more part is dropped for a cause.
 fn count(dropped: &mut [u32], cause: usize)
-    requires { ⌜ Countable (now dropped) cause ⌝ }
-    ensures { λ _. ⌜ now (dropped .exit) ≡ counted (now (dropped .entry)) cause ⌝ }
+    requires { Countable dropped.old cause }
+    ensures { dropped.new ≡ counted dropped.old cause }
 {
     dropped[cause] += 1;
 }
@@ -61,8 +53,8 @@ fn take_part(
     selector: u64,
     value: &[u8],
 )
-    requires { ⌜ Sized longestList (state (now values) (now kept) (now dropped)) ⌝ }
-    ensures { λ _. ⌜ state (now (values .exit)) (now (kept .exit)) (now (dropped .exit)) ≡ taken queues (now (features .entry)) (partWith t 0 selector (now (value .entry))) (state (now (values .entry)) (now (kept .entry)) (now (dropped .entry))) ⌝ }
+    requires { Sized longestList (state values.old kept.old dropped.old) }
+    ensures { state values.new kept.new dropped.new ≡ taken queues features.now (partWith t 0 selector value.now) (state values.old kept.old dropped.old) }
 {
     let Place::At(i) = inventory::place_of(queues, t, selector) else {
         count(dropped, UNKNOWN);
@@ -93,8 +85,8 @@ fn read_parts(
     features: &[u8],
     damaged: &[u8],
 ) -> usize
-    requires { ⌜ Begins (state (now values) (now kept) (now dropped)) (now damaged) ⌝ }
-    ensures { λ r. ⌜ Walked queues (now (features .entry)) (now (damaged .entry)) (state (now (values .entry)) (now (kept .entry)) (now (dropped .entry))) (state (now (values .exit)) (now (kept .exit)) (now (dropped .exit))) r ⌝ }
+    requires { Begins (state values.old kept.old dropped.old) damaged.now }
+    ensures { Walked queues features.now damaged.now (state values.old kept.old dropped.old) (state values.new kept.new dropped.new) result }
 {
     let mut at = 0;
     loop {
@@ -125,8 +117,8 @@ fn read_parts(
 
 // For every part of the inventory 1 if its row is kept, else 0.
 fn write_kept(out: &mut [u8], rows: &[u8], queues: u8)
-    requires { ⌜ KeptFits queues (now rows) (now out) ⌝ }
-    ensures { λ _. ⌜ now (out .exit) ≡ put 0 (flagsOf queues (now (rows .entry))) (now (out .entry)) ⌝ }
+    requires { KeptFits queues rows.now out.old }
+    ensures { out.new ≡ put 0 (flags_of queues rows.now) out.old }
 {
     let types = TYPES;
     let selectors = SELECTORS;
@@ -145,8 +137,8 @@ fn write_kept(out: &mut [u8], rows: &[u8], queues: u8)
 
 // The counts of the report, at the front of what is lent.
 fn write_counts(out: &mut [u32], counts: [u32; CAUSES])
-    requires { ⌜ 4 ≤ length (now out) ⌝ }
-    ensures { λ _. ⌜ now (out .exit) ≡ put 0 counts (now (out .entry)) ⌝ }
+    requires { 4 ≤ length out.old }
+    ensures { out.new ≡ put 0 counts out.old }
 {
     out[UNKNOWN] = counts[UNKNOWN];
     out[COPY] = counts[COPY];
@@ -164,8 +156,8 @@ fn repair(
     dropped: &mut [u32],
     left: &mut usize,
 ) -> usize
-    requires { ⌜ Fits queues (now features) (now damaged) (now list) (now kept) (now dropped) ⌝ }
-    ensures { λ r. ⌜ salvage r (now (list .exit)) (now (kept .exit)) (now (dropped .exit)) (now (left .exit)) ≡ salvaged queues (now (features .entry)) (now (damaged .entry)) (salvage 0 (now (list .entry)) (now (kept .entry)) (now (dropped .entry)) (now (left .entry))) ⌝ }
+    requires { Fits queues features.now damaged.now list.old kept.old dropped.old }
+    ensures { salvage result list.new kept.new dropped.new left.new ≡ salvaged queues features.now damaged.now (salvage 0 list.old kept.old dropped.old left.old) }
 {
     let mut values = [0u8; VALUES_SIZE];
     wire::copy(&mut values, 0, features);
@@ -195,7 +187,7 @@ fn is_taken(
     kept: usize,
     dropped: usize,
 ) -> bool
-    ensures { λ r. ⌜ r ≡ isTaken queues features damaged list kept dropped ⌝ }
+    ensures { result ≡ is_taken queues features damaged list kept dropped }
 {
     let size = inventory::parts_size(queues) as usize;
     let count = inventory::part_count(queues) as usize;
@@ -219,7 +211,7 @@ fn salvage_in(
     dropped: &mut [u32],
     left: &mut usize,
 ) -> usize
-    ensures { λ r. ⌜ salvage r (now (list .exit)) (now (kept .exit)) (now (dropped .exit)) (now (left .exit)) ≡ salvageOf queues (now (features .entry)) (now (damaged .entry)) (salvage 0 (now (list .entry)) (now (kept .entry)) (now (dropped .entry)) (now (left .entry))) ⌝ }
+    ensures { salvage result list.new kept.new dropped.new left.new ≡ salvageOf queues features.now damaged.now (salvage 0 list.old kept.old dropped.old left.old) }
 {
     if !is_taken(
         queues,
@@ -244,7 +236,7 @@ pub fn salvage(
     dropped: &mut [u32],
     left: &mut usize,
 ) -> usize
-    ensures { λ r. ⌜ salvage r (now (list .exit)) (now (kept .exit)) (now (dropped .exit)) (now (left .exit)) ≡ salvageUnder (memberSetup (now (setup .entry)) member) (now (damaged .entry)) (salvage 0 (now (list .entry)) (now (kept .entry)) (now (dropped .entry)) (now (left .entry))) ⌝ }
+    ensures { salvage result list.new kept.new dropped.new left.new ≡ salvageUnder (memberSetup setup.now member) damaged.now (salvage 0 list.old kept.old dropped.old left.old) }
 {
     let m = setups::member_setup(setup, member);
     if !m.known {

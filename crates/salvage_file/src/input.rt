@@ -1,10 +1,10 @@
 // The number that an argument is.
-ghost use mathlib.Core.Path.{_≡_};
-ghost use Rattle·salvage_file·specs.specs.Number.{numberOf};
+ghost use Rattle.std.specs.Prelude.{◌≡◌};
+ghost use Rattle.salvage_file.specs.Number.{number_of};
 
 // A decimal number up to 999, or 0, which is no member's.
 pub fn number(text: &[u8]) -> u64
-    ensures { λ r. ⌜ r ≡ numberOf (now (text .entry)) ⌝ }
+    ensures { result ≡ number_of text.now }
 {
     let mut n: u64 = 0;
     let mut i = 0;

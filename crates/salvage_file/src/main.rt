@@ -3,9 +3,9 @@
 mod input;
 mod report;
 
-ghost use Rattle·io.specs.Counts.{Counts};
-use libc::STDIN_FILENO;
-use libc::STDOUT_FILENO;
+ghost use Rattle.io.specs.Counts.{IsPrefixLen};
+
+use libc::{STDIN_FILENO, STDOUT_FILENO};
 
 // One byte more than the longest setup, of 16 members in version 2, and one more than the longest list: what is longer than
 // these is refused for its length.
@@ -33,7 +33,7 @@ fn salvaged(
     dropped: &mut [u32],
     left: &mut usize,
 ) -> usize
-    ensures { λ r. ⌜ Counts r (now (list .exit)) ⌝ }
+    ensures { IsPrefixLen result list.new }
 {
     salvage::salvage(setup, member, damaged, list, kept, dropped, left)
 }

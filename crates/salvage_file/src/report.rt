@@ -1,7 +1,5 @@
 // What is said on standard error: the report of a list that is written, or why none is.
-use inventory::ROWS;
-use inventory::SELECTORS;
-use inventory::TYPES;
+use inventory::{ROWS, SELECTORS, TYPES};
 use libc::STDERR_FILENO;
 
 fn print(text: &[u8]) {

@@ -1,40 +1,40 @@
 -- Which setups are written, and which packed ones are read. Assumes nothing.
-use mathlib.Core.Path.{_≡_, refl, ap, sym, _∙_}
+use mathlib.Core.Path.{◌≡◌, refl, ap, sym, ◌∙◌}
 use mathlib.Core.Bool.{true, false}
 use mathlib.Core.List.{List}
-use Prim.Native.Nat.{ℕ, _+_, _/_, _≤_, _<_}
+use Prim.Native.Nat.{ℕ, ◌+◌, ◌/◌, ◌≤◌, ◌<◌}
 use native.Mathlib.Omega.{arith}
-use borrow.Author.Tests.{eqb-true, leb-true, le-leb, eq-eqb, ne-eqb}
+use borrow.Author.Tests.{eqb-true, leb-true, le-leb, eq-eqb, ne_eqb}
 use lib.Dec.{leb, eqb}
-use lib.ListN.{length, getD, length-append}
-use Rattle·theory.specs.Logic.{if_then_else_, unless_answer_then_}
-use Rattle·theory.specs.Bytes.{put}
-use Rattle·theory.proofs.Tests.{by-cases, both, and-i, inside, within-low, within-high}
-use Rattle·theory.proofs.Ladder.{pass}
-use Rattle·setups·specs.specs.Bits.{bitsAt, packed}
-use Rattle·setups·specs.specs.Setup.{featuresSize, inRanges, isCount, inNumbers}
-use Rattle·setups·specs.specs.Reading.{versionIn, membersIn, headRight, isVersion1, isVersion2, takeVersion1, takeVersion2, readVersion1, readSetup}
-use Rattle·setups·specs.specs.Writing.{headFields, firstCount, areEqual, fieldsOf, packedSetup, placed, written, InNumbers}
-use Rattle·setups·specs.specs.Accepted.{GoodSetup, EqualCounts, Writer, Packed1, Packed2, Readers}
-use Rattle·setups·proofs.proofs.Ranges.{all-at, all-of, numbers-in}
-use Rattle·setups·proofs.proofs.Fields.{length-big}
-use Rattle·setups·proofs.proofs.Writing.{widths-head, widths-version-2}
+use lib.ListN.{length, get_or, length-append}
+use Rattle.theory.specs.Logic.{if◌then◌else◌, unless◌answer◌then◌}
+use Rattle.theory.specs.Bytes.{put}
+use Rattle.theory.proofs.Tests.{by_cases, both, and_i, inside, within_low, within-high}
+use Rattle.theory.proofs.Ladder.{pass}
+use Rattle.setups.specs.Bits.{bits_at, packed}
+use Rattle.setups.specs.Setup.{featuresSize, inRanges, isCount, inNumbers}
+use Rattle.setups.specs.Reading.{versionIn, membersIn, headRight, isVersion1, isVersion2, takeVersion1, takeVersion2, readVersion1, readSetup}
+use Rattle.setups.specs.Writing.{headFields, firstCount, areEqual, fields_of, packedSetup, placed, written, InNumbers}
+use Rattle.setups.specs.Accepted.{GoodSetup, EqualCounts, Writer, Packed1, Packed2, Readers}
+use Rattle.setups.proofs.Ranges.{all-at, all_of, numbers-in}
+use Rattle.setups.proofs.Fields.{length-big}
+use Rattle.setups.proofs.Writing.{widths-head, widths-version-2}
 
 -- ---- setups ----
 
 module _ (members : ℕ) (q : List ℕ) (gets sets : ℕ) (features : List ℕ) where
   pub numbers-good : InNumbers members q gets sets → length features ≡ 16 → GoodSetup members q gets sets features
   numbers-good n l =
-      let each = n .each in
-      let count : (i : ℕ) → i < members → isCount (getD q i 0) ≡ true = λ i h. all-at isCount q i (n .counts) (omega arith) in
+      let each = n.each in
+      let count : (i : ℕ) → i < members → isCount (get_or q i 0) ≡ true = λ i h. all-at isCount q i n.counts (omega arith) in
       record {
-        some = n .some;
-        few = n .few;
-        each = n .each;
-        least = λ i h. within-low 1 4 (getD q i 0) (count i h);
-        most = λ i h. within-high 1 4 (getD q i 0) (count i h);
-        fewGets = n .fewGets;
-        fewSets = n .fewSets;
+        some = n.some;
+        few = n.few;
+        each = n.each;
+        least = λ i h. within_low 1 4 (get_or q i 0) (count i h);
+        most = λ i h. within-high 1 4 (get_or q i 0) (count i h);
+        fewGets = n.fewGets;
+        fewSets = n.fewSets;
         long = l;
       }
 
@@ -42,39 +42,39 @@ module _ (members : ℕ) (q : List ℕ) (gets sets : ℕ) (features : List ℕ) 
     pub good-numbers : inNumbers members q gets sets ≡ true
     unfolding inNumbers inRanges
     good-numbers =
-        let each = h .each in
-        and-i _ _ (and-i _ _ (and-i _ _ (and-i _ _ (inside 1 16 members (h .some) (h .few)) (le-leb gets 8 (h .fewGets)))
-        (le-leb sets 8 (h .fewSets)))
+        let each = h.each in
+        and_i _ _ (and_i _ _ (and_i _ _ (and_i _ _ (inside 1 16 members h.some h.few) (le-leb gets 8 h.fewGets))
+        (le-leb sets 8 h.fewSets))
         (eq-eqb (length q) members each))
-        (all-of isCount q λ i k. inside 1 4 (getD q i 0) (h .least i (omega arith)) (h .most i (omega arith)))
+        (all_of isCount q λ i k. inside 1 4 (get_or q i 0) (h.least i (omega arith)) (h.most i (omega arith)))
 
     packed-1-long : areEqual q ≡ true → length (packedSetup members q gets sets features) ≡ 19
-    unfolding packedSetup packed fieldsOf if_then_else_
-    packed-1-long e = rw (e, length-append, length-big, h .long, widths-head)
+    unfolding packedSetup packed fields_of if◌then◌else◌
+    packed-1-long e = rw (e, length-append, length-big, h.long, widths-head)
 
     packed-2-long : areEqual q ≡ false → length (packedSetup members q gets sets features) ≡ 19 + (members + 3) / 4
-    unfolding packedSetup packed fieldsOf if_then_else_
+    unfolding packedSetup packed fields_of if◌then◌else◌
     packed-2-long e =
         rw (
           e,
           length-append,
           length-big,
-          h .long,
+          h.long,
           widths-version-2 (headFields 2 members 0 gets sets) q,
           widths-head 2 members 0 gets sets,
-          h .each,
+          h.each,
         ) (omega arith)
 
 equal-counts : (q : List ℕ) → EqualCounts q → areEqual q ≡ true
 unfolding areEqual
-equal-counts q h = all-of (eqb (firstCount q)) q λ i k. eq-eqb _ _ (sym (h i k))
+equal-counts q h = all_of (eqb (firstCount q)) q λ i k. eq-eqb _ _ (sym (h i k))
 
 counts-equal : (q : List ℕ) → areEqual q ≡ true → EqualCounts q
 unfolding areEqual
 counts-equal q e i h = sym (eqb-true _ _ (all-at (eqb (firstCount q)) q i e h))
 
 pub unequal-counts : (q : List ℕ) → (EqualCounts q → ⊥) → areEqual q ≡ false
-unequal-counts q n = by-cases (areEqual q) (λ e. absurd (n (counts-equal q e))) (λ e. e)
+unequal-counts q n = by_cases (areEqual q) (λ e. absurd (n (counts-equal q e))) (λ e. e)
 
 -- ---- the writer ----
 
@@ -88,21 +88,21 @@ module _ (buffer : List ℕ) (members : ℕ) (q : List ℕ) (gets sets : ℕ) (f
     pub after : b ≡ put 0 (packedSetup members q gets sets features) buffer
 
   pub written-cases : {P : Type 0} (n : ℕ) (b : List ℕ)
-      → _≡_ {A = ℕ × List ℕ} (n, b) (written buffer members q gets sets features)
-      → (_≡_ {A = ℕ × List ℕ} (n, b) (0, buffer) → P) → (Some n b → P) → P
-  unfolding written placed unless_answer_then_
+      → ◌≡◌ {A = ℕ × List ℕ} (n, b) (written buffer members q gets sets features)
+      → (◌≡◌ {A = ℕ × List ℕ} (n, b) (0, buffer) → P) → (Some n b → P) → P
+  unfolding written placed unless◌answer◌then◌
   written-cases n b e f g =
-      by-cases (inNumbers members q gets sets)
-      (λ t. by-cases (eqb (length features) featuresSize)
-      (λ u. by-cases (leb (length (packedSetup members q gets sets features)) (length buffer))
+      by_cases (inNumbers members q gets sets)
+      (λ t. by_cases (eqb (length features) featuresSize)
+      (λ u. by_cases (leb (length (packedSetup members q gets sets features)) (length buffer))
       (λ v.
       let d = rw (t, u, v) at e in
       g (record {
         numbers = numbers-in members q gets sets t;
         long = eqb-true _ _ u;
         fits = leb-true _ _ v;
-        count = ap (λ (x : ℕ × List ℕ). x .0) d;
-        after = ap (λ (x : ℕ × List ℕ). x .1) d;
+        count = ap (λ (x : ℕ × List ℕ). x.0) d;
+        after = ap (λ (x : ℕ × List ℕ). x.1) d;
       }))
       (λ v. f (rw (t, u, v) at e))) (λ u. f (rw (t, u) at e))) (λ t. f (rw t at e))
 
@@ -112,29 +112,29 @@ module _ (buffer : List ℕ) (members : ℕ) (q : List ℕ) (gets sets : ℕ) (f
   unfolding written placed
   written-good h k =
       sym (pass _ _ _ _ (good-numbers members q gets sets features h)
-      (pass _ _ _ _ (eq-eqb _ _ (h .long)) (pass _ _ _ _ (le-leb _ _ k) refl)))
+      (pass _ _ _ _ (eq-eqb _ _ h.long) (pass _ _ _ _ (le-leb _ _ k) refl)))
 
   size-written : GoodSetup members q gets sets features → (n : ℕ) → length (packedSetup members q gets sets features) ≡ n
       → n ≤ length buffer
-      → written buffer members q gets sets features .0 ≡ n
-  size-written h n e k = ap (λ (x : ℕ × List ℕ). x .0) (written-good h (rw e k)) ∙ e
+      → (written buffer members q gets sets features).0 ≡ n
+  size-written h n e k = ap (λ (x : ℕ × List ℕ). x.0) (written-good h (rw e k)) ∙ e
 
   -- whatever rules out that something was written
-  none-written : ((n : ℕ) (b : List ℕ) → Some n b → ⊥) → written buffer members q gets sets features .0 ≡ 0
-  none-written f = written-cases _ _ refl (λ e. ap (λ (x : ℕ × List ℕ). x .0) e) (λ s. absurd (f _ _ s))
+  none_written : ((n : ℕ) (b : List ℕ) → Some n b → ⊥) → (written buffer members q gets sets features).0 ≡ 0
+  none_written f = written-cases _ _ refl (λ e. ap (λ (x : ℕ × List ℕ). x.0) e) (λ s. absurd (f _ _ s))
 
-  some-good : (n : ℕ) (b : List ℕ) → Some n b → GoodSetup members q gets sets features
-  some-good n b s = numbers-good members q gets sets features (s .numbers) (s .long)
+  some_good : (n : ℕ) (b : List ℕ) → Some n b → GoodSetup members q gets sets features
+  some_good n b s = numbers-good members q gets sets features s.numbers s.long
 
   pub writes : Writer buffer members q gets sets features
   writes = record {
     version1 = λ h e. size-written h 19 (packed-1-long members q gets sets features h (equal-counts q e));
     version2 = λ h e. size-written h (19 + (members + 3) / 4) (packed-2-long members q gets sets features h (unequal-counts q e));
-    bad = λ h. none-written λ n b s. h (some-good n b s);
-    short1 = λ e h. none-written λ n b s.
-        let l = packed-1-long members q gets sets features (some-good n b s) (equal-counts q e) in omega (arith, s .fits);
-    short2 = λ e h. none-written λ n b s.
-        let l = packed-2-long members q gets sets features (some-good n b s) (unequal-counts q e) in omega (arith, s .fits);
+    bad = λ h. none_written λ n b s. h (some_good n b s);
+    short1 = λ e h. none_written λ n b s.
+        let l = packed-1-long members q gets sets features (some_good n b s) (equal-counts q e) in omega (arith, s.fits);
+    short2 = λ e h. none_written λ n b s.
+        let l = packed-2-long members q gets sets features (some_good n b s) (unequal-counts q e) in omega (arith, s.fits);
   }
 
 -- ---- the readers ----
@@ -144,67 +144,67 @@ module _ (l : List ℕ) where
   unfolding isVersion1 headRight
   packed-version-1 t =
       let a = both _ _ t in
-      let b = both _ _ (a .0) in
-      let c = both _ _ (a .1) in
-      let d = both _ _ (c .0) in
+      let b = both _ _ a.0 in
+      let c = both _ _ a.1 in
+      let d = both _ _ c.0 in
       record {
-        version = eqb-true _ _ (b .0);
-        long = eqb-true _ _ (b .1);
-        fewGets = leb-true _ _ (d .1);
-        fewSets = leb-true _ _ (c .1);
-        zeros = eqb-true _ _ (d .0);
+        version = eqb-true _ _ b.0;
+        long = eqb-true _ _ b.1;
+        fewGets = leb-true _ _ d.1;
+        fewSets = leb-true _ _ c.1;
+        zeros = eqb-true _ _ d.0;
       }
 
   version-1-packed : Packed1 l → isVersion1 l ≡ true
   unfolding isVersion1 headRight
   version-1-packed p =
-      and-i _ _ (and-i _ _ (eq-eqb _ _ (p .version)) (eq-eqb _ _ (p .long)))
-      (and-i _ _ (and-i _ _ (eq-eqb _ _ (p .zeros)) (le-leb _ _ (p .fewGets))) (le-leb _ _ (p .fewSets)))
+      and_i _ _ (and_i _ _ (eq-eqb _ _ p.version) (eq-eqb _ _ p.long))
+      (and_i _ _ (and_i _ _ (eq-eqb _ _ p.zeros) (le-leb _ _ p.fewGets)) (le-leb _ _ p.fewSets))
 
   not-version-1 : (Packed1 l → ⊥) → isVersion1 l ≡ false
-  not-version-1 f = by-cases (isVersion1 l) (λ t. absurd (f (packed-version-1 t))) (λ t. t)
+  not-version-1 f = by_cases (isVersion1 l) (λ t. absurd (f (packed-version-1 t))) (λ t. t)
 
-  pub packed-version-2 : bitsAt 0 4 l ≡ 2 → isVersion2 (membersIn l) l ≡ true → Packed2 (bitsAt 4 4 l + 1) l
+  pub packed-version-2 : bits_at 0 4 l ≡ 2 → isVersion2 (membersIn l) l ≡ true → Packed2 (bits_at 4 4 l + 1) l
   unfolding isVersion2 headRight
   packed-version-2 v t =
       let a = both _ _ t in
-      let b = both _ _ (a .0) in
-      let c = both _ _ (b .0) in
-      let d = both _ _ (c .1) in
-      let e = both _ _ (d .0) in
-      let h = eqb-true _ _ (c .0) in
+      let b = both _ _ a.0 in
+      let c = both _ _ b.0 in
+      let d = both _ _ c.1 in
+      let e = both _ _ d.0 in
+      let h = eqb-true _ _ c.0 in
       record {
         version = v;
         members = refl;
         long = h ∙ omega arith;
-        noCount = eqb-true _ _ (b .1);
-        fewGets = leb-true _ _ (e .1);
-        fewSets = leb-true _ _ (d .1);
-        zeros = eqb-true _ _ (e .0);
-        padding = eqb-true _ _ (a .1);
+        noCount = eqb-true _ _ b.1;
+        fewGets = leb-true _ _ e.1;
+        fewSets = leb-true _ _ d.1;
+        zeros = eqb-true _ _ e.0;
+        padding = eqb-true _ _ a.1;
       }
 
-  not-version-2 : bitsAt 0 4 l ≡ 2 → (Packed2 (bitsAt 4 4 l + 1) l → ⊥) → isVersion2 (membersIn l) l ≡ false
-  not-version-2 v f = by-cases (isVersion2 (membersIn l) l) (λ t. absurd (f (packed-version-2 v t))) (λ t. t)
+  not-version-2 : bits_at 0 4 l ≡ 2 → (Packed2 (bits_at 4 4 l + 1) l → ⊥) → isVersion2 (membersIn l) l ≡ false
+  not-version-2 v f = by_cases (isVersion2 (membersIn l) l) (λ t. absurd (f (packed-version-2 v t))) (λ t. t)
 
   version-2-packed : (n : ℕ) → Packed2 n l → isVersion2 (membersIn l) l ≡ true
   unfolding isVersion2 headRight
   version-2-packed n p =
-      rw (p .members)
-      (and-i _ _ (and-i _ _ (and-i _ _ (eq-eqb _ _ (p .long ∙ omega arith))
-      (and-i _ _ (and-i _ _ (eq-eqb _ _ (p .zeros)) (le-leb _ _ (p .fewGets))) (le-leb _ _ (p .fewSets))))
-      (eq-eqb _ _ (p .noCount))) (eq-eqb _ _ (p .padding)))
+      rw p.members
+      (and_i _ _ (and_i _ _ (and_i _ _ (eq-eqb _ _ (p.long ∙ omega arith))
+      (and_i _ _ (and_i _ _ (eq-eqb _ _ p.zeros) (le-leb _ _ p.fewGets)) (le-leb _ _ p.fewSets)))
+      (eq-eqb _ _ p.noCount)) (eq-eqb _ _ p.padding))
 
   pub reads : Readers l
-  unfolding readVersion1 readSetup takeVersion1 takeVersion2 if_then_else_ unless_answer_then_
+  unfolding readVersion1 readSetup takeVersion1 takeVersion2 if◌then◌else◌ unless◌answer◌then◌
   reads = record {
     read1 = λ p.
-        let a : eqb (versionIn l) 2 ≡ false = ne-eqb _ 2 (λ (e : versionIn l ≡ 2). omega (arith, p .version)) in
+        let a : eqb (versionIn l) 2 ≡ false = ne_eqb _ 2 (λ (e : versionIn l ≡ 2). omega (arith, p.version)) in
         (rw (a, version-1-packed p), rw (a, version-1-packed p));
-    read2 = λ n p. let a : eqb (versionIn l) 2 ≡ true = eq-eqb _ 2 (p .version) in rw (a, version-2-packed n p);
+    read2 = λ n p. let a : eqb (versionIn l) 2 ≡ true = eq-eqb _ 2 p.version in rw (a, version-2-packed n p);
     named2 = λ e. rw (eq-eqb (versionIn l) 2 e);
-    refused1 = λ f v. let a : eqb (versionIn l) 2 ≡ false = ne-eqb _ 2 v in rw (a, not-version-1 f);
-    refused = λ f g. by-cases (eqb (versionIn l) 2)
+    refused1 = λ f v. let a : eqb (versionIn l) 2 ≡ false = ne_eqb _ 2 v in rw (a, not-version-1 f);
+    refused = λ f g. by_cases (eqb (versionIn l) 2)
         (λ a. rw (a, not-version-2 (eqb-true _ 2 a) g))
         (λ a. rw (a, not-version-1 f));
   }

@@ -1,23 +1,23 @@
 -- The claims hold. Assumes nothing.
-use mathlib.Core.Path.{_≡_, refl, ap, sym}
+use mathlib.Core.Path.{◌≡◌, refl, ap, sym}
 use mathlib.Core.List.{List}
-use Prim.Native.Nat.{ℕ, _≤_}
+use Prim.Native.Nat.{ℕ, ◌≤◌}
 use native.Mathlib.Omega.{arith}
 use lib.Dec.{eqb}
 use lib.ListN.{length, take, length-append}
-use lib.Seq.{take-at}
-use Rattle·theory.specs.Logic.{if_then_else_}
-use Rattle·theory.proofs.Tests.{by-cases, never}
-use Rattle·theory.proofs.Bytes.{put-front, drop-after}
-use Rattle·setups·specs.specs.declared.ReadAnswer.the-variants.{Done, Version2}
-use Rattle·setups·specs.specs.Reading.{versionIn, readVersion1, readSetup}
-use Rattle·setups·specs.specs.Writing.{packedSetup, written}
-use Rattle·setups·specs.specs.Claims.{ReadsBack, InRange, Claims}
-use Rattle·setups·proofs.proofs.ReadBack.{reads-back, reads-version-1}
-use Rattle·setups·proofs.proofs.InRange.{read-cases}
-use Rattle·setups·proofs.proofs.Member.{member-in-range}
-use Rattle·setups·proofs.proofs.Accepted.{written-cases, writes, reads}
-use Rattle·setups·proofs.proofs.WrittenBack.{written-back}
+use lib.Seq.{take_at}
+use Rattle.theory.specs.Logic.{if◌then◌else◌}
+use Rattle.theory.proofs.Tests.{by_cases, never}
+use Rattle.theory.proofs.Bytes.{put_front, drop-after}
+use Rattle.setups.specs.declared.ReadAnswer.TheVariants.{Done, Version2}
+use Rattle.setups.specs.Reading.{versionIn, readVersion1, readSetup}
+use Rattle.setups.specs.Writing.{packedSetup, written}
+use Rattle.setups.specs.Claims.{ReadsBack, InRange, Claims}
+use Rattle.setups.proofs.ReadBack.{reads-back, reads-version-1}
+use Rattle.setups.proofs.InRange.{read-cases}
+use Rattle.setups.proofs.Member.{member-in-range}
+use Rattle.setups.proofs.Accepted.{written-cases, writes, reads}
+use Rattle.setups.proofs.WrittenBack.{written_back}
 
 -- ---- the writer ----
 
@@ -26,49 +26,49 @@ module _ (buffer : List ℕ) (members : ℕ) (q : List ℕ) (gets sets : ℕ) (f
   unfolding packedSetup
   not-empty = rw length-append (omega arith)
 
-  module _ (n : ℕ) (b : List ℕ) (e : _≡_ {A = ℕ × List ℕ} (n, b) (written buffer members q gets sets features)) where
-    refused-leaves : _≡_ {A = ℕ × List ℕ} (n, b) (0, buffer) → b ≡ buffer
-    refused-leaves d = ap (λ (x : ℕ × List ℕ). x .1) d
+  module _ (n : ℕ) (b : List ℕ) (e : ◌≡◌ {A = ℕ × List ℕ} (n, b) (written buffer members q gets sets features)) where
+    refused-leaves : ◌≡◌ {A = ℕ × List ℕ} (n, b) (0, buffer) → b ≡ buffer
+    refused-leaves d = ap (λ (x : ℕ × List ℕ). x.1) d
 
-    read-back : (n ≡ 0 → ⊥) → ReadsBack buffer members q gets sets features n b
-    read-back z = written-cases buffer members q gets sets features n b e (λ d. absurd (z (ap (λ (x : ℕ × List ℕ). x .0) d))) λ s.
+    read_back : (n ≡ 0 → ⊥) → ReadsBack buffer members q gets sets features n b
+    read_back z = written-cases buffer members q gets sets features n b e (λ d. absurd (z (ap (λ (x : ℕ × List ℕ). x.0) d))) λ s.
         let x = packedSetup members q gets sets features in
-        let k : n ≡ length x = s .count in
-        let t : take n b ≡ x = rw (s .after, put-front x buffer (s .fits)) (take-at x _ n (sym k)) in
+        let k : n ≡ length x = s.count in
+        let t : take n b ≡ x = rw (s.after, put_front x buffer s.fits) (take_at x _ n (sym k)) in
         record {
-          sameSetup = rw t (reads-back members q gets sets (s .numbers) features (s .long));
-          byVersion1 = rw t (reads-version-1 members q gets sets (s .numbers) features (s .long));
-          restKept = rw (s .after) (drop-after n 0 x buffer (omega arith));
+          sameSetup = rw t (reads-back members q gets sets s.numbers features s.long);
+          byVersion1 = rw t (reads-version-1 members q gets sets s.numbers features s.long);
+          restKept = rw s.after (drop-after n 0 x buffer (omega arith));
         }
 
-    nothing-written : n ≡ 0 → b ≡ buffer
-    nothing-written z = written-cases buffer members q gets sets features n b e refused-leaves λ s. absurd (omega (arith, not-empty))
+    nothing_written : n ≡ 0 → b ≡ buffer
+    nothing_written z = written-cases buffer members q gets sets features n b e refused-leaves λ s. absurd (omega (arith, not-empty))
 
 -- ---- the readers ----
 
-read-alike : (l : List ℕ) → readVersion1 l .answer ≡ Done → readSetup l ≡ readVersion1 l
-unfolding readVersion1 readSetup if_then_else_
-read-alike l e = by-cases (eqb (versionIn l) 2) (λ t. let d = rw t at e in cc) (λ t. rw t)
+read_alike : (l : List ℕ) → (readVersion1 l).answer ≡ Done → readSetup l ≡ readVersion1 l
+unfolding readVersion1 readSetup if◌then◌else◌
+read_alike l e = by_cases (eqb (versionIn l) 2) (λ t. let d = rw t at e in cc) (λ t. rw t)
 
-never-named : (l : List ℕ) → readSetup l .answer ≡ Version2 → ⊥
+never-named : (l : List ℕ) → (readSetup l).answer ≡ Version2 → ⊥
 never-named l =
-    read-cases (λ o. o .answer ≡ Version2 → ⊥) l (λ e. never cc)
+    read-cases (λ o. o.answer ≡ Version2 → ⊥) l (λ e. never cc)
     (λ s r e. never cc)
 
-in-range : (l : List ℕ) → readSetup l .answer ≡ Done → InRange (readSetup l .setup)
+in-range : (l : List ℕ) → (readSetup l).answer ≡ Done → InRange (readSetup l).setup
 in-range l =
-    read-cases (λ o. o .answer ≡ Done → InRange (o .setup)) l (λ e. never cc)
+    read-cases (λ o. o.answer ≡ Done → InRange o.setup) l (λ e. never cc)
     (λ s r e. r)
 
 pub claims : Claims
 claims = record {
   writer = writes;
   readers = reads;
-  readsBack = read-back;
-  unwritten = λ buffer members q gets sets features b e. nothing-written buffer members q gets sets features 0 b e refl;
-  alike = read-alike;
+  readsBack = read_back;
+  unwritten = λ buffer members q gets sets features b e. nothing_written buffer members q gets sets features 0 b e refl;
+  alike = read_alike;
   neverNamed = never-named;
-  inRange = in-range;
+  in_range = in-range;
   memberInRange = member-in-range;
-  writtenBack = λ l buffer h room. written-back l h buffer room;
+  writtenBack = λ l buffer h room. written_back l h buffer room;
 }

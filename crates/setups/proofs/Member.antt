@@ -1,63 +1,63 @@
 -- What a setup says of one member is in range. Assumes nothing.
-use mathlib.Core.Path.{_≡_, refl}
+use mathlib.Core.Path.{◌≡◌, refl}
 use mathlib.Core.Bool.{true}
 use mathlib.Core.List.{List}
-use Prim.Native.Nat.{ℕ, _-_, _≤_, _<_}
+use Prim.Native.Nat.{ℕ, ◌-◌, ◌≤◌, ◌<◌}
 use native.Mathlib.Omega.{arith}
-use lib.ListN.{length, getD, take}
-use lib.Seq.{getD-take}
-use Rattle·theory.specs.Logic.{unless_answer_then_, within}
-use Rattle·theory.proofs.Tests.{by-cases, within-low, within-high, never}
-use Rattle·setups·specs.specs.declared.Setup.{Setup}
-use Rattle·setups·specs.specs.declared.MemberSetup.{MemberSetup}
-use Rattle·setups·specs.specs.declared.ReadOutcome.{ReadOutcome}
-use Rattle·setups·specs.specs.Setup.{featuresSize, isCount}
-use Rattle·setups·specs.specs.Reading.{noSetup, readSetup}
-use Rattle·setups·specs.specs.Member.{noMember, memberOf, memberSetup}
-use Rattle·setups·specs.specs.Claims.{InRange, MemberInRange}
-use Rattle·setups·proofs.proofs.Ranges.{numbers-in, all-at}
-use Rattle·setups·proofs.proofs.InRange.{read-cases}
+use lib.ListN.{length, get_or, take}
+use lib.Seq.{get_or-take}
+use Rattle.theory.specs.Logic.{unless◌answer◌then◌, within}
+use Rattle.theory.proofs.Tests.{by_cases, within_low, within-high, never}
+use Rattle.setups.specs.declared.Setup.{Setup}
+use Rattle.setups.specs.declared.MemberSetup.{MemberSetup}
+use Rattle.setups.specs.declared.ReadOutcome.{ReadOutcome}
+use Rattle.setups.specs.Setup.{featuresSize, isCount}
+use Rattle.setups.specs.Reading.{noSetup, readSetup}
+use Rattle.setups.specs.Member.{noMember, memberOf, memberSetup}
+use Rattle.setups.specs.Claims.{InRange, MemberInRange}
+use Rattle.setups.proofs.Ranges.{numbers-in, all-at}
+use Rattle.setups.proofs.InRange.{read-cases}
 
-pub members-few : (l : List ℕ) → readSetup l .setup .members ≤ 16
+pub members-few : (l : List ℕ) → (readSetup l).setup.members ≤ 16
 unfolding noSetup
-members-few l = read-cases (λ o. o .setup .members ≤ 16) l (omega arith) (λ s r. numbers-in _ _ _ _ (r .numbers) .few)
+members-few l = read-cases (λ o. o.setup.members ≤ 16) l (omega arith) (λ s r. (numbers-in _ _ _ _ r.numbers).few)
 
 -- of a member that it knows
-known-said : (s : Setup) (m : ℕ) → (1 ≤ m → m ≤ s .members → isCount (getD (s .queues) (m - 1) 0) ≡ true)
-    → length (s .features) ≡ featuresSize → memberOf s m .known ≡ true → MemberInRange (memberOf s m)
-unfolding memberOf noMember unless_answer_then_
+known-said : (s : Setup) (m : ℕ) → (1 ≤ m → m ≤ s.members → isCount (get_or s.queues (m - 1) 0) ≡ true)
+    → length s.features ≡ featuresSize → (memberOf s m).known ≡ true → MemberInRange (memberOf s m)
+unfolding memberOf noMember unless◌answer◌then◌
 known-said s m f h e =
-    by-cases (within 1 (s .members) m)
-    (λ t. rw t (record { count = f (within-low 1 (s .members) m t) (within-high 1 (s .members) m t); features = h }))
+    by_cases (within 1 s.members m)
+    (λ t. rw t (record { count = f (within_low 1 s.members m t) (within-high 1 s.members m t); features = h }))
     (λ t. never (rw t at e))
 
-none-known : (m : ℕ) → memberOf noSetup m .known ≡ true → MemberInRange (memberOf noSetup m)
+none-known : (m : ℕ) → (memberOf noSetup m).known ≡ true → MemberInRange (memberOf noSetup m)
 unfolding noSetup
 none-known m = known-said noSetup m (λ low high. absurd (omega arith)) refl
 
-member-known : (s : Setup) (m : ℕ) → InRange s → memberOf s m .known ≡ true → MemberInRange (memberOf s m)
+member-known : (s : Setup) (m : ℕ) → InRange s → (memberOf s m).known ≡ true → MemberInRange (memberOf s m)
 member-known s m r =
-    let n = numbers-in _ _ _ _ (r .numbers) in
+    let n = numbers-in _ _ _ _ r.numbers in
     known-said s m
     (λ low high.
-    let each = n .each in
-    let k : m - 1 < s .members = omega arith in
-    rw (← getD-take (s .members) (s .queues) (m - 1) 0 k)
-    (all-at isCount (take (s .members) (s .queues)) (m - 1) (n .counts) (omega arith)))
-    (r .features)
+    let each = n.each in
+    let k : m - 1 < s.members = omega arith in
+    rw (← get_or-take s.members s.queues (m - 1) 0 k)
+    (all-at isCount (take s.members s.queues) (m - 1) n.counts (omega arith)))
+    r.features
 
-pub member-in-range : (l : List ℕ) (m : ℕ) → memberSetup l m .known ≡ true → MemberInRange (memberSetup l m)
+pub member-in-range : (l : List ℕ) (m : ℕ) → (memberSetup l m).known ≡ true → MemberInRange (memberSetup l m)
 unfolding memberSetup
 member-in-range l m =
-    read-cases (λ (o : ReadOutcome). memberOf (o .setup) m .known ≡ true → MemberInRange (memberOf (o .setup) m)) l (none-known m)
+    read-cases (λ (o : ReadOutcome). (memberOf o.setup m).known ≡ true → MemberInRange (memberOf o.setup m)) l (none-known m)
     (λ s r. member-known s m r)
 
 -- ---- the function ----
 
 module _ (l : List ℕ) (o : ReadOutcome) (e : o ≡ readSetup l) where
-  pub members-read : o .setup .members ≤ 16
+  pub members-read : o.setup.members ≤ 16
   members-read = rw e (members-few l)
 
-  pub member-read : (m : ℕ) (r : MemberSetup) → r ≡ memberOf (o .setup) m → r ≡ memberSetup l m
+  pub member-read : (m : ℕ) (r : MemberSetup) → r ≡ memberOf o.setup m → r ≡ memberSetup l m
   unfolding memberSetup
   member-read m r f = rw e at f

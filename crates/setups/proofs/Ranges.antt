@@ -1,50 +1,50 @@
 -- A test of every number of a list, and the loop that makes it. Assumes nothing.
-use mathlib.Core.Path.{_≡_, refl, sym, _∙_}
+use mathlib.Core.Path.{◌≡◌, refl, sym, ◌∙◌}
 use mathlib.Core.Bool.{Bool, true, false}
-use mathlib.Core.List.{List, [], _∷_}
-use Prim.Native.Nat.{ℕ, zero, suc, _+_, _-_, _≤_, _<_}
+use mathlib.Core.List.{List, [], ◌∷◌}
+use Prim.Native.Nat.{ℕ, zero, suc, ◌+◌, ◌-◌, ◌≤◌, ◌<◌}
 use native.Mathlib.Numerals.{add-one}
 use native.Mathlib.Omega.{arith}
 use borrow.Author.Tests.{eqb-true, leb-true}
-use lib.ListN.{length, getD, drop, drop-of-length-le}
+use lib.ListN.{length, get_or, drop, drop_of_length-le}
 use lib.Seq.{drop-cons}
-use Rattle·theory.specs.Logic.{_and_}
-use Rattle·theory.proofs.Tests.{true-and, false-and, both, and-i, within-low, within-high}
-use Rattle·setups·specs.specs.Setup.{mostMembers, inRanges, all, isCount, inNumbers}
-use Rattle·setups·specs.specs.Writing.{InNumbers}
+use Rattle.theory.specs.Logic.{◌and◌}
+use Rattle.theory.proofs.Tests.{true-and, false-and, both, and_i, within_low, within-high}
+use Rattle.setups.specs.Setup.{mostMembers, inRanges, all, isCount, inNumbers}
+use Rattle.setups.specs.Writing.{InNumbers}
 
 -- the numbers before i passed, and the rest decides
 module _ (f : ℕ → Bool) (l : List ℕ) (i : ℕ) (w : all f l ≡ all f (drop i l)) where
-  all-step : i < length l → all f l ≡ f (getD l i 0) and all f (drop (i + 1) l)
+  all-step : i < length l → all f l ≡ f (get_or l i 0) and all f (drop (i + 1) l)
   unfolding all
   all-step h = w ∙ rw (drop-cons l i 0 h, add-one)
 
-  pub all-stop : i < length l → f (getD l i 0) ≡ false → false ≡ all f l
+  pub all-stop : i < length l → f (get_or l i 0) ≡ false → false ≡ all f l
   all-stop h e = sym (all-step h ∙ rw e (false-and _))
 
-  pub all-on : i < length l → f (getD l i 0) ≡ true → all f l ≡ all f (drop (i + 1) l)
+  pub all-on : i < length l → f (get_or l i 0) ≡ true → all f l ≡ all f (drop (i + 1) l)
   all-on h e = all-step h ∙ rw e (true-and _)
 
-  pub all-end : length l ≤ i → true ≡ all f l
+  pub all_end : length l ≤ i → true ≡ all f l
   unfolding all
-  all-end h = sym (w ∙ rw (drop-of-length-le l h))
+  all_end h = sym (w ∙ rw (drop_of_length-le l h))
 
 -- each of them passes
-pub all-at : (f : ℕ → Bool) (l : List ℕ) (i : ℕ) → all f l ≡ true → i < length l → f (getD l i 0) ≡ true
+pub all-at : (f : ℕ → Bool) (l : List ℕ) (i : ℕ) → all f l ≡ true → i < length l → f (get_or l i 0) ≡ true
 unfolding all
 all-at f [] i e h = absurd (omega arith)
-all-at f (x ∷ l) zero e h = both _ _ e .0
-all-at f (x ∷ l) (suc i) e h = all-at f l i (both _ _ e .1) (omega arith)
+all-at f (x ∷ l) zero e h = (both _ _ e).0
+all-at f (x ∷ l) (suc i) e h = all-at f l i (both _ _ e).1 (omega arith)
 
 -- and where each passes, all do
-pub all-of : (f : ℕ → Bool) (l : List ℕ) → ((i : ℕ) → i < length l → f (getD l i 0) ≡ true) → all f l ≡ true
+pub all_of : (f : ℕ → Bool) (l : List ℕ) → ((i : ℕ) → i < length l → f (get_or l i 0) ≡ true) → all f l ≡ true
 unfolding all
-all-of f [] h = refl
-all-of f (x ∷ l) h = and-i _ _ (h 0 (omega arith)) (all-of f l λ i k. h (suc i) (omega arith))
+all_of f [] h = refl
+all_of f (x ∷ l) h = and_i _ _ (h 0 (omega arith)) (all_of f l λ i k. h (suc i) (omega arith))
 
 -- a queue count less one
-pub count-less : (q : ℕ) → isCount q ≡ true → q - 1 ≤ 3
-count-less q e = omega (arith, within-high 1 4 q e)
+pub count_less : (q : ℕ) → isCount q ≡ true → q - 1 ≤ 3
+count_less q e = omega (arith, within-high 1 4 q e)
 
 -- ---- the numbers of a setup ----
 
@@ -52,14 +52,14 @@ pub numbers-in : (members : ℕ) (q : List ℕ) (gets sets : ℕ) → inNumbers 
 unfolding inNumbers inRanges
 numbers-in members q gets sets e =
     let a = both _ _ e in
-    let b = both _ _ (a .0) in
-    let c = both _ _ (b .0) in
-    let d = both _ _ (c .0) in
+    let b = both _ _ a.0 in
+    let c = both _ _ b.0 in
+    let d = both _ _ c.0 in
     record {
-      some = within-low 1 mostMembers members (d .0);
-      few = within-high 1 mostMembers members (d .0);
-      each = eqb-true (length q) members (b .1);
-      counts = a .1;
-      fewGets = leb-true gets 8 (d .1);
-      fewSets = leb-true sets 8 (c .1);
+      some = within_low 1 mostMembers members d.0;
+      few = within-high 1 mostMembers members d.0;
+      each = eqb-true (length q) members b.1;
+      counts = a.1;
+      fewGets = leb-true gets 8 d.1;
+      fewSets = leb-true sets 8 c.1;
     }

@@ -1,26 +1,26 @@
 -- What is written reads back the same. Assumes nothing.
-use mathlib.Core.Path.{_≡_, refl, ap, sym, _∙_}
+use mathlib.Core.Path.{◌≡◌, refl, ap, sym, ◌∙◌}
 use mathlib.Core.Bool.{true}
-use mathlib.Core.List.{List, [], _∷_, _++_, map}
-use Prim.Native.Nat.{ℕ, suc, _+_, _-_, _*_, _/_, _%_, _≤_}
+use mathlib.Core.List.{List, [], ◌∷◌, ◌++◌, map}
+use Prim.Native.Nat.{ℕ, suc, ◌+◌, ◌-◌, ◌*◌, ◌/◌, ◌%◌, ◌≤◌}
 use native.Mathlib.Nat.{add-zero}
 use native.Mathlib.Omega.{arith}
 use borrow.Author.Tests.{eqb-true, eq-eqb}
 use lib.Dec.{eqb}
 use lib.ListN.{length, drop, length-append}
-use lib.Pow.{pow-pos}
-use lib.Seq.{drop-at}
-use Rattle·theory.specs.Logic.{if_then_else_}
-use Rattle·theory.proofs.Tests.{by-cases, and-i, both, within-low}
-use Rattle·theory.proofs.Ladder.{is-le, pass}
-use Rattle·setups·specs.specs.declared.ReadAnswer.the-variants.{Version2}
-use Rattle·setups·specs.specs.Bits.{bitsAt, Field, field, widths, packed}
-use Rattle·setups·specs.specs.Setup.{featuresSize, all, isCount, setupWith}
-use Rattle·setups·specs.specs.Reading.{countBytes, padding, countsFrom, setupAt, headRight, isVersion1, isVersion2, readAs, refusedAs, takeVersion1, takeVersion2, readVersion1, readSetup}
-use Rattle·setups·specs.specs.Writing.{headFields, countField, countFields, firstCount, areEqual, fieldsOf, packedSetup, InNumbers}
-use Rattle·setups·proofs.proofs.Ranges.{count-less}
-use Rattle·setups·proofs.proofs.Fields.{length-big, Fit, Reads, packed-reads}
-use Rattle·setups·proofs.proofs.Writing.{widths-head, widths-version-2, first-count}
+use lib.Pow.{pow_pos}
+use lib.Seq.{drop_at}
+use Rattle.theory.specs.Logic.{if◌then◌else◌}
+use Rattle.theory.proofs.Tests.{by_cases, and_i, both, within_low}
+use Rattle.theory.proofs.Ladder.{is_le, pass}
+use Rattle.setups.specs.declared.ReadAnswer.TheVariants.{Version2}
+use Rattle.setups.specs.Bits.{bits_at, Field, field, widths, packed}
+use Rattle.setups.specs.Setup.{featuresSize, all, isCount, setupWith}
+use Rattle.setups.specs.Reading.{countBytes, padding, countsFrom, setupAt, headRight, isVersion1, isVersion2, readAs, refusedAs, takeVersion1, takeVersion2, readVersion1, readSetup}
+use Rattle.setups.specs.Writing.{headFields, countField, countFields, firstCount, areEqual, fields_of, packedSetup, InNumbers}
+use Rattle.setups.proofs.Ranges.{count_less}
+use Rattle.setups.proofs.Fields.{length-big, Fit, Reads, packed-reads}
+use Rattle.setups.proofs.Writing.{widths-head, widths-version-2, first_count}
 
 -- ---- the fields fit ----
 
@@ -29,27 +29,27 @@ unfolding all
 counts-fit [] e r = r
 counts-fit (x ∷ q) e r =
     let p = both _ _ e in
-    Fit.more (countField x) (omega (arith, count-less x (p .0))) (counts-fit q (p .1) r)
+    Fit.more (countField x) (omega (arith, count_less x p.0)) (counts-fit q p.1 r)
 
 padded-fit : (q : List ℕ) → all isCount q ≡ true → Fit (countFields q)
 unfolding countFields
-padded-fit q e = counts-fit q e (Fit.more (field (padding (length q)) 0) (pow-pos (padding (length q))) Fit.none)
+padded-fit q e = counts-fit q e (Fit.more (field (padding (length q)) 0) (pow_pos (padding (length q))) Fit.none)
 
 -- ---- the fields that are read ----
 
 -- the head, and what is behind it
 record Head (l : List ℕ) (version members x gets sets : ℕ) (rest : List Field) : Type 0 where
-  version-is : bitsAt 0 4 l ≡ version
-  members-is : bitsAt 4 4 l ≡ members - 1
-  count-is : bitsAt 8 2 l ≡ x
-  gets-is : bitsAt 10 4 l ≡ gets
-  sets-is : bitsAt 14 4 l ≡ sets
-  zeros-is : bitsAt 18 6 l ≡ 0
+  version-is : bits_at 0 4 l ≡ version
+  members-is : bits_at 4 4 l ≡ members - 1
+  count-is : bits_at 8 2 l ≡ x
+  gets-is : bits_at 10 4 l ≡ gets
+  sets-is : bits_at 14 4 l ≡ sets
+  zeros-is : bits_at 18 6 l ≡ 0
   behind : Reads l 24 rest
 
-head-read : {rest : List Field} (l : List ℕ) (version members x gets sets : ℕ)
+head_read : {rest : List Field} (l : List ℕ) (version members x gets sets : ℕ)
     → Reads l 0 (headFields version members x gets sets ++ rest) → Head l version members x gets sets rest
-head-read l version members x gets sets (Reads.more a (Reads.more b (Reads.more c (Reads.more d (Reads.more e (Reads.more f r)))))) =
+head_read l version members x gets sets (Reads.more a (Reads.more b (Reads.more c (Reads.more d (Reads.more e (Reads.more f r)))))) =
     record { version-is = a; members-is = b; count-is = c; gets-is = d; sets-is = e; zeros-is = f; behind = r }
 
 -- the counts from a position on, one for each member
@@ -59,23 +59,23 @@ unfolding all countsFrom
 counts-read {rest} l at [] e r = (refl, let z : at + 2 * 0 ≡ at = omega arith in rw z r)
 counts-read {rest} l at (x ∷ q) e (Reads.more a r) =
     let p = both _ _ e in
-    let m : 1 ≤ x = within-low 1 4 x (p .0) in
-    let b : bitsAt at 2 l + 1 ≡ x = omega arith in
-    let i = counts-read l (at + 2) q (p .1) r in
+    let m : 1 ≤ x = within_low 1 4 x p.0 in
+    let b : bits_at at 2 l + 1 ≡ x = omega arith in
+    let i = counts-read l (at + 2) q p.1 r in
     let z : at + 2 + 2 * length q ≡ at + 2 * suc (length q) = omega arith in
-    (rw (b, i .0), rw z at (i .1))
+    (rw (b, i.0), rw z at i.1)
 
-padding-read : (l : List ℕ) (n m : ℕ) → n ≡ m → Reads l (24 + 2 * n) (field (padding n) 0 ∷ []) → bitsAt (24 + 2 * m) (padding m) l ≡ 0
+padding-read : (l : List ℕ) (n m : ℕ) → n ≡ m → Reads l (24 + 2 * n) (field (padding n) 0 ∷ []) → bits_at (24 + 2 * m) (padding m) l ≡ 0
 padding-read l n m e (Reads.more a r) = rw e at a
 
 -- one count for every member
-count-read : (l : List ℕ) (at x : ℕ) (q : List ℕ) → all (eqb x) q ≡ true → bitsAt at 2 l + 1 ≡ x → countsFrom l at 0 (length q) ≡ q
+count-read : (l : List ℕ) (at x : ℕ) (q : List ℕ) → all (eqb x) q ≡ true → bits_at at 2 l + 1 ≡ x → countsFrom l at 0 (length q) ≡ q
 unfolding all countsFrom
 count-read l at x [] e b = refl
 count-read l at x (y ∷ q) e b =
     let p = both _ _ e in
-    let d : bitsAt at 2 l + 1 ≡ y = b ∙ eqb-true x y (p .0) in
-    rw (add-zero, d, count-read l at x q (p .1) b)
+    let d : bits_at at 2 l + 1 ≡ y = b ∙ eqb-true x y p.0 in
+    rw (add-zero, d, count-read l at x q p.1 b)
 
 -- ---- the readers ----
 
@@ -84,54 +84,54 @@ module _ (members : ℕ) (q : List ℕ) (gets sets : ℕ) (h : InNumbers members
   head-is : {rest : List Field} (version x : ℕ) → version ≤ 2 → x ≤ 3 → Fit rest → widths (headFields version members x gets sets ++ rest) % 8 ≡ 0
       → Head (packed (headFields version members x gets sets ++ rest) ++ features) version members x gets sets rest
   head-is {rest} version x v k r w =
-      let a = h .few in
-      let b = h .fewGets in
-      let c = h .fewSets in
-      head-read _ version members x gets sets
+      let a = h.few in
+      let b = h.fewGets in
+      let c = h.fewSets in
+      head_read _ version members x gets sets
       (packed-reads (headFields version members x gets sets ++ rest) features
       (Fit.more (field 4 version) (omega arith) (Fit.more (field 4 (members - 1)) (omega arith) (Fit.more (field 2 x) (omega arith)
       (Fit.more (field 4 gets) (omega arith) (Fit.more (field 4 sets) (omega arith) (Fit.more (field 6 0) (omega arith) r)))))) w)
 
   module _ (fs : List Field) where
-    whole-long : length (packed fs ++ features) ≡ widths fs / 8 + featuresSize
+    whole_long : length (packed fs ++ features) ≡ widths fs / 8 + featuresSize
     unfolding packed
-    whole-long = rw (length-append, length-big, n)
+    whole_long = rw (length-append, length-big, n)
 
     last-features : drop (length (packed fs ++ features) - featuresSize) (packed fs ++ features) ≡ features
-    last-features = drop-at (packed fs) features (length (packed fs ++ features) - featuresSize) (rw (length-append, n) (omega arith))
+    last-features = drop_at (packed fs) features (length (packed fs ++ features) - featuresSize) (rw (length-append, n) (omega arith))
 
     module _ {rest : List Field} {version x : ℕ} (a : Head (packed fs ++ features) version members x gets sets rest) where
-      members-read : bitsAt 4 4 (packed fs ++ features) + 1 ≡ members
-      members-read = let m = h .some in omega (arith, a .members-is)
+      members-read : bits_at 4 4 (packed fs ++ features) + 1 ≡ members
+      members-read = let m = h.some in omega (arith, a.members-is)
 
       head-right : headRight (packed fs ++ features) ≡ true
       unfolding headRight
       head-right =
-          and-i _ _ (and-i _ _ (eq-eqb _ _ (a .zeros-is)) (is-le _ gets 8 (sym (a .gets-is)) (h .fewGets)))
-          (is-le _ sets 8 (sym (a .sets-is)) (h .fewSets))
+          and_i _ _ (and_i _ _ (eq-eqb _ _ a.zeros-is) (is_le _ gets 8 (sym a.gets-is) h.fewGets))
+          (is_le _ sets 8 (sym a.sets-is) h.fewSets)
 
       setup-is : (at step : ℕ) → countsFrom (packed fs ++ features) at step (length q) ≡ q
           → setupAt (packed fs ++ features) at step ≡ setupWith members q gets sets features
       unfolding setupAt
       setup-is at step e =
-          let m : countsFrom (packed fs ++ features) at step members ≡ q = rw (h .each) at e in
-          rw (members-read, m, a .gets-is, a .sets-is, last-features)
+          let m : countsFrom (packed fs ++ features) at step members ≡ q = rw h.each at e in
+          rw (members-read, m, a.gets-is, a.sets-is, last-features)
 
   -- equal counts, as version 1
   abbrev fields1 : List Field
   fields1 = headFields 1 members (firstCount q - 1) gets sets
 
   version-1-head : Head (packed fields1 ++ features) 1 members (firstCount q - 1) gets sets []
-  version-1-head = head-is 1 (firstCount q - 1) (omega arith) (count-less (firstCount q) (first-count members q gets sets h)) Fit.none (rw widths-head)
+  version-1-head = head-is 1 (firstCount q - 1) (omega arith) (count_less (firstCount q) (first_count members q gets sets h)) Fit.none (rw widths-head)
 
   version-1-read : all (eqb (firstCount q)) q ≡ true → takeVersion1 (packed fields1 ++ features) ≡ readAs (setupWith members q gets sets features)
   unfolding takeVersion1 isVersion1
   version-1-read e =
       let a = version-1-head in
-      let m : 1 ≤ firstCount q = within-low 1 4 (firstCount q) (first-count members q gets sets h) in
-      let c = count-read (packed fields1 ++ features) 8 (firstCount q) q e (omega (arith, a .count-is)) in
+      let m : 1 ≤ firstCount q = within_low 1 4 (firstCount q) (first_count members q gets sets h) in
+      let c = count-read (packed fields1 ++ features) 8 (firstCount q) q e (omega (arith, a.count-is)) in
       let t : isVersion1 (packed fields1 ++ features) ≡ true =
-      and-i _ _ (and-i _ _ (eq-eqb _ _ (a .version-is)) (eq-eqb _ _ (whole-long fields1 ∙ rw widths-head))) (head-right fields1 a) in
+      and_i _ _ (and_i _ _ (eq-eqb _ _ a.version-is) (eq-eqb _ _ (whole_long fields1 ∙ rw widths-head))) (head-right fields1 a) in
       sym (pass _ _ _ _ t (ap readAs (sym (setup-is fields1 a 8 0 c))))
 
   -- others, as version 2
@@ -139,32 +139,32 @@ module _ (members : ℕ) (q : List ℕ) (gets sets : ℕ) (h : InNumbers members
   fields2 = headFields 2 members 0 gets sets ++ countFields q
 
   version-2-wide : widths fields2 ≡ 24 + 8 * countBytes members
-  version-2-wide = widths-version-2 (headFields 2 members 0 gets sets) q ∙ rw (widths-head, h .each)
+  version-2-wide = widths-version-2 (headFields 2 members 0 gets sets) q ∙ rw (widths-head, h.each)
 
   version-2-head : Head (packed fields2 ++ features) 2 members 0 gets sets (countFields q)
-  version-2-head = head-is 2 0 (omega arith) (omega arith) (padded-fit q (h .counts)) (rw version-2-wide (omega arith))
+  version-2-head = head-is 2 0 (omega arith) (omega arith) (padded-fit q h.counts) (rw version-2-wide (omega arith))
 
   version-2-read : takeVersion2 (packed fields2 ++ features) ≡ readAs (setupWith members q gets sets features)
   unfolding takeVersion2 isVersion2 countFields
   version-2-read =
       let l = packed fields2 ++ features in
       let a = version-2-head in
-      let c = counts-read l 24 q (h .counts) (a .behind) in
+      let c = counts-read l 24 q h.counts a.behind in
       let m = members-read fields2 a in
-      let p = padding-read l (length q) members (h .each) (c .1) in
-      let t : isVersion2 (bitsAt 4 4 l + 1) l ≡ true =
-      rw m (and-i _ _ (and-i _ _ (and-i _ _ (eq-eqb _ _ (whole-long fields2 ∙ rw version-2-wide (omega arith))) (head-right fields2 a))
-      (eq-eqb _ _ (a .count-is))) (eq-eqb _ _ p)) in
-      sym (pass _ _ _ _ t (ap readAs (sym (setup-is fields2 a 24 2 (c .0)))))
+      let p = padding-read l (length q) members h.each c.1 in
+      let t : isVersion2 (bits_at 4 4 l + 1) l ≡ true =
+      rw m (and_i _ _ (and_i _ _ (and_i _ _ (eq-eqb _ _ (whole_long fields2 ∙ rw version-2-wide (omega arith))) (head-right fields2 a))
+      (eq-eqb _ _ a.count-is)) (eq-eqb _ _ p)) in
+      sym (pass _ _ _ _ t (ap readAs (sym (setup-is fields2 a 24 2 c.0))))
 
   -- both readers of either
   pub reads-back : readSetup (packedSetup members q gets sets features) ≡ readAs (setupWith members q gets sets features)
-  unfolding readSetup packedSetup fieldsOf areEqual if_then_else_
+  unfolding readSetup packedSetup fields_of areEqual if◌then◌else◌
   reads-back =
-      by-cases (all (eqb (firstCount q)) q) (λ e. rw (e, version-1-head .version-is) (version-1-read e)) (λ e. rw (e, version-2-head .version-is) version-2-read)
+      by_cases (all (eqb (firstCount q)) q) (λ e. rw (e, version-1-head.version-is) (version-1-read e)) (λ e. rw (e, version-2-head.version-is) version-2-read)
 
   pub reads-version-1 : readVersion1 (packedSetup members q gets sets features)
       ≡ (if areEqual q then readAs (setupWith members q gets sets features) else refusedAs Version2)
-  unfolding readVersion1 packedSetup fieldsOf areEqual if_then_else_
+  unfolding readVersion1 packedSetup fields_of areEqual if◌then◌else◌
   reads-version-1 =
-      by-cases (all (eqb (firstCount q)) q) (λ e. rw (e, version-1-head .version-is) (version-1-read e)) (λ e. rw (e, version-2-head .version-is))
+      by_cases (all (eqb (firstCount q)) q) (λ e. rw (e, version-1-head.version-is) (version-1-read e)) (λ e. rw (e, version-2-head.version-is))

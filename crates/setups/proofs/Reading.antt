@@ -1,30 +1,30 @@
 -- Laws of the readers: queue counts, and the returns. Assumes nothing.
-use mathlib.Core.Path.{_≡_, ap, sym, _∙_}
+use mathlib.Core.Path.{◌≡◌, ap, sym, ◌∙◌}
 use mathlib.Core.Bool.{Bool, true}
 use mathlib.Core.List.{List}
-use Prim.Native.Nat.{ℕ, suc, _+_, _-_, _≤_, _<_}
+use Prim.Native.Nat.{ℕ, suc, ◌+◌, ◌-◌, ◌≤◌, ◌<◌}
 use native.Mathlib.Nat.{sub-zero}
 use native.Mathlib.Omega.{arith}
 use lib.ListN.{length, set, drop, replicate, length-drop}
-use Rattle·theory.specs.Bytes.{bytesAt, put}
-use Rattle·theory.proofs.Bytes.{put-nil, put-cons, put-all}
-use Rattle·theory.proofs.Tests.{both, tests}
-use Rattle·theory.proofs.Lent.{tail-is}
-use Rattle·setups·specs.specs.declared.Setup.{Setup}
-use Rattle·setups·specs.specs.Bits.{bitsAt}
-use Rattle·setups·specs.specs.Setup.{featuresSize, noCounts, sixteen}
-use Rattle·setups·specs.specs.Reading.{membersIn, countsFrom, setupAt, isVersion1, isVersion2, readAs}
+use Rattle.theory.specs.Bytes.{bytes_at, put}
+use Rattle.theory.proofs.Bytes.{put-nil, put-cons, put_all}
+use Rattle.theory.proofs.Tests.{both, tests}
+use Rattle.theory.proofs.Lent.{tail-is}
+use Rattle.setups.specs.declared.Setup.{Setup}
+use Rattle.setups.specs.Bits.{bits_at}
+use Rattle.setups.specs.Setup.{featuresSize, noCounts, sixteen}
+use Rattle.setups.specs.Reading.{membersIn, countsFrom, setupAt, isVersion1, isVersion2, readAs}
 
 -- ---- the queue counts ----
 
 module _ (l : List ℕ) (from step n : ℕ) where
-  pub counts-start : sixteen (countsFrom l from step n) ≡ put 0 (countsFrom l from step (n - 0)) (replicate 16 0)
+  pub counts_start : sixteen (countsFrom l from step n) ≡ put 0 (countsFrom l from step (n - 0)) (replicate 16 0)
   unfolding sixteen noCounts
-  counts-start = rw sub-zero
+  counts_start = rw sub-zero
 
   -- i counts are stored in c, and the next stands at `at`
   module _ (c : List ℕ) (at i : ℕ) (w : sixteen (countsFrom l from step n) ≡ put i (countsFrom l at step (n - i)) c) where
-    pub counts-on : (q : ℕ) → i < n → q ≡ bitsAt at 2 l
+    pub counts-on : (q : ℕ) → i < n → q ≡ bits_at at 2 l
         → sixteen (countsFrom l from step n) ≡ put (i + 1) (countsFrom l (at + step) step (n - (i + 1))) (set c i (q + 1))
     unfolding countsFrom
     counts-on q h e =
@@ -32,22 +32,22 @@ module _ (l : List ℕ) (from step n : ℕ) where
         let b : i + 1 ≡ suc i = omega arith in
         w ∙ rw (a, put-cons, b, e)
 
-    pub counts-end : n ≤ i → c ≡ sixteen (countsFrom l from step n)
+    pub counts_end : n ≤ i → c ≡ sixteen (countsFrom l from step n)
     unfolding countsFrom
-    counts-end h = let a : n - i ≡ 0 = omega arith in sym (w ∙ rw a (put-nil i c))
+    counts_end h = let a : n - i ≡ 0 = omega arith in sym (w ∙ rw a (put-nil i c))
 
 -- ---- a setup ----
 
 -- the last 16 bytes, copied into z
 features-copied : (l z : List ℕ) (at : ℕ) → at ≡ length l - featuresSize → featuresSize ≤ length l → length z ≡ featuresSize
-    → put 0 (bytesAt at (length l - at) l) z ≡ drop (length l - featuresSize) l
+    → put 0 (bytes_at at (length l - at) l) z ≡ drop (length l - featuresSize) l
 features-copied l z at e h k =
     let n : length (drop at l) ≡ length z = rw length-drop (omega arith) in
-    rw (tail-is at l, put-all (drop at l) z n, e)
+    rw (tail-is at l, put_all (drop at l) z n, e)
 
 pub setup-read : (l z q f : List ℕ) (from step n g s : ℕ) → featuresSize ≤ length l → length z ≡ featuresSize
-    → n ≡ bitsAt 4 4 l → q ≡ sixteen (countsFrom l from step (n + 1))
-    → f ≡ put 0 (bytesAt (length l - 16) (length l - (length l - 16)) l) z → g ≡ bitsAt 10 4 l → s ≡ bitsAt 14 4 l
+    → n ≡ bits_at 4 4 l → q ≡ sixteen (countsFrom l from step (n + 1))
+    → f ≡ put 0 (bytes_at (length l - 16) (length l - (length l - 16)) l) z → g ≡ bits_at 10 4 l → s ≡ bits_at 14 4 l
     → record { members = n + 1; queues = q; gets = g; sets = s; features = f } ≡ setupAt l from step
 unfolding setupAt
 setup-read l z q f from step n g s h k e₁ e₂ e₃ e₄ e₅ =
@@ -55,18 +55,18 @@ setup-read l z q f from step n g s h k e₁ e₂ e₃ e₄ e₅ =
 
 -- ---- the returns ----
 
-pub read-is : (s x : Setup) → s ≡ x → readAs s ≡ readAs x
-read-is s x e = ap readAs e
+pub read_is : (s x : Setup) → s ≡ x → readAs s ≡ readAs x
+read_is s x e = ap readAs e
 
 -- what is taken is long enough to hold the features
 pub version-1-long : (l : List ℕ) → isVersion1 l ≡ true → featuresSize ≤ length l
 unfolding isVersion1
-version-1-long l e = let h = both _ _ (both _ _ e .0) .1 in omega tests
+version-1-long l e = let h = (both _ _ (both _ _ e).0).1 in omega tests
 
 pub version-2-long : (l : List ℕ) → isVersion2 (membersIn l) l ≡ true → featuresSize ≤ length l
 unfolding isVersion2
-version-2-long l e = let h = both _ _ (both _ _ (both _ _ e .0) .0) .0 in omega tests
+version-2-long l e = let h = (both _ _ (both _ _ (both _ _ e).0).0).0 in omega tests
 
 -- tested with the members that were read
-pub version-2-is : (l : List ℕ) (t : Bool) (n : ℕ) → t ≡ isVersion2 (n + 1) l → n ≡ bitsAt 4 4 l → t ≡ isVersion2 (membersIn l) l
+pub version-2-is : (l : List ℕ) (t : Bool) (n : ℕ) → t ≡ isVersion2 (n + 1) l → n ≡ bits_at 4 4 l → t ≡ isVersion2 (membersIn l) l
 version-2-is l t n e f = rw f at e

@@ -1,8 +1,8 @@
 -- Laws of the writer: the number that the fields are, its bytes, and the returns. Assumes nothing.
-use mathlib.Core.Path.{_≡_, refl, ap, sym, _∙_}
+use mathlib.Core.Path.{◌≡◌, refl, ap, sym, ◌∙◌}
 use mathlib.Core.Bool.{Bool, true, false, not}
-use mathlib.Core.List.{List, [], _∷_, _++_, map}
-use Prim.Native.Nat.{ℕ, suc, _+_, _-_, _*_, _/_, _%_, _^_, _≤_, _<_}
+use mathlib.Core.List.{List, [], ◌∷◌, ◌++◌, map}
+use Prim.Native.Nat.{ℕ, suc, ◌+◌, ◌-◌, ◌*◌, ◌/◌, ◌%◌, ◌^◌, ◌≤◌, ◌<◌}
 use native.Mathlib.Nat.{zero-add}
 use native.Mathlib.Numerals.{add-one}
 use native.Mathlib.Omega.{arith}
@@ -10,21 +10,21 @@ use borrow.Author.Tests.{eq-eqb}
 use lib.Dec.{leb, eqb}
 use mir.Syntax.{w64}
 use mir.Val.{Fits}
-use lib.ListN.{length, getD, drop, set, drop-of-length-le, length-append}
-use lib.Pow.{pow-mono, pow-add, shl-exact}
+use lib.ListN.{length, get_or, drop, set, drop_of_length-le, length-append}
+use lib.Pow.{pow_mono, pow-add, shl_exact}
 use lib.Seq.{drop-cons}
-use Rattle·theory.specs.Logic.{if_then_else_, within}
-use Rattle·theory.specs.Bytes.{put}
-use Rattle·theory.proofs.Tests.{by-cases, inside, below, above, tests}
-use Rattle·theory.proofs.Bytes.{put-nil, put-append, put-comm, put-one}
-use Rattle·theory.proofs.Ladder.{pass, stop, said-true, is-le, is-gt}
-use Rattle·setups·specs.specs.declared.Front.{Front}
-use Rattle·setups·specs.specs.Bits.{Field, field, widths, joined, bigEndian, packed}
-use Rattle·setups·specs.specs.Setup.{featuresSize, all, isCount, inNumbers}
-use Rattle·setups·specs.specs.Reading.{countBytes, padding}
-use Rattle·setups·specs.specs.Writing.{headFields, countField, countFields, firstCount, areEqual, fieldsOf, frontOf, packedSetup, placed, written, InNumbers}
-use Rattle·setups·proofs.proofs.Ranges.{all-at, numbers-in}
-use Rattle·setups·proofs.proofs.Fields.{widths-append, joined-append, length-big}
+use Rattle.theory.specs.Logic.{if◌then◌else◌, within}
+use Rattle.theory.specs.Bytes.{put}
+use Rattle.theory.proofs.Tests.{by_cases, inside, below, above, tests}
+use Rattle.theory.proofs.Bytes.{put-nil, put-append, put-comm, put_one}
+use Rattle.theory.proofs.Ladder.{pass, stop, said-true, is_le, is_gt}
+use Rattle.setups.specs.declared.Front.{Front}
+use Rattle.setups.specs.Bits.{Field, field, widths, joined, bigEndian, packed}
+use Rattle.setups.specs.Setup.{featuresSize, all, isCount, inNumbers}
+use Rattle.setups.specs.Reading.{countBytes, padding}
+use Rattle.setups.specs.Writing.{headFields, countField, countFields, firstCount, areEqual, fields_of, frontOf, packedSetup, placed, written, InNumbers}
+use Rattle.setups.proofs.Ranges.{all-at, numbers-in}
+use Rattle.setups.proofs.Fields.{widths-append, joined-append, length-big}
 
 -- ---- the queue counts behind x ----
 
@@ -38,15 +38,15 @@ pub joining-start : (x : ℕ) (q : List ℕ) → x < 2 ^ 24 → Joining x q x 0
 joining-start x q h = record { count = omega arith; whole = refl; room = h }
 
 module _ (x : ℕ) (q : List ℕ) (r i : ℕ) (j : Joining x q r i) where
-  pub joining-count : all isCount q ≡ true → i < length q → isCount (getD q i 0) ≡ true
+  pub joining-count : all isCount q ≡ true → i < length q → isCount (get_or q i 0) ≡ true
   joining-count e h = all-at isCount q i e h
 
   -- 16 counts are the most
   pub joining-room : length q ≤ 16 → r < 2 ^ 56
   joining-room h =
-      let c = j .count in
+      let c = j.count in
       let k : 24 + 2 * i ≤ 56 = omega arith in
-      omega (arith, j .room, pow-mono k)
+      omega (arith, j.room, pow_mono k)
 
   pub joining-fits : length q ≤ 16 → Fits w64 (r * 4)
   joining-fits h = record { fits = omega (arith, joining-room h) }
@@ -54,32 +54,32 @@ module _ (x : ℕ) (q : List ℕ) (r i : ℕ) (j : Joining x q r i) where
   pub joining-sum : (b : ℕ) → length q ≤ 16 → b ≤ 3 → Fits w64 (r * 4 + b)
   joining-sum b h l = record { fits = omega (arith, joining-room h) }
 
-  pub joining-on : (b : ℕ) → i < length q → b ≡ getD q i 0 - 1 → b ≤ 3 → Joining x q (r * 4 + b) (i + 1)
+  pub joining-on : (b : ℕ) → i < length q → b ≡ get_or q i 0 - 1 → b ≤ 3 → Joining x q (r * 4 + b) (i + 1)
   unfolding joined
   joining-on b h e l =
       let p : 2 ^ (24 + 2 * (i + 1)) ≡ 2 ^ (24 + 2 * i) * 4 =
       (let s : 24 + 2 * (i + 1) ≡ 24 + 2 * i + 2 = omega arith in ap (λ (n : ℕ). 2 ^ n) s ∙ pow-add 2 (24 + 2 * i) 2) in
       record {
         count = omega arith;
-        whole = j .whole ∙ rw (drop-cons q i 0 h, add-one, e);
-        room = rw p (omega (arith, j .room));
+        whole = j.whole ∙ rw (drop-cons q i 0 h, add-one, e);
+        room = rw p (omega (arith, j.room));
       }
 
   pub joining-end : length q ≤ i → r ≡ joined x (map countField q)
   unfolding joined
-  joining-end h = sym (j .whole ∙ rw (drop-of-length-le q h))
+  joining-end h = sym (j.whole ∙ rw (drop_of_length-le q h))
 
 -- ---- zero bits to a whole byte ----
 
 pub pads : (x n : ℕ) → x < 2 ^ 56 → x * 2 ^ padding n % 2 ^ 64 ≡ x * 2 ^ padding n
-pads x n h = shl-exact 56 (padding n) 64 h (omega arith)
+pads x n h = shl_exact 56 (padding n) 64 h (omega arith)
 
 -- ---- the front ----
 
 within-eqb : (a x : ℕ) → within a a x ≡ eqb a x
 within-eqb a x =
-    by-cases (eqb a x) (λ e. rw e (inside a a x (omega tests) (omega tests)))
-    (λ e. rw e (by-cases (leb a x) (λ h. above a a x (omega tests)) (λ h. below a a x (omega tests))))
+    by_cases (eqb a x) (λ e. rw e (inside a a x (omega tests) (omega tests)))
+    (λ e. rw e (by_cases (leb a x) (λ h. above a a x (omega tests)) (λ h. below a a x (omega tests))))
 
 all-eqb : (a : ℕ) (l : List ℕ) → all (within a a) l ≡ all (eqb a) l
 unfolding all
@@ -103,27 +103,27 @@ joined-version-2 : (h : List Field) (q : List ℕ) → joined 0 (h ++ countField
 unfolding countFields joined
 joined-version-2 h q = rw (joined-append 0 h (countFields q), joined-append) (omega arith)
 
-pub first-count : (members : ℕ) (q : List ℕ) (gets sets : ℕ) → InNumbers members q gets sets → isCount (getD q 0 0) ≡ true
-first-count members q gets sets h = all-at isCount q 0 (h .counts) (let s = h .some in let e = h .each in omega arith)
+pub first_count : (members : ℕ) (q : List ℕ) (gets sets : ℕ) → InNumbers members q gets sets → isCount (get_or q 0 0) ≡ true
+first_count members q gets sets h = all-at isCount q 0 h.counts (let s = h.some in let e = h.each in omega arith)
 
 -- b says whether the counts are equal
 module _ (members : ℕ) (q : List ℕ) (gets sets : ℕ) (b : Bool) (e : b ≡ all (within (firstCount q) (firstCount q)) q) where
-  equal-is : areEqual q ≡ b
+  equal_is : areEqual q ≡ b
   unfolding areEqual
-  equal-is = sym (e ∙ all-eqb (firstCount q) q)
+  equal_is = sym (e ∙ all-eqb (firstCount q) q)
 
   pub front-version-1 : (x n : ℕ) → b ≡ true → x ≡ firstCount q - 1 → n ≡ joined 0 (headFields 1 members x gets sets)
-      → record { size = 3; number = n } ≡ frontOf (fieldsOf members q gets sets)
-  unfolding fieldsOf if_then_else_ widths
-  front-version-1 x n t d f = rw (equal-is, t, f, d)
+      → record { size = 3; number = n } ≡ frontOf (fields_of members q gets sets)
+  unfolding fields_of if◌then◌else◌ widths
+  front-version-1 x n t d f = rw (equal_is, t, f, d)
 
   pub front-version-2 : (h x y : ℕ) → b ≡ false → h ≡ joined 0 (headFields 2 members 0 gets sets) → x ≡ joined h (map countField q)
-      → y ≡ x * 2 ^ padding (length q) → record { size = 3 + (length q + 3) / 4; number = y } ≡ frontOf (fieldsOf members q gets sets)
-  unfolding fieldsOf if_then_else_
+      → y ≡ x * 2 ^ padding (length q) → record { size = 3 + (length q + 3) / 4; number = y } ≡ frontOf (fields_of members q gets sets)
+  unfolding fields_of if◌then◌else◌
   front-version-2 h x y t d f g =
       let k = headFields 2 members 0 gets sets in
       let w : widths (k ++ countFields q) / 8 ≡ 3 + (length q + 3) / 4 = rw widths-version-2 (omega (arith, widths-head 2 members 0 gets sets)) in
-      rw (equal-is, t, w, joined-version-2 k q, g, f, d)
+      rw (equal_is, t, w, joined-version-2 k q, g, f, d)
 
 -- ---- the bytes of a number ----
 
@@ -136,7 +136,7 @@ module _ (w o : List ℕ) (v i : ℕ) (e : w ≡ put 0 (bigEndian i v) o) where
       let b = bigEndian (i - 1) (v / 256) in
       let l : 0 + length b ≡ i - 1 = zero-add (length b) ∙ length-big (i - 1) (v / 256) in
       e ∙ ap (λ (n : ℕ). put 0 (bigEndian n v) o) d ∙ put-append 0 b (v % 256 ∷ []) o
-      ∙ rw (l, ← put-comm 0 b (i - 1) (v % 256 ∷ []) o (omega arith), put-one (i - 1) (v % 256) o)
+      ∙ rw (l, ← put-comm 0 b (i - 1) (v % 256 ∷ []) o (omega arith), put_one (i - 1) (v % 256) o)
 
   pub number-end : i ≤ 0 → o ≡ w
   unfolding bigEndian
@@ -152,32 +152,32 @@ module _ (members : ℕ) (q : List ℕ) (gets sets : ℕ) (t : Bool) (e : t ≡ 
   pub numbers-told : InNumbers members q gets sets
   numbers-told = numbers-in members q gets sets numbers-right
 
-  module _ (features b : List ℕ) (f : Front) (l : length features ≡ featuresSize) (p : f ≡ frontOf (fieldsOf members q gets sets)) where
-    size-is : length (packedSetup members q gets sets features) ≡ f .size + featuresSize
+  module _ (features b : List ℕ) (f : Front) (l : length features ≡ featuresSize) (p : f ≡ frontOf (fields_of members q gets sets)) where
+    size_is : length (packedSetup members q gets sets features) ≡ f.size + featuresSize
     unfolding packedSetup packed
-    size-is = rw (length-append, length-big, l, p)
+    size_is = rw (length-append, length-big, l, p)
 
-    whole : (o r : List ℕ) → o ≡ put 0 (bigEndian (f .size) (f .number)) b → r ≡ put (f .size) features o
+    whole : (o r : List ℕ) → o ≡ put 0 (bigEndian f.size f.number) b → r ≡ put f.size features o
         → r ≡ put 0 (packedSetup members q gets sets features) b
     unfolding packedSetup packed
     whole o r d g =
-        let x = bigEndian (f .size) (f .number) in
-        let k : 0 + length x ≡ f .size = zero-add (length x) ∙ length-big (f .size) (f .number) in
-        let y : x ≡ packed (fieldsOf members q gets sets) = rw p in
+        let x = bigEndian f.size f.number in
+        let k : 0 + length x ≡ f.size = zero-add (length x) ∙ length-big f.size f.number in
+        let y : x ≡ packed (fields_of members q gets sets) = rw p in
         g ∙ rw d (sym (rw (← y) (put-append 0 x features b ∙ rw k)))
 
-    pub too-short : length b < f .size + featuresSize → _≡_ {A = ℕ × List ℕ} (0, b) (written b members q gets sets features)
+    pub too_short : length b < f.size + featuresSize → ◌≡◌ {A = ℕ × List ℕ} (0, b) (written b members q gets sets features)
     unfolding written placed
-    too-short h =
+    too_short h =
         pass _ _ _ _ numbers-right
         (pass _ _ _ _ (eq-eqb (length features) featuresSize l)
-        (stop _ _ _ _ (is-gt _ _ (length b) (sym size-is) h) refl))
+        (stop _ _ _ _ (is_gt _ _ (length b) (sym size_is) h) refl))
 
-    pub all-written : (o r : List ℕ) → f .size + featuresSize ≤ length b → o ≡ put 0 (bigEndian (f .size) (f .number)) b
-        → r ≡ put (f .size) features o → _≡_ {A = ℕ × List ℕ} (f .size + featuresSize, r) (written b members q gets sets features)
+    pub all-written : (o r : List ℕ) → f.size + featuresSize ≤ length b → o ≡ put 0 (bigEndian f.size f.number) b
+        → r ≡ put f.size features o → ◌≡◌ {A = ℕ × List ℕ} (f.size + featuresSize, r) (written b members q gets sets features)
     unfolding written placed
     all-written o r h d g =
         let w : r ≡ put 0 (packedSetup members q gets sets features) b = whole o r d g in
         pass _ _ _ _ numbers-right
         (pass _ _ _ _ (eq-eqb (length features) featuresSize l)
-        (pass _ _ _ _ (is-le _ _ (length b) (sym size-is) h) (rw (size-is, w))))
+        (pass _ _ _ _ (is_le _ _ (length b) (sym size_is) h) (rw (size_is, w))))

@@ -1,18 +1,16 @@
 -- Fields of bits, packed most significant bit first: 02, request 9. Assumes nothing.
-use mathlib.Core.List.{List, [], _∷_, _++_}
-use Prim.Native.Nat.{ℕ, zero, suc, _+_, _-_, _*_, _/_, _%_, _^_}
-use lib.ListN.{getD}
+use Rattle.std.specs.Prelude.{List, [], ◌∷◌, ◌++◌, ℕ, zero, suc, ◌+◌, ◌-◌, ◌*◌, ◌/◌, ◌%◌, ◌^◌, get_or}
 
 -- ---- read: the number at a position, of a width ----
 
 -- bit k, counted from the highest bit of the first byte; past the end it is 0
 unfoldable pub bit : ℕ → List ℕ → ℕ
-bit k l = getD l (k / 8) 0 / 2 ^ (7 - k % 8) % 2
+bit k l = get_or l (k / 8) 0 / 2 ^ (7 - k % 8) % 2
 
 -- the number in n bits from a position
-unfoldable pub bitsAt : ℕ → ℕ → List ℕ → ℕ
-bitsAt at zero l = 0
-bitsAt at (suc n) l = 2 * bitsAt at n l + bit (at + n) l
+unfoldable pub bits_at : ℕ → ℕ → List ℕ → ℕ
+bits_at at zero l = 0
+bits_at at (suc n) l = 2 * bits_at at n l + bit (at + n) l
 
 -- ---- written: fields one after the other ----
 
@@ -27,12 +25,12 @@ field n x = record { width = n; value = x }
 -- the bits that fields have together
 unfoldable pub widths : List Field → ℕ
 widths [] = 0
-widths (f ∷ fs) = f .width + widths fs
+widths (f ∷ fs) = f.width + widths fs
 
 -- the number whose bits are those of x, then those of the fields
 unfoldable pub joined : ℕ → List Field → ℕ
 joined x [] = x
-joined x (f ∷ fs) = joined (x * 2 ^ f .width + f .value) fs
+joined x (f ∷ fs) = joined (x * 2 ^ f.width + f.value) fs
 
 -- the n low bytes of a number, the highest first
 unfoldable pub bigEndian : ℕ → ℕ → List ℕ

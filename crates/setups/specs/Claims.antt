@@ -1,19 +1,15 @@
 -- WHAT IS CLAIMED of packed setups: 02, request 9. Assumes nothing.
-use mathlib.Core.Path.{_≡_}
-use mathlib.Core.Bool.{true}
-use mathlib.Core.List.{List, _++_}
-use Prim.Native.Nat.{ℕ, _≤_, _<_}
-use lib.ListN.{length, getD, take, drop}
-use Rattle·theory.specs.Logic.{if_then_else_}
-use Rattle·setups·specs.specs.declared.Setup.{Setup}
-use Rattle·setups·specs.specs.declared.MemberSetup.{MemberSetup}
-use Rattle·setups·specs.specs.declared.ReadAnswer.the-variants.{Done, Version2}
-use Rattle·setups·specs.specs.Setup.{featuresSize, isCount, inNumbers, setupWith}
-use Rattle·setups·specs.specs.Reading.{readAs, refusedAs, readVersion1, readSetup}
-use Rattle·setups·specs.specs.Member.{memberSetup}
-use Rattle·setups·specs.specs.Bits.{bitsAt}
-use Rattle·setups·specs.specs.Writing.{areEqual, written}
-use Rattle·setups·specs.specs.Accepted.{EqualCounts, Writer, Readers}
+use Rattle.std.specs.Prelude.{◌≡◌, true, List, ◌++◌, ℕ, ◌≤◌, ◌<◌, length, get_or, take, drop}
+use Rattle.theory.specs.Logic.{if◌then◌else◌}
+use Rattle.setups.specs.declared.Setup.{Setup}
+use Rattle.setups.specs.declared.MemberSetup.{MemberSetup}
+use Rattle.setups.specs.declared.ReadAnswer.TheVariants.{Done, Version2}
+use Rattle.setups.specs.Setup.{featuresSize, isCount, inNumbers, setupWith}
+use Rattle.setups.specs.Reading.{readAs, refusedAs, readVersion1, readSetup}
+use Rattle.setups.specs.Member.{memberSetup}
+use Rattle.setups.specs.Bits.{bits_at}
+use Rattle.setups.specs.Writing.{areEqual, written}
+use Rattle.setups.specs.Accepted.{EqualCounts, Writer, Readers}
 
 -- n bytes of a setup were written at the front of a buffer, which is b now: they read back the same, where the counts are
 -- equal by the reader of version 1 too, and the rest of the buffer keeps its bytes
@@ -25,17 +21,17 @@ pub record ReadsBack (buffer : List ℕ) (members : ℕ) (queues : List ℕ) (ge
 
 -- the queue counts of the members of a setup that was read
 abbrev pub countsRead : Setup → List ℕ
-countsRead s = take (s .members) (s .queues)
+countsRead s = take s.members s.queues
 
 -- a setup that was read: its numbers are in range, and there are 16 bytes of features
 pub record InRange (s : Setup) : Type 0 where
-  pub numbers : inNumbers (s .members) (countsRead s) (s .gets) (s .sets) ≡ true
-  pub features : length (s .features) ≡ featuresSize
+  pub numbers : inNumbers s.members (countsRead s) s.gets s.sets ≡ true
+  pub features : length s.features ≡ featuresSize
 
 -- what a setup says of a member
 pub record MemberInRange (s : MemberSetup) : Type 0 where
-  pub count : isCount (s .queues) ≡ true
-  pub features : length (s .features) ≡ featuresSize
+  pub count : isCount s.queues ≡ true
+  pub features : length s.features ≡ featuresSize
 
 pub record Claims : Type 0 where
   -- which setups are written, and which packed ones are read
@@ -43,19 +39,19 @@ pub record Claims : Type 0 where
       → Writer buffer members queues gets sets features
   pub readers : (l : List ℕ) → Readers l
   pub readsBack : (buffer : List ℕ) (members : ℕ) (queues : List ℕ) (gets sets : ℕ) (features : List ℕ) (n : ℕ) (b : List ℕ)
-      → _≡_ {A = ℕ × List ℕ} (n, b) (written buffer members queues gets sets features) → (n ≡ 0 → ⊥)
+      → ◌≡◌ {A = ℕ × List ℕ} (n, b) (written buffer members queues gets sets features) → (n ≡ 0 → ⊥)
       → ReadsBack buffer members queues gets sets features n b
   -- a refusal writes nothing
   pub unwritten : (buffer : List ℕ) (members : ℕ) (queues : List ℕ) (gets sets : ℕ) (features b : List ℕ)
-      → _≡_ {A = ℕ × List ℕ} (0, b) (written buffer members queues gets sets features) → b ≡ buffer
+      → ◌≡◌ {A = ℕ × List ℕ} (0, b) (written buffer members queues gets sets features) → b ≡ buffer
   -- what the reader of version 1 takes the reader of both takes alike
-  pub alike : (l : List ℕ) → readVersion1 l .answer ≡ Done → readSetup l ≡ readVersion1 l
+  pub alike : (l : List ℕ) → (readVersion1 l).answer ≡ Done → readSetup l ≡ readVersion1 l
   -- the reader of both never refuses version 2 by name
-  pub neverNamed : (l : List ℕ) → readSetup l .answer ≡ Version2 → ⊥
-  pub inRange : (l : List ℕ) → readSetup l .answer ≡ Done → InRange (readSetup l .setup)
-  pub memberInRange : (l : List ℕ) (m : ℕ) → memberSetup l m .known ≡ true → MemberInRange (memberSetup l m)
+  pub neverNamed : (l : List ℕ) → (readSetup l).answer ≡ Version2 → ⊥
+  pub in_range : (l : List ℕ) → (readSetup l).answer ≡ Done → InRange (readSetup l).setup
+  pub memberInRange : (l : List ℕ) (m : ℕ) → (memberSetup l m).known ≡ true → MemberInRange (memberSetup l m)
   -- what is read as version 1, or as version 2 with counts that differ, is written back to the same bytes
-  pub writtenBack : (l buffer : List ℕ) → ((i : ℕ) → getD l i 0 < 256) → length l ≤ length buffer
+  pub writtenBack : (l buffer : List ℕ) → ((i : ℕ) → get_or l i 0 < 256) → length l ≤ length buffer
       → (s : Setup) → readSetup l ≡ readAs s
-      → (bitsAt 0 4 l ≡ 2 → EqualCounts (countsRead s) → ⊥)
-      → written buffer (s .members) (countsRead s) (s .gets) (s .sets) (s .features) ≡ (length l, l ++ drop (length l) buffer)
+      → (bits_at 0 4 l ≡ 2 → EqualCounts (countsRead s) → ⊥)
+      → written buffer s.members (countsRead s) s.gets s.sets s.features ≡ (length l, l ++ drop (length l) buffer)

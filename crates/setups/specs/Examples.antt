@@ -1,16 +1,12 @@
 -- WORKED EXAMPLES of packed setups: the setup of 01, one of version 2, and each refusal. Assumes nothing.
-use mathlib.Core.Path.{_≡_}
-use mathlib.Core.Bool.{true}
-use mathlib.Core.List.{List, [], _∷_, _++_, map}
-use Prim.Native.Nat.{ℕ}
-use lib.ListN.{replicate}
-use Rattle·setups·specs.specs.declared.ReadAnswer.the-variants.{Version2, Refused}
-use Rattle·setups·specs.specs.declared.ReadOutcome.{ReadOutcome}
-use Rattle·setups·specs.specs.declared.MemberSetup.{MemberSetup}
-use Rattle·setups·specs.specs.Setup.{setupWith}
-use Rattle·setups·specs.specs.Reading.{readAs, refusedAs, readVersion1, readSetup}
-use Rattle·setups·specs.specs.Member.{noMember, memberSetup}
-use Rattle·setups·specs.specs.Writing.{written}
+use Rattle.std.specs.Prelude.{◌≡◌, true, List, [], ◌∷◌, ◌++◌, map, ℕ, replicate}
+use Rattle.setups.specs.declared.ReadAnswer.TheVariants.{Version2, Refused}
+use Rattle.setups.specs.declared.ReadOutcome.{ReadOutcome}
+use Rattle.setups.specs.declared.MemberSetup.{MemberSetup}
+use Rattle.setups.specs.Setup.{setupWith}
+use Rattle.setups.specs.Reading.{readAs, refusedAs, readVersion1, readSetup}
+use Rattle.setups.specs.Member.{noMember, memberSetup}
+use Rattle.setups.specs.Writing.{written}
 
 abbrev pub zeros : List ℕ
 zeros = replicate 16 0
@@ -69,8 +65,8 @@ setupsWritten =
 
 abbrev pub SetupsWritten : Type 0
 SetupsWritten =
-    map (λ (w : Write). written (replicate (w .room) 9) (w .members) (w .queues) (w .gets) (w .sets) (w .features)) setupsWritten
-    ≡ map (λ (w : Write). (w .count, w .after)) setupsWritten
+    map (λ (w : Write). written (replicate w.room 9) w.members w.queues w.gets w.sets w.features) setupsWritten
+    ≡ map (λ (w : Write). (w.count, w.after)) setupsWritten
 
 -- ---- read ----
 
@@ -115,8 +111,8 @@ setupsRead =
 
 abbrev pub SetupsRead : Type 0
 SetupsRead =
-    map {B = ReadOutcome × ReadOutcome} (λ (r : Read). (readSetup (r .bytes), readVersion1 (r .bytes))) setupsRead
-    ≡ map (λ (r : Read). (r .both, r .version1)) setupsRead
+    map {B = ReadOutcome × ReadOutcome} (λ (r : Read). (readSetup r.bytes, readVersion1 r.bytes)) setupsRead
+    ≡ map (λ (r : Read). (r.both, r.version1)) setupsRead
 
 -- ---- one member ----
 
@@ -140,4 +136,4 @@ membersAsked =
     ∷ []
 
 abbrev pub MembersAsked : Type 0
-MembersAsked = map (λ (a : Asked). memberSetup (a .bytes) (a .member)) membersAsked ≡ map (λ (a : Asked). a .says) membersAsked
+MembersAsked = map (λ (a : Asked). memberSetup a.bytes a.member) membersAsked ≡ map (λ (a : Asked). a.says) membersAsked

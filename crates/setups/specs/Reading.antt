@@ -1,37 +1,33 @@
 -- Packed setups read: 02, request 9. Assumes nothing.
-use mathlib.Core.Bool.{Bool}
-use mathlib.Core.List.{List, [], _∷_}
-use Prim.Native.Nat.{ℕ, zero, suc, _+_, _*_, _-_, _/_}
-use lib.Dec.{leb, eqb}
-use lib.ListN.{length, drop, replicate}
-use Rattle·theory.specs.Logic.{if_then_else_, unless_answer_then_, _and_}
-use Rattle·setups·specs.specs.declared.Setup.{Setup}
-use Rattle·setups·specs.specs.declared.ReadAnswer.{ReadAnswer}
-use Rattle·setups·specs.specs.declared.ReadAnswer.the-variants.{Done, Version2, Refused}
-use Rattle·setups·specs.specs.declared.ReadOutcome.{ReadOutcome}
-use Rattle·setups·specs.specs.Bits.{bitsAt}
-use Rattle·setups·specs.specs.Setup.{featuresSize, noCounts, setupWith}
+use Rattle.std.specs.Prelude.{Bool, List, [], ◌∷◌, ℕ, zero, suc, ◌+◌, ◌*◌, ◌-◌, ◌/◌, leb, eqb, length, drop, replicate}
+use Rattle.theory.specs.Logic.{if◌then◌else◌, unless◌answer◌then◌, ◌and◌}
+use Rattle.setups.specs.declared.Setup.{Setup}
+use Rattle.setups.specs.declared.ReadAnswer.{ReadAnswer}
+use Rattle.setups.specs.declared.ReadAnswer.TheVariants.{Done, Version2, Refused}
+use Rattle.setups.specs.declared.ReadOutcome.{ReadOutcome}
+use Rattle.setups.specs.Bits.{bits_at}
+use Rattle.setups.specs.Setup.{featuresSize, noCounts, setupWith}
 
 -- ---- the fields ----
 
 -- version 4 bits, N-1 in 4, Q-1 in 2 (zero in version 2), G in 4, S in 4, six zero bits
 abbrev pub versionIn : List ℕ → ℕ
-versionIn l = bitsAt 0 4 l
+versionIn l = bits_at 0 4 l
 
 abbrev pub membersIn : List ℕ → ℕ
-membersIn l = bitsAt 4 4 l + 1
+membersIn l = bits_at 4 4 l + 1
 
 abbrev pub queuesIn : List ℕ → ℕ
-queuesIn l = bitsAt 8 2 l
+queuesIn l = bits_at 8 2 l
 
 abbrev pub getsIn : List ℕ → ℕ
-getsIn l = bitsAt 10 4 l
+getsIn l = bits_at 10 4 l
 
 abbrev pub setsIn : List ℕ → ℕ
-setsIn l = bitsAt 14 4 l
+setsIn l = bits_at 14 4 l
 
 abbrev pub zerosIn : List ℕ → ℕ
-zerosIn l = bitsAt 18 6 l
+zerosIn l = bits_at 18 6 l
 
 -- the bytes of these 24 bits
 abbrev pub headSize : ℕ
@@ -47,7 +43,7 @@ padding n = 8 * countBytes n - 2 * n
 -- n queue counts, each less one in 2 bits, from a position on, `step` bits apart
 unfoldable pub countsFrom : List ℕ → ℕ → ℕ → ℕ → List ℕ
 countsFrom l at step zero = []
-countsFrom l at step (suc n) = (bitsAt at 2 l + 1) ∷ countsFrom l (at + step) step n
+countsFrom l at step (suc n) = (bits_at at 2 l + 1) ∷ countsFrom l (at + step) step n
 
 -- the features are the last 16 bytes
 unfoldable pub setupAt : List ℕ → ℕ → ℕ → Setup
@@ -70,7 +66,7 @@ isVersion2 n l =
     eqb (length l) (headSize + countBytes n + featuresSize)
     and headRight l
     and eqb (queuesIn l) 0
-    and eqb (bitsAt (24 + 2 * n) (padding n) l) 0
+    and eqb (bits_at (24 + 2 * n) (padding n) l) 0
 
 -- ---- the readers ----
 

@@ -1,13 +1,9 @@
 -- A setup (01's term) whose members may differ in their queue counts, and its ranges: SPEC 2.1 and 02, request 9. Assumes
 -- nothing.
-use mathlib.Core.Bool.{Bool, true}
-use mathlib.Core.List.{List, [], _∷_}
-use Prim.Native.Nat.{ℕ}
-use lib.Dec.{leb, eqb}
-use lib.ListN.{length, replicate}
-use Rattle·theory.specs.Logic.{_and_, within}
-use Rattle·theory.specs.Bytes.{put}
-use Rattle·setups·specs.specs.declared.Setup.{Setup}
+use Rattle.std.specs.Prelude.{Bool, true, List, [], ◌∷◌, ℕ, leb, eqb, length, replicate}
+use Rattle.theory.specs.Logic.{◌and◌, within}
+use Rattle.theory.specs.Bytes.{put}
+use Rattle.setups.specs.declared.Setup.{Setup}
 
 abbrev pub mostMembers : ℕ
 mostMembers = 16

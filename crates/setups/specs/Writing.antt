@@ -1,16 +1,11 @@
 -- A setup packed and written: 02, request 9. Assumes nothing.
-use mathlib.Core.Path.{_≡_}
-use mathlib.Core.Bool.{Bool, true}
-use mathlib.Core.List.{List, [], _∷_, _++_, map}
-use Prim.Native.Nat.{ℕ, _-_, _/_, _≤_}
-use lib.Dec.{leb, eqb}
-use lib.ListN.{length, getD}
-use Rattle·theory.specs.Logic.{if_then_else_, unless_answer_then_}
-use Rattle·theory.specs.Bytes.{put}
-use Rattle·setups·specs.specs.declared.Front.{Front}
-use Rattle·setups·specs.specs.Bits.{Field, field, widths, joined, packed}
-use Rattle·setups·specs.specs.Setup.{mostMembers, featuresSize, all, isCount, inNumbers}
-use Rattle·setups·specs.specs.Reading.{padding}
+use Rattle.std.specs.Prelude.{◌≡◌, Bool, true, List, [], ◌∷◌, ◌++◌, map, ℕ, ◌-◌, ◌/◌, ◌≤◌, leb, eqb, length, get_or}
+use Rattle.theory.specs.Logic.{if◌then◌else◌, unless◌answer◌then◌}
+use Rattle.theory.specs.Bytes.{put}
+use Rattle.setups.specs.declared.Front.{Front}
+use Rattle.setups.specs.Bits.{Field, field, widths, joined, packed}
+use Rattle.setups.specs.Setup.{mostMembers, featuresSize, all, isCount, inNumbers}
+use Rattle.setups.specs.Reading.{padding}
 
 -- ---- the fields ----
 
@@ -28,20 +23,20 @@ unfoldable pub countFields : List ℕ → List Field
 countFields queues = map countField queues ++ (field (padding (length queues)) 0 ∷ [])
 
 abbrev pub firstCount : List ℕ → ℕ
-firstCount queues = getD queues 0 0
+firstCount queues = get_or queues 0 0
 
 unfoldable pub areEqual : List ℕ → Bool
 areEqual queues = all (eqb (firstCount queues)) queues
 
 -- equal counts are always written as version 1, others as version 2, of which the Q field is zero
-unfoldable pub fieldsOf : ℕ → List ℕ → ℕ → ℕ → List Field
-fieldsOf members queues gets sets =
+unfoldable pub fields_of : ℕ → List ℕ → ℕ → ℕ → List Field
+fields_of members queues gets sets =
     if areEqual queues then headFields 1 members (firstCount queues - 1) gets sets
     else headFields 2 members 0 gets sets ++ countFields queues
 
 -- then the features
 unfoldable pub packedSetup : ℕ → List ℕ → ℕ → ℕ → List ℕ → List ℕ
-packedSetup members queues gets sets features = packed (fieldsOf members queues gets sets) ++ features
+packedSetup members queues gets sets features = packed (fields_of members queues gets sets) ++ features
 
 -- ---- into a lent buffer ----
 

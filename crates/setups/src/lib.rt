@@ -2,13 +2,12 @@
 mod reader;
 mod writer;
 
-ghost use mathlib.Core.Path.{_≡_};
-ghost use Prim.Native.Nat.{_≤_};
-ghost use Rattle·theory.specs.Logic.{within};
-ghost use Rattle·setups·specs.specs.Setup.{inRanges, all, inNumbers};
-ghost use Rattle·setups·specs.specs.Reading.{readNumber, readVersion1, readSetup};
-ghost use Rattle·setups·specs.specs.Member.{noMember, memberOf, memberSetup};
-ghost use Rattle·setups·specs.specs.Writing.{written};
+ghost use Rattle.std.specs.Prelude.{◌≡◌, ◌≤◌};
+ghost use Rattle.theory.specs.Logic.{within};
+ghost use Rattle.setups.specs.Setup.{inRanges, all, inNumbers};
+ghost use Rattle.setups.specs.Reading.{readNumber, readVersion1, readSetup};
+ghost use Rattle.setups.specs.Member.{noMember, memberOf, memberSetup};
+ghost use Rattle.setups.specs.Writing.{written};
 
 pub const MOST_MEMBERS: usize = 16;
 
@@ -18,6 +17,7 @@ pub const FEATURES_SIZE: usize = 16;
 const HEAD_SIZE: usize = 3;
 
 // A setup, with a queue count for each member; those of members past N are 0.
+#[derive(Drop)]
 pub struct Setup {
     pub members: u8,
     pub queues: [u8; MOST_MEMBERS],
@@ -26,6 +26,7 @@ pub struct Setup {
     pub features: [u8; FEATURES_SIZE],
 }
 
+#[derive(Drop)]
 pub enum ReadAnswer {
     Done,
     Version2,
@@ -33,12 +34,14 @@ pub enum ReadAnswer {
 }
 
 // Refused, the setup is all zero.
+#[derive(Drop)]
 pub struct ReadOutcome {
     pub answer: ReadAnswer,
     pub setup: Setup,
 }
 
 // What a setup says of one member. Where it says nothing, `known` is false, the queue count 0 and the features zeros.
+#[derive(Drop)]
 pub struct MemberSetup {
     pub known: bool,
     pub queues: u8,
@@ -46,6 +49,7 @@ pub struct MemberSetup {
 }
 
 // The bits before the features: how many bytes they fill, and the number that they are.
+#[derive(Drop)]
 struct Front {
     size: usize,
     number: u64,
@@ -55,7 +59,7 @@ struct Front {
 
 // N 1 to 16, G and S at most 8.
 pub fn in_ranges(members: u64, gets: u64, sets: u64) -> bool
-    ensures { λ r. ⌜ r ≡ inRanges members gets sets ⌝ }
+    ensures { result ≡ inRanges members gets sets }
 {
     if members < 1 {
         return false;
@@ -71,7 +75,7 @@ pub fn in_ranges(members: u64, gets: u64, sets: u64) -> bool
 
 // Each number is one from low to high.
 fn are_within(low: u8, high: u8, numbers: &[u8]) -> bool
-    ensures { λ r. ⌜ r ≡ all (within low high) (now (numbers .entry)) ⌝ }
+    ensures { result ≡ all (within low high) numbers.now }
 {
     let mut i = 0;
     while i < numbers.len() {
@@ -88,7 +92,7 @@ fn are_within(low: u8, high: u8, numbers: &[u8]) -> bool
 
 // These ranges, and one queue count of 1 to 4 for each member.
 pub fn in_numbers(members: u64, queues: &[u8], gets: u64, sets: u64) -> bool
-    ensures { λ r. ⌜ r ≡ inNumbers members (now (queues .entry)) gets sets ⌝ }
+    ensures { result ≡ inNumbers members queues.now gets sets }
 {
     if !in_ranges(members, gets, sets) {
         return false;
@@ -102,7 +106,7 @@ pub fn in_numbers(members: u64, queues: &[u8], gets: u64, sets: u64) -> bool
 // ---- reading ----
 
 pub fn read_number(answer: ReadAnswer) -> u8
-    ensures { λ r. ⌜ r ≡ readNumber answer ⌝ }
+    ensures { result ≡ readNumber answer }
 {
     match answer {
         ReadAnswer::Done => 0,
@@ -113,7 +117,7 @@ pub fn read_number(answer: ReadAnswer) -> u8
 
 // The reader of version 1, which refuses version 2 by name.
 pub fn read_version_1(s: &[u8]) -> ReadOutcome
-    ensures { λ r. ⌜ r ≡ readVersion1 (now (s .entry)) ⌝ }
+    ensures { result ≡ readVersion1 s.now }
 {
     if reader::bits(s, 0, 4) == 2 {
         return reader::refused(ReadAnswer::Version2);
@@ -123,7 +127,7 @@ pub fn read_version_1(s: &[u8]) -> ReadOutcome
 
 // The reader of both versions.
 pub fn read(s: &[u8]) -> ReadOutcome
-    ensures { λ r. ⌜ r ≡ readSetup (now (s .entry)) ⌝ }
+    ensures { result ≡ readSetup s.now }
 {
     if reader::bits(s, 0, 4) == 2 {
         return reader::take_version_2(s);
@@ -134,7 +138,7 @@ pub fn read(s: &[u8]) -> ReadOutcome
 // ---- one member ----
 
 fn no_member() -> MemberSetup
-    ensures { λ r. ⌜ r ≡ noMember ⌝ }
+    ensures { result ≡ noMember }
 {
     MemberSetup {
         known: false,
@@ -145,8 +149,8 @@ fn no_member() -> MemberSetup
 
 // What a setup says of a member.
 fn member_of(s: Setup, member: u64) -> MemberSetup
-    requires { ⌜ s .members ≤ 16 ⌝ }
-    ensures { λ r. ⌜ r ≡ memberOf s member ⌝ }
+    requires { s.members ≤ 16 }
+    ensures { result ≡ memberOf s member }
 {
     if member < 1 {
         return no_member();
@@ -165,7 +169,7 @@ fn member_of(s: Setup, member: u64) -> MemberSetup
 
 // What a packed setup of either version says of a member.
 pub fn member_setup(s: &[u8], member: u64) -> MemberSetup
-    ensures { λ r. ⌜ r ≡ memberSetup (now (s .entry)) member ⌝ }
+    ensures { result ≡ memberSetup s.now member }
 {
     let outcome = read(s);
     member_of(outcome.setup, member)
@@ -183,7 +187,7 @@ pub fn write(
     sets: u64,
     features: &[u8],
 ) -> usize
-    ensures { λ r. ⌜ (r, now (out .exit)) ≡ written (now (out .entry)) members (now (queues .entry)) gets sets (now (features .entry)) ⌝ }
+    ensures { (result, out.new) ≡ written out.old members queues.now gets sets features.now }
 {
     if !in_numbers(members, queues, gets, sets) {
         return 0;

@@ -1,23 +1,17 @@
 // Packed setups read: each field at its bits, and which bytes are a setup of either version.
-ghost use mathlib.Core.Path.{_≡_};
-ghost use Prim.Native.Nat.{_^_, _≤_, _<_};
-ghost use lib.ListN.{length};
-ghost use Rattle·setups·specs.specs.Bits.{bit, bitsAt};
-ghost use Rattle·setups·specs.specs.Setup.{featuresSize, sixteen};
-ghost use Rattle·setups·specs.specs.Reading.{countsFrom, setupAt, headRight, isVersion1, isVersion2, refusedAs, takeVersion1, takeVersion2};
-use super::FEATURES_SIZE;
-use super::HEAD_SIZE;
-use super::MOST_MEMBERS;
-use super::ReadAnswer;
-use super::ReadOutcome;
-use super::Setup;
+ghost use Rattle.std.specs.Prelude.{◌≡◌, ◌^◌, ◌≤◌, ◌<◌, length};
+ghost use Rattle.setups.specs.Bits.{bit, bits_at};
+ghost use Rattle.setups.specs.Setup.{featuresSize, sixteen};
+ghost use Rattle.setups.specs.Reading.{countsFrom, setupAt, headRight, isVersion1, isVersion2, refusedAs, takeVersion1, takeVersion2};
+
+use super::{FEATURES_SIZE, HEAD_SIZE, MOST_MEMBERS, ReadAnswer, ReadOutcome, Setup};
 
 // The queue counts of version 2 stand behind the head.
 const COUNTS_AT: usize = 24;
 
 // A bit past the end is 0.
 fn bit(s: &[u8], k: usize) -> u8
-    ensures { λ r. ⌜ (r ≡ bit k (now (s .entry))) × (r < 2) ⌝ }
+    ensures { (result ≡ bit k s.now) × (result < 2) }
 {
     if s.len() <= k / 8 {
         return 0;
@@ -27,8 +21,8 @@ fn bit(s: &[u8], k: usize) -> u8
 
 // The number in n bits.
 pub fn bits(s: &[u8], at: usize, n: usize) -> u8
-    requires { ⌜ (n ≤ 8) × (at < 256) ⌝ }
-    ensures { λ r. ⌜ (r ≡ bitsAt at n (now (s .entry))) × (r < 2 ^ n) ⌝ }
+    requires { (n ≤ 8) × (at < 256) }
+    ensures { (result ≡ bits_at at n s.now) × (result < 2 ^ n) }
 {
     let mut r: u8 = 0;
     let mut i = 0;
@@ -41,8 +35,8 @@ pub fn bits(s: &[u8], at: usize, n: usize) -> u8
 
 // n queue counts from a position on, so many bits apart.
 fn counts(s: &[u8], from: usize, step: usize, n: usize) -> [u8; MOST_MEMBERS]
-    requires { ⌜ (n ≤ 16) × (from ≤ 24) × (step ≤ 2) ⌝ }
-    ensures { λ r. ⌜ r ≡ sixteen (countsFrom (now (s .entry)) from step n) ⌝ }
+    requires { (n ≤ 16) × (from ≤ 24) × (step ≤ 2) }
+    ensures { result ≡ sixteen (countsFrom s.now from step n) }
 {
     let mut counts = [0u8; MOST_MEMBERS];
     let mut at = from;
@@ -57,8 +51,8 @@ fn counts(s: &[u8], from: usize, step: usize, n: usize) -> [u8; MOST_MEMBERS]
 
 // The setup whose queue counts stand from a position on.
 fn setup_at(s: &[u8], from: usize, step: usize) -> Setup
-    requires { ⌜ (featuresSize ≤ length (now s)) × (from ≤ 24) × (step ≤ 2) ⌝ }
-    ensures { λ r. ⌜ r ≡ setupAt (now (s .entry)) from step ⌝ }
+    requires { (featuresSize ≤ length s.now) × (from ≤ 24) × (step ≤ 2) }
+    ensures { result ≡ setupAt s.now from step }
 {
     let members = bits(s, 4, 4) + 1;
     let queues = counts(s, from, step, members as usize);
@@ -76,7 +70,7 @@ fn setup_at(s: &[u8], from: usize, step: usize) -> Setup
 
 // The six zero bits, and the numbers that can be out of range.
 fn is_head_right(s: &[u8]) -> bool
-    ensures { λ r. ⌜ r ≡ headRight (now (s .entry)) ⌝ }
+    ensures { result ≡ headRight s.now }
 {
     if bits(s, 18, 6) != 0 {
         return false;
@@ -89,7 +83,7 @@ fn is_head_right(s: &[u8]) -> bool
 
 // Whether these bytes are a setup of version 1.
 fn is_version_1(s: &[u8]) -> bool
-    ensures { λ r. ⌜ r ≡ isVersion1 (now (s .entry)) ⌝ }
+    ensures { result ≡ isVersion1 s.now }
 {
     if bits(s, 0, 4) != 1 {
         return false;
@@ -102,8 +96,8 @@ fn is_version_1(s: &[u8]) -> bool
 
 // Whether they are one of version 2 with n members, if that is their version.
 fn is_version_2(s: &[u8], n: usize) -> bool
-    requires { ⌜ (1 ≤ n) × (n ≤ 16) ⌝ }
-    ensures { λ r. ⌜ r ≡ isVersion2 n (now (s .entry)) ⌝ }
+    requires { (1 ≤ n) × (n ≤ 16) }
+    ensures { result ≡ isVersion2 n s.now }
 {
     let count_bytes = (n + 3) / 4;
     if s.len() != HEAD_SIZE + count_bytes + FEATURES_SIZE {
@@ -119,7 +113,7 @@ fn is_version_2(s: &[u8], n: usize) -> bool
 }
 
 pub fn refused(answer: ReadAnswer) -> ReadOutcome
-    ensures { λ r. ⌜ r ≡ refusedAs answer ⌝ }
+    ensures { result ≡ refusedAs answer }
 {
     ReadOutcome {
         answer,
@@ -134,7 +128,7 @@ pub fn refused(answer: ReadAnswer) -> ReadOutcome
 }
 
 pub fn take_version_1(s: &[u8]) -> ReadOutcome
-    ensures { λ r. ⌜ r ≡ takeVersion1 (now (s .entry)) ⌝ }
+    ensures { result ≡ takeVersion1 s.now }
 {
     if !is_version_1(s) {
         return refused(ReadAnswer::Refused);
@@ -146,7 +140,7 @@ pub fn take_version_1(s: &[u8]) -> ReadOutcome
 }
 
 pub fn take_version_2(s: &[u8]) -> ReadOutcome
-    ensures { λ r. ⌜ r ≡ takeVersion2 (now (s .entry)) ⌝ }
+    ensures { result ≡ takeVersion2 s.now }
 {
     let n = bits(s, 4, 4) as usize + 1;
     if !is_version_2(s, n) {

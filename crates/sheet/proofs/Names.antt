@@ -1,21 +1,21 @@
 -- The names of the lines as the code has them, eight bytes each, are those of the rows. Assumes nothing.
-use mathlib.Core.Path.{_≡_, refl, ap}
+use mathlib.Core.Path.{◌≡◌, refl, ap}
 use mathlib.Core.Bool.{Bool, true}
-use mathlib.Core.List.{List, [], _∷_}
-use Prim.Native.Nat.{ℕ, _+_, _-_, _*_, _≤_, _<_}
+use mathlib.Core.List.{List, [], ◌∷◌}
+use Prim.Native.Nat.{ℕ, ◌+◌, ◌-◌, ◌*◌, ◌≤◌, ◌<◌}
 use native.Mathlib.Omega.{arith}
 use mir.Syntax.{w64}
 use mir.Val.{Fits}
 use borrow.Author.Tests.{eqb-true, leb-true}
 use lib.Dec.{eqb, leb}
-use lib.ListN.{length, getD, take, drop}
-use Rattle·theory.specs.Logic.{_and_}
-use Rattle·theory.specs.Bytes.{bytesAt, put, same}
-use Rattle·theory.proofs.Table.{every, at}
-use Rattle·theory.proofs.Tests.{same-true}
-use Rattle·decimal.specs.Decimal.{line}
-use Rattle·tally.specs.Rows.{Row, row, rows, rowCount}
-use Rattle·sheet·specs.specs.Text.{nameAt}
+use lib.ListN.{length, get_or, take, drop}
+use Rattle.theory.specs.Logic.{◌and◌}
+use Rattle.theory.specs.Bytes.{bytes_at, put, same}
+use Rattle.theory.proofs.Table.{every, at}
+use Rattle.theory.proofs.Tests.{same_true}
+use Rattle.decimal.specs.Decimal.{line}
+use Rattle.tally.specs.Rows.{Row, row, rows, rowCount}
+use Rattle.sheet.specs.Text.{name_at}
 
 abbrev names : List ℕ
 names =
@@ -39,50 +39,50 @@ names =
 abbrev sizes : List ℕ
 sizes = 4 ∷ 8 ∷ 3 ∷ 7 ∷ 6 ∷ 4 ∷ 8 ∷ 5 ∷ 4 ∷ 5 ∷ 5 ∷ 5 ∷ 5 ∷ 5 ∷ 5 ∷ 5 ∷ []
 
-every-name : (f : ℕ → List ℕ → Bool) → every (λ k (r : Row). f k (r .name)) 0 rows ≡ true → (i : ℕ) → i < rowCount → f i (nameAt i) ≡ true
-unfolding nameAt rows
-every-name f t i h = at (λ k (r : Row). f k (r .name)) (row [] (λ queues k c. 0)) rows t i h
+every-name : (f : ℕ → List ℕ → Bool) → every (λ k (r : Row). f k r.name) 0 rows ≡ true → (i : ℕ) → i < rowCount → f i (name_at i) ≡ true
+unfolding name_at rows
+every-name f t i h = at (λ k (r : Row). f k r.name) (row [] (λ queues k c. 0)) rows t i h
 
 module _ (i : ℕ) (h : i < rowCount) where
-  pub size-is : getD sizes i 0 ≡ length (nameAt i)
-  unfolding rows every _and_
-  size-is = eqb-true _ _ (every-name (λ k x. eqb (getD sizes k 0) (length x)) refl i h)
+  pub size_is : get_or sizes i 0 ≡ length (name_at i)
+  unfolding rows every ◌and◌
+  size_is = eqb-true _ _ (every-name (λ k x. eqb (get_or sizes k 0) (length x)) refl i h)
 
-  pub size-low : getD sizes i 0 ≤ 8
-  unfolding rows every _and_
-  size-low = leb-true _ _ (every-name (λ k x. leb (getD sizes k 0) 8) refl i h)
+  pub size_low : get_or sizes i 0 ≤ 8
+  unfolding rows every ◌and◌
+  size_low = leb-true _ _ (every-name (λ k x. leb (get_or sizes k 0) 8) refl i h)
 
-  pub name-low : length (nameAt i) ≤ 8
-  name-low = rw size-is at size-low
+  pub name-low : length (name_at i) ≤ 8
+  name-low = rw size_is at size_low
 
-  name-is : bytesAt (8 * i) (length (nameAt i)) names ≡ nameAt i
-  unfolding rows every same _and_
-  name-is = same-true _ _ (every-name (λ k x. same (bytesAt (8 * k) (length x) names) x) refl i h)
+  name-is : bytes_at (8 * i) (length (name_at i)) names ≡ name_at i
+  unfolding rows every same ◌and◌
+  name-is = same_true _ _ (every-name (λ k x. same (bytes_at (8 * k) (length x) names) x) refl i h)
 
-  pub size-fits : Fits w64 (getD sizes i 0)
-  size-fits = record { fits = omega (arith, size-low) }
+  pub size_fits : Fits w64 (get_or sizes i 0)
+  size_fits = record { fits = omega (arith, size_low) }
 
-  pub end-fits : Fits w64 (8 * i + getD sizes i 0)
-  end-fits = record { fits = omega (arith, size-low) }
+  pub end_fits : Fits w64 (8 * i + get_or sizes i 0)
+  end_fits = record { fits = omega (arith, size_low) }
 
-  pub end-is : 8 * i + getD sizes i 0 ≡ 8 * i + length (nameAt i)
-  end-is = ap (λ x. 8 * i + x) size-is
+  pub end_is : 8 * i + get_or sizes i 0 ≡ 8 * i + length (name_at i)
+  end_is = ap (λ x. 8 * i + x) size_is
 
   -- the end of a name
-  module _ (e : ℕ) (k : e ≡ 8 * i + length (nameAt i)) where
+  module _ (e : ℕ) (k : e ≡ 8 * i + length (name_at i)) where
     pub name-end : e ≤ 128
     name-end = omega (arith, name-low)
 
-    lent : take (e - 8 * i) (drop (8 * i) names) ≡ nameAt i
-    lent = let z : e - 8 * i ≡ length (nameAt i) = omega arith in rw z name-is
+    lent : take (e - 8 * i) (drop (8 * i) names) ≡ name_at i
+    lent = let z : e - 8 * i ≡ length (name_at i) = omega arith in rw z name-is
 
-    pub name-room : (at n : ℕ) (out : List ℕ) → at + length (line (nameAt i) n) ≤ length out
+    pub name-room : (at n : ℕ) (out : List ℕ) → at + length (line (name_at i) n) ≤ length out
         → at + length (line (take (e - 8 * i) (drop (8 * i) names)) n) ≤ length out
     name-room at n out l = rw lent l
 
     pub name-put : (at n : ℕ) (out after : List ℕ) → after ≡ put at (line (take (e - 8 * i) (drop (8 * i) names)) n) out
-        → after ≡ put at (line (nameAt i) n) out
+        → after ≡ put at (line (name_at i) n) out
     name-put at n out after l = rw lent at l
 
-    pub name-next : (at n r : ℕ) → r ≡ at + length (line (take (e - 8 * i) (drop (8 * i) names)) n) → r ≡ at + length (line (nameAt i) n)
+    pub name-next : (at n r : ℕ) → r ≡ at + length (line (take (e - 8 * i) (drop (8 * i) names)) n) → r ≡ at + length (line (name_at i) n)
     name-next at n r l = rw lent at l

@@ -1,32 +1,32 @@
 -- However the bytes are cut: fed one after the other they leave the card that holds them joined. Assumes nothing.
-use mathlib.Core.Path.{_≡_, refl, ap, sym, _∙_}
+use mathlib.Core.Path.{◌≡◌, refl, ap, sym, ◌∙◌}
 use mathlib.Core.Bool.{true, false}
-use mathlib.Core.List.{List, [], _∷_, _++_, append-nil, append-assoc}
-use Prim.Native.Nat.{ℕ, _+_, _-_, _≤_, _<_}
+use mathlib.Core.List.{List, [], ◌∷◌, ◌++◌, append-nil, append_assoc}
+use Prim.Native.Nat.{ℕ, ◌+◌, ◌-◌, ◌≤◌, ◌<◌}
 use native.Mathlib.Nat.{zero-add}
 use native.Mathlib.Omega.{arith}
 use lib.ListN.{length, take, drop, length-append}
-use lib.Seq.{take-at}
+use lib.Seq.{take_at}
 use borrow.Author.Tests.{le-leb, lt-ltb, eq-eqb}
-use Rattle·theory.specs.Logic.{unless_answer_then_}
-use Rattle·theory.specs.Bytes.{put}
-use Rattle·theory.proofs.Tests.{by-cases}
-use Rattle·theory.proofs.Bytes.{length-put, put-nil, put-append, put-front}
-use Rattle·member.specs.declared.Member.{Member}
-use Rattle·member.specs.Record.{holdingSize}
-use Rattle·member.specs.Member.{withHeld}
-use Rattle·card.specs.Layout.{isMember, memberIn, isMarked, holdingIn}
-use Rattle·card.specs.Sound.{isSound}
-use Rattle·card.proofs.MemberLaws.{holding-with-member}
-use Rattle·staging·specs.specs.Staging.{heldIn, heldBytes, withHeldBytes, opened, joinedTo, beginOf, feedOf, finishOf}
-use Rattle·staging·specs.specs.Claims.{joined, fed, HoldsJoined, CutAnywhere}
-use Rattle·staging·proofs.proofs.Refusals.{on-member, on-open, on-member-marked, on-open-marked}
-use Rattle·staging·proofs.proofs.Places.{holding-back, holding-long, has, held-mark, held-sound, held-member, held-number, held-bytes, held-over}
+use Rattle.theory.specs.Logic.{unless◌answer◌then◌}
+use Rattle.theory.specs.Bytes.{put}
+use Rattle.theory.proofs.Tests.{by_cases}
+use Rattle.theory.proofs.Bytes.{length-put, put-nil, put-append, put_front}
+use Rattle.member.specs.declared.Member.{Member}
+use Rattle.member.specs.Record.{holdingSize}
+use Rattle.member.specs.Member.{withHeld}
+use Rattle.card.specs.Layout.{isMember, memberIn, isMarked, holdingIn}
+use Rattle.card.specs.Sound.{isSound}
+use Rattle.card.proofs.MemberLaws.{holding-with-member}
+use Rattle.staging.specs.Staging.{heldIn, heldBytes, withHeldBytes, opened, joinedTo, beginOf, feedOf, finishOf}
+use Rattle.staging.specs.Claims.{joined, fed, HoldsJoined, CutAnywhere}
+use Rattle.staging.proofs.Refusals.{on-member, on-open, on-member-marked, on-open-marked}
+use Rattle.staging.proofs.Places.{holding-back, holding-long, has, held-mark, held-sound, held-member, held_number, held_bytes, held-over}
 
 -- a feed that is taken; n says what is held
 feed-at : (d : List ℕ) (m : ℕ) (x : List ℕ) → isSound d ≡ true → isMember d m ≡ true → isMarked d m ≡ false → (n : ℕ) → heldIn d m ≡ n → 0 < n
-    → n - 1 + length x ≤ holdingSize → feedOf d m x .1 ≡ withHeldBytes d m (n + length x) (put (n - 1) x (holdingIn d m))
-unfolding feedOf unless_answer_then_
+    → n - 1 + length x ≤ holdingSize → (feedOf d m x).1 ≡ withHeldBytes d m (n + length x) (put (n - 1) x (holdingIn d m))
+unfolding feedOf unless◌answer◌then◌
 feed-at d m x s h u n e l i =
     rw (on-open d m (joinedTo d m x) s h u (lt-ltb 0 (heldIn d m) (rw e l))) (rw e (rw (le-leb (n - 1 + length x) holdingSize i)))
 
@@ -36,8 +36,8 @@ unfoldable holds : List ℕ → ℕ → List ℕ → List ℕ
 holds c m y = withHeldBytes c m (1 + length y) (put 0 y (holdingIn c m))
 
 module _ (c : List ℕ) (m : ℕ) (e : isSound c ≡ true) (h : isMember c m ≡ true) (u : isMarked c m ≡ false) where
-  began : heldIn c m ≡ 0 → beginOf c m .1 ≡ holds c m []
-  unfolding beginOf holds withHeldBytes unless_answer_then_
+  began : heldIn c m ≡ 0 → (beginOf c m).1 ≡ holds c m []
+  unfolding beginOf holds withHeldBytes unless◌answer◌then◌
   began z =
       rw (on-member c m (opened c m) e h u, eq-eqb (heldIn c m) 0 z, put-nil, ← holding-with-member c m (withHeld (memberIn c m) 1))
       (sym (holding-back _ m))
@@ -49,7 +49,7 @@ module _ (c : List ℕ) (m : ℕ) (e : isSound c ≡ true) (h : isMember c m ≡
     full : length (put 0 y (holdingIn c m)) ≡ holdingSize
     full = length-put 0 y (holdingIn c m) ∙ holding-long c m (has c m e h)
 
-    feeds : feedOf (holds c m y) m x .1 ≡ holds c m (y ++ x)
+    feeds : (feedOf (holds c m y) m x).1 ≡ holds c m (y ++ x)
     unfolding holds
     feeds =
         let w = long in
@@ -59,8 +59,8 @@ module _ (c : List ℕ) (m : ℕ) (e : isSound c ≡ true) (h : isMember c m ≡
         let k : 1 + length y - 1 ≡ length y = omega arith in
         let j : 1 + length y + length x ≡ 1 + length (y ++ x) = omega (arith, length-append y x) in
         feed-at (holds c m y) m x (held-sound c m e h u _ few p) (held-member c m e h u _ few p) (held-mark c m e h _ p m ∙ u) (1 + length y)
-        (ap (λ (z : Member). z .held) (held-number c m e h u _ few p)) (omega arith) (omega arith)
-        ∙ rw (k, held-bytes c m e h u _ few p full)
+        (ap (λ (z : Member). z.held) (held_number c m e h u _ few p)) (omega arith) (omega arith)
+        ∙ rw (k, held_bytes c m e h u _ few p full)
         (held-over c m e h u _ few p _ _ next (length-put (length y) x p ∙ full)
         ∙ rw (j, put-append 0 y x (holdingIn c m), zero-add))
 
@@ -68,7 +68,7 @@ module _ (c : List ℕ) (m : ℕ) (e : isSound c ≡ true) (h : isMember c m ≡
   unfolding fed joined
   fed-all y [] i = rw append-nil
   fed-all y (x ∷ xs) i =
-      let a = append-assoc y x (joined xs) in
+      let a = append_assoc y x (joined xs) in
       let g : length (y ++ x) ≤ holdingSize = omega (arith, i, length-append y (x ++ joined xs), length-append x (joined xs), length-append y x) in
       rw (feeds y x g, ← a) (fed-all (y ++ x) xs (rw a i))
 
@@ -76,7 +76,7 @@ module _ (c : List ℕ) (m : ℕ) (e : isSound c ≡ true) (h : isMember c m ≡
   front-taken : (y l : List ℕ) → length y ≤ length l → take (1 + length y - 1) (put 0 y l) ≡ y
   front-taken y l i =
       let k : 1 + length y - 1 ≡ length y = omega arith in
-      rw (k, put-front y l i) (take-at y (drop (length y) l) (length y) refl)
+      rw (k, put_front y l i) (take_at y (drop (length y) l) (length y) refl)
 
   held-joined : (y : List ℕ) → length y ≤ holdingSize → heldBytes (holds c m y) m ≡ y
   unfolding holds
@@ -84,8 +84,8 @@ module _ (c : List ℕ) (m : ℕ) (e : isSound c ≡ true) (h : isMember c m ≡
       let l = holding-long c m (has c m e h) in
       let few : 1 + length y ≤ 1 + holdingSize = omega arith in
       let p = put 0 y (holdingIn c m) in
-      ap (λ (z : Member). take (z .held - 1) (holdingIn (holds c m y) m)) (held-number c m e h u (1 + length y) few p)
-      ∙ ap (take (1 + length y - 1)) (held-bytes c m e h u (1 + length y) few p (length-put 0 y (holdingIn c m) ∙ l))
+      ap (λ (z : Member). take (z.held - 1) (holdingIn (holds c m y) m)) (held_number c m e h u (1 + length y) few p)
+      ∙ ap (take (1 + length y - 1)) (held_bytes c m e h u (1 + length y) few p (length-put 0 y (holdingIn c m) ∙ l))
       ∙ front-taken y (holdingIn c m) (omega arith)
 
 pub holds-joined : HoldsJoined
@@ -93,9 +93,9 @@ holds-joined c m e h u z xs i =
     ap (λ d. heldBytes d m) (rw (began c m e h u z) (fed-all c m e h u [] xs i)) ∙ held-joined c m e h u (joined xs) i
 
 -- a marked member: nothing is begun, and nothing is held
-marked-begun : (c : List ℕ) (m : ℕ) → isSound c ≡ true → isMember c m ≡ true → isMarked c m ≡ true → beginOf c m .1 ≡ c
+marked-begun : (c : List ℕ) (m : ℕ) → isSound c ≡ true → isMember c m ≡ true → isMarked c m ≡ true → (beginOf c m).1 ≡ c
 unfolding beginOf
-marked-begun c m e h u = ap (λ (y : ℕ × List ℕ). y .1) (on-member-marked c m (opened c m) e h u)
+marked-begun c m e h u = ap (λ (y : ℕ × List ℕ). y.1) (on-member-marked c m (opened c m) e h u)
 
 marked-fed : (c : List ℕ) (m : ℕ) → isSound c ≡ true → isMember c m ≡ true → isMarked c m ≡ true → (xs : List (List ℕ)) → fed m c xs ≡ c
 unfolding fed feedOf
@@ -105,6 +105,6 @@ marked-fed c m e h u (x ∷ xs) = rw (on-open-marked c m (joinedTo c m x) e h u)
 pub cut-anywhere : CutAnywhere
 cut-anywhere c m id e h z xs ys p i =
     ap (λ d. finishOf d m id)
-    (by-cases (isMarked c m)
+    (by_cases (isMarked c m)
     (λ u. rw (marked-begun c m e h u) (marked-fed c m e h u xs ∙ sym (marked-fed c m e h u ys)))
     (λ u. rw (began c m e h u z) (fed-all c m e h u [] xs i ∙ ap (holds c m) p ∙ sym (fed-all c m e h u [] ys (rw p at i)))))

@@ -1,23 +1,23 @@
 -- A holding place that is put in a card: what is there then, and that the card stays sound. Assumes nothing.
-use mathlib.Core.Path.{_≡_, refl, ap, sym, _∙_}
+use mathlib.Core.Path.{◌≡◌, refl, ap, sym, ◌∙◌}
 use mathlib.Core.Bool.{true, false}
 use mathlib.Core.List.{List}
-use Prim.Native.Nat.{ℕ, _+_, _-_, _≤_}
+use Prim.Native.Nat.{ℕ, ◌+◌, ◌-◌, ◌≤◌}
 use native.Mathlib.Omega.{arith}
 use lib.ListN.{length, length-take}
 use borrow.Author.Tests.{ltb-true}
-use Rattle·theory.proofs.Tests.{by-cases, within-low}
-use Rattle·member.specs.declared.Member.{Member}
-use Rattle·member.specs.Record.{holdingSize}
-use Rattle·member.specs.Member.{withHeld}
-use Rattle·member.proofs.Sound.{sound-held}
-use Rattle·card.specs.Layout.{holdingAt, HasRecord, isMember, memberIn, withMember, isMarked, holdingIn, withHolding, noBytes}
-use Rattle·card.specs.Sound.{isSound}
-use Rattle·card.proofs.RecordBytesLaws.{bytes-long, bytes-back}
-use Rattle·card.proofs.MemberLaws.{setup-with-member, setup-with-holding, length-with-member, member-same, member-over, member-with-holding, holding-same, holding-over, holding-swap}
-use Rattle·card.proofs.MarkLaws.{marked-is, mark-with-member, mark-behind}
-use Rattle·card.proofs.SoundLaws.{Sound, SoundIn, sound-of, is-sound, sound-has, sound-member-in, sound-with-member, sound-with-holding}
-use Rattle·staging·specs.specs.Staging.{heldIn, isOpen, heldBytes, withHeldBytes, withoutHeld}
+use Rattle.theory.proofs.Tests.{by_cases, within_low}
+use Rattle.member.specs.declared.Member.{Member}
+use Rattle.member.specs.Record.{holdingSize}
+use Rattle.member.specs.Member.{withHeld}
+use Rattle.member.proofs.Sound.{sound-held}
+use Rattle.card.specs.Layout.{holdingAt, HasRecord, isMember, memberIn, withMember, isMarked, holdingIn, withHolding, noBytes}
+use Rattle.card.specs.Sound.{isSound}
+use Rattle.card.proofs.RecordBytesLaws.{bytes-long, bytes_back}
+use Rattle.card.proofs.MemberLaws.{setup-with-member, setup-with-holding, length-with-member, member-same, member-over, member-with-holding, holding-same, holding-over, holding-swap}
+use Rattle.card.proofs.MarkLaws.{marked-is, mark-with-member, mark-behind}
+use Rattle.card.proofs.SoundLaws.{Sound, SoundIn, sound-of, is-sound, sound-has, sound-member-in, sound-with-member, sound-with-holding}
+use Rattle.staging.specs.Staging.{heldIn, isOpen, heldBytes, withHeldBytes, withoutHeld}
 
 -- what is held with a fragment of x bytes more
 pub few-fed : (n x : ℕ) → n - 1 + x ≤ holdingSize → n + x ≤ 1 + holdingSize
@@ -27,7 +27,7 @@ module _ (c : List ℕ) (m : ℕ) where
   -- to put what is there changes nothing
   pub holding-back : withHolding c m (holdingIn c m) ≡ c
   unfolding withHolding holdingIn
-  holding-back = bytes-back c m holdingAt holdingSize
+  holding-back = bytes_back c m holdingAt holdingSize
 
   pub holding-long : HasRecord c m → length (holdingIn c m) ≡ holdingSize
   unfolding holdingIn
@@ -41,7 +41,7 @@ module _ (c : List ℕ) (m : ℕ) (e : isSound c ≡ true) (h : isMember c m ≡
   facts = sound-of c e
 
   low : 1 ≤ m
-  low = within-low _ _ m h
+  low = within_low _ _ m h
 
   pub has : HasRecord c m
   has = sound-has c facts m h
@@ -55,13 +55,13 @@ module _ (c : List ℕ) (m : ℕ) (e : isSound c ≡ true) (h : isMember c m ≡
 
   -- a member whose holding place is open is not marked
   pub open-unmarked : isOpen c m ≡ true → isMarked c m ≡ false
-  open-unmarked o = by-cases (isMarked c m)
-      (λ t. let z = sound-member-in c facts m h .mark (sym (marked-is c m h) ∙ t) .noPlace in absurd (omega (arith, ltb-true 0 (heldIn c m) o)))
+  open-unmarked o = by_cases (isMarked c m)
+      (λ t. let z = ((sound-member-in c facts m h).mark (sym (marked-is c m h) ∙ t)).noPlace in absurd (omega (arith, ltb-true 0 (heldIn c m) o)))
       (λ t. t)
 
 -- of a member that is not marked
 module _ (c : List ℕ) (m : ℕ) (e : isSound c ≡ true) (h : isMember c m ≡ true) (u : isMarked c m ≡ false) where
-  unmarked : memberIn c m .marked ≡ false
+  unmarked : (memberIn c m).marked ≡ false
   unmarked = sym (marked-is c m h) ∙ u
 
   sound-there : SoundIn c (memberIn c m)
@@ -74,8 +74,8 @@ module _ (c : List ℕ) (m : ℕ) (e : isSound c ≡ true) (h : isMember c m ≡
     pub number-sound : Sound (withMember c m (withHeld (memberIn c m) n))
     number-sound = sound-with-member c m _ (facts c m e h) (low c m e h) member-sound
 
-    pub number-put : memberIn (withMember c m (withHeld (memberIn c m) n)) m ≡ withHeld (memberIn c m) n
-    number-put = member-same c m _ (has c m e h) (member-sound .shaped)
+    pub number_put : memberIn (withMember c m (withHeld (memberIn c m) n)) m ≡ withHeld (memberIn c m) n
+    number_put = member-same c m _ (has c m e h) member-sound.shaped
 
     module _ (x : List ℕ) where
       pub held-sound : isSound (withHeldBytes c m n x) ≡ true
@@ -86,13 +86,13 @@ module _ (c : List ℕ) (m : ℕ) (e : isSound c ≡ true) (h : isMember c m ≡
       unfolding withHeldBytes
       held-member = rw (setup-with-holding, setup-with-member) h
 
-      pub held-number : memberIn (withHeldBytes c m n x) m ≡ withHeld (memberIn c m) n
+      pub held_number : memberIn (withHeldBytes c m n x) m ≡ withHeld (memberIn c m) n
       unfolding withHeldBytes
-      held-number = member-with-holding _ m x m (low c m e h) (low c m e h) ∙ number-put
+      held_number = member-with-holding _ m x m (low c m e h) (low c m e h) ∙ number_put
 
-      pub held-bytes : length x ≡ holdingSize → holdingIn (withHeldBytes c m n x) m ≡ x
+      pub held_bytes : length x ≡ holdingSize → holdingIn (withHeldBytes c m n x) m ≡ x
       unfolding withHeldBytes
-      held-bytes l = holding-same _ m x (record { low = low c m e h; high = rw length-with-member (has c m e h .high) }) l
+      held_bytes l = holding-same _ m x (record { low = low c m e h; high = rw length-with-member (has c m e h).high }) l
 
       -- the last that is put stands
       pub held-over : (k : ℕ) (y : List ℕ) → k ≤ 1 + holdingSize → length y ≡ holdingSize
@@ -100,8 +100,8 @@ module _ (c : List ℕ) (m : ℕ) (e : isSound c ≡ true) (h : isMember c m ≡
       unfolding withHeldBytes
       held-over k y i l =
           let s = sound-held _ _ _ (memberIn c m) sound-there unmarked k i in
-          ap (λ (z : Member). withHolding (withMember (withHeldBytes c m n x) m (withHeld z k)) m y) held-number
-          ∙ ap (λ d. withHolding d m y) (holding-swap _ m x (withHeld (memberIn c m) k) ∙ ap (λ d. withHolding d m x) (member-over c m _ _ (s .shaped)))
+          ap (λ (z : Member). withHolding (withMember (withHeldBytes c m n x) m (withHeld z k)) m y) held_number
+          ∙ ap (λ d. withHolding d m y) (holding-swap _ m x (withHeld (memberIn c m) k) ∙ ap (λ d. withHolding d m x) (member-over c m _ _ s.shaped))
           ∙ holding-over _ m x y l
 
   pub gone-sound : isSound (withoutHeld c m) ≡ true

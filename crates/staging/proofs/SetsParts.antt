@@ -1,26 +1,26 @@
 -- Finish is one parts set of the joined bytes: its reply is the same in any buffer of 8 bytes or more. Assumes nothing.
-use mathlib.Core.Path.{_≡_, ap, sym, _∙_}
+use mathlib.Core.Path.{◌≡◌, ap, sym, ◌∙◌}
 use mathlib.Core.List.{List}
-use Prim.Native.Nat.{ℕ, _+_, _*_}
+use Prim.Native.Nat.{ℕ, ◌+◌, ◌*◌}
 use native.Mathlib.Omega.{arith}
-use Rattle·wire.specs.Le.{number}
-use Rattle·wire.proofs.Le.{number-none, number-step}
-use Rattle·host.specs.Request.{setParts}
-use Rattle·reply.specs.Reply.{headSize}
-use Rattle·admin.specs.Command.{respond}
-use Rattle·staging·proofs.proofs.PartsSet.{respond-parts-set}
-use Rattle·staging·specs.specs.Staging.{heldBytes, concluded, finishOf}
-use Rattle·staging·specs.specs.Claims.{FinishIsPartsSet}
-use Rattle·staging·proofs.proofs.Refusals.{on-open}
-use Rattle·staging·proofs.proofs.Places.{held-short, has, open-unmarked}
+use Rattle.wire.specs.Le.{number}
+use Rattle.wire.proofs.Le.{number-none, number_step}
+use Rattle.host.specs.Request.{setParts}
+use Rattle.reply.specs.Reply.{headSize}
+use Rattle.admin.specs.Command.{respond}
+use Rattle.staging.proofs.PartsSet.{respond-parts-set}
+use Rattle.staging.specs.Staging.{heldBytes, concluded, finishOf}
+use Rattle.staging.specs.Claims.{FinishIsPartsSet}
+use Rattle.staging.proofs.Refusals.{on-open}
+use Rattle.staging.proofs.Places.{held-short, has, open-unmarked}
 
 -- a number of four bytes is two of two
 halves : (l : List ℕ) → number 0 4 l ≡ number 0 2 l + 65536 * number 2 2 l
 halves l =
-    let a = number-step 0 3 l in
-    let b = number-step 1 2 l in
-    let c = number-step 0 1 l in
-    let d = number-step 1 0 l in
+    let a = number_step 0 3 l in
+    let b = number_step 1 2 l in
+    let c = number_step 0 1 l in
+    let d = number_step 1 0 l in
     let e = number-none 2 l in
     rw (a, b, c, d, e) (omega arith)
 
@@ -35,6 +35,6 @@ finish-is-parts-set c m id room s h o small l =
     let r : respond c (setParts m id x) headSize ≡ respond c (setParts m id x) room = short ∙ sym long in
     let f : finishOf c m id ≡ concluded m (respond c (setParts m id x) room) = on-open c m _ s h u o ∙ ap (concluded m) r in
     record {
-      answer = ap (λ (z : ℕ × List ℕ). z .0) f ∙ halves _;
-      card = ap (λ (z : ℕ × List ℕ). z .1) f;
+      answer = ap (λ (z : ℕ × List ℕ). z.0) f ∙ halves _;
+      card = ap (λ (z : ℕ × List ℕ). z.1) f;
     }

@@ -1,26 +1,22 @@
 -- WHAT IS CLAIMED of a restore in fragments: SPEC 13.6. demands/proofs/RestoreExample.antt has a card that meets the hypotheses.
 -- Assumes nothing.
-use mathlib.Core.Path.{_≡_}
-use mathlib.Core.Bool.{true, false}
-use mathlib.Core.List.{List, [], _∷_, _++_}
-use Prim.Native.Nat.{ℕ, _+_, _*_, _^_, _≤_, _<_}
-use lib.ListN.{length}
-use Rattle·wire.specs.Le.{number}
-use Rattle·member.specs.Record.{holdingSize}
-use Rattle·card.specs.Layout.{isMember, isMarked}
-use Rattle·card.specs.Sound.{isSound}
-use Rattle·host.specs.Request.{setParts}
-use Rattle·admin.specs.Command.{respond}
-use Rattle·staging·specs.specs.Staging.{heldIn, isOpen, heldBytes, withoutHeld, beginOf, feedOf, finishOf}
+use Rattle.std.specs.Prelude.{◌≡◌, true, false, List, [], ◌∷◌, ◌++◌, ℕ, ◌+◌, ◌*◌, ◌^◌, ◌≤◌, ◌<◌, length}
+use Rattle.wire.specs.Le.{number}
+use Rattle.member.specs.Record.{holdingSize}
+use Rattle.card.specs.Layout.{isMember, isMarked}
+use Rattle.card.specs.Sound.{isSound}
+use Rattle.host.specs.Request.{setParts}
+use Rattle.admin.specs.Command.{respond}
+use Rattle.staging.specs.Staging.{heldIn, isOpen, heldBytes, withoutHeld, beginOf, feedOf, finishOf}
 
 -- With a holding place open, finish answers the status and qualifier that one parts set of its bytes, with this id, gets on
 -- that card, in a reply buffer of any length from 8 on, and leaves the card that this command leaves, with the holding
 -- place gone
 pub record SetsParts (c : List ℕ) (m id room : ℕ) : Type 0 where
-  pub answer : finishOf c m id .0
-      ≡ number 0 2 (respond c (setParts m id (heldBytes c m)) room .1)
-      + 65536 * number 2 2 (respond c (setParts m id (heldBytes c m)) room .1)
-  pub card : finishOf c m id .1 ≡ withoutHeld (respond c (setParts m id (heldBytes c m)) room .0) m
+  pub answer : (finishOf c m id).0
+      ≡ number 0 2 (respond c (setParts m id (heldBytes c m)) room).1
+      + 65536 * number 2 2 (respond c (setParts m id (heldBytes c m)) room).1
+  pub card : (finishOf c m id).1 ≡ withoutHeld (respond c (setParts m id (heldBytes c m)) room).0 m
 
 abbrev pub FinishIsPartsSet : Type 0
 FinishIsPartsSet =
@@ -34,18 +30,18 @@ joined (x ∷ xs) = x ++ joined xs
 
 unfoldable pub fed : ℕ → List ℕ → List (List ℕ) → List ℕ
 fed m c [] = c
-fed m c (x ∷ xs) = fed m (feedOf c m x .1) xs
+fed m c (x ∷ xs) = fed m (feedOf c m x).1 xs
 
 -- After begin and the feeds the fragments are held joined, in their order, where the member is not marked
 abbrev pub HoldsJoined : Type 0
 HoldsJoined =
     (c : List ℕ) (m : ℕ) → isSound c ≡ true → isMember c m ≡ true → isMarked c m ≡ false → heldIn c m ≡ 0
     → (xs : List (List ℕ)) → length (joined xs) ≤ holdingSize
-    → heldBytes (fed m (beginOf c m .1) xs) m ≡ joined xs
+    → heldBytes (fed m (beginOf c m).1 xs) m ≡ joined xs
 
 -- begin, the feeds and finish: the answer of finish and the card after it
 abbrev pub restored : List ℕ → ℕ → ℕ → List (List ℕ) → ℕ × List ℕ
-restored c m id xs = finishOf (fed m (beginOf c m .1) xs) m id
+restored c m id xs = finishOf (fed m (beginOf c m).1 xs) m id
 
 -- With nothing open at the start and no other call between: however at most 1,024 bytes are cut, the answer of finish and
 -- the card are the same

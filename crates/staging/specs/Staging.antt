@@ -1,29 +1,25 @@
 -- Restore in fragments, SPEC 13.6: begin, feed, finish and drop for one member. Each gives the first answer
 -- that applies, as a number, and the card after it. Assumes nothing.
-use mathlib.Core.Bool.{Bool, not}
-use mathlib.Core.List.{List}
-use Prim.Native.Nat.{ℕ, _+_, _*_, _-_}
-use lib.Dec.{eqb, ltb, leb}
-use lib.ListN.{length, take}
-use Rattle·theory.specs.Logic.{unless_answer_then_}
-use Rattle·theory.specs.Bytes.{put}
-use Rattle·wire.specs.Le.{number}
-use Rattle·protocol.specs.declared.Answer.{Answer}
-use Rattle·protocol.specs.declared.Answer.the-variants.{Done, BadLength, NoMember, Marked, Exists, NotLive}
-use Rattle·protocol.specs.Answers.{statusOf, qualifierOf}
-use Rattle·member.specs.Record.{holdingSize}
-use Rattle·member.specs.Member.{withHeld}
-use Rattle·card.specs.Layout.{isMember, memberIn, withMember, isMarked, holdingIn, withHolding, noBytes}
-use Rattle·card.specs.Sound.{isSound}
-use Rattle·host.specs.Request.{setParts}
-use Rattle·reply.specs.Reply.{headSize}
-use Rattle·admin.specs.Command.{respond}
+use Rattle.std.specs.Prelude.{Bool, not, List, ℕ, ◌+◌, ◌*◌, ◌-◌, eqb, ltb, leb, length, take}
+use Rattle.theory.specs.Logic.{unless◌answer◌then◌}
+use Rattle.theory.specs.Bytes.{put}
+use Rattle.wire.specs.Le.{number}
+use Rattle.protocol.specs.declared.Answer.{Answer}
+use Rattle.protocol.specs.declared.Answer.TheVariants.{Done, BadLength, NoMember, Marked, Exists, NotLive}
+use Rattle.protocol.specs.Answers.{statusOf, qualifierOf}
+use Rattle.member.specs.Record.{holdingSize}
+use Rattle.member.specs.Member.{withHeld}
+use Rattle.card.specs.Layout.{isMember, memberIn, withMember, isMarked, holdingIn, withHolding, noBytes}
+use Rattle.card.specs.Sound.{isSound}
+use Rattle.host.specs.Request.{setParts}
+use Rattle.reply.specs.Reply.{headSize}
+use Rattle.admin.specs.Command.{respond}
 
 -- ---- the holding place (02's term) of member m ----
 
 -- 0 for none, k + 1 for an open one of k bytes: an open one of no bytes is not none
 abbrev pub heldIn : List ℕ → ℕ → ℕ
-heldIn c m = memberIn c m .held
+heldIn c m = (memberIn c m).held
 
 abbrev pub isOpen : List ℕ → ℕ → Bool
 isOpen c m = ltb 0 (heldIn c m)
@@ -97,7 +93,7 @@ feedOf c m x = onOpen c m (joinedTo c m x)
 
 -- the answer that a reply gives, its first four bytes, and the card without the holding place
 abbrev pub concluded : ℕ → List ℕ × List ℕ → ℕ × List ℕ
-concluded m x = (number 0 4 (x .1), withoutHeld (x .0) m)
+concluded m x = (number 0 4 x.1, withoutHeld x.0 m)
 
 -- what the card answers to one parts set of the joined bytes, and does for it; then the holding place is gone, whatever the
 -- answer. A reply to a parts set is the head alone

@@ -1,21 +1,17 @@
 // Restore in fragments, SPEC 13.6: begin, feed, finish and drop of a member's holding place (02's term). Each
 // answers status + 65,536 x qualifier, and 9 for an unsound card.
-ghost use mathlib.Core.Path.{_≡_};
-ghost use mathlib.Core.Bool.{true};
-ghost use Prim.Native.Nat.{_+_, _≤_};
-ghost use lib.ListN.{length, take};
-ghost use Rattle·theory.specs.Bytes.{put};
-ghost use Rattle·member.specs.Record.{holdingSize};
-ghost use Rattle·member.specs.Member.{withHeld};
-ghost use Rattle·card.specs.Layout.{HasRecord, isMember, withMember, holdingIn, withHolding, noBytes};
-ghost use Rattle·card.specs.Sound.{isSound};
-ghost use Rattle·staging·specs.specs.SetSteps.{setInto};
-ghost use Rattle·staging·specs.specs.Staging.{answerNumber, memberRefusal, openRefusal, beginOf, feedOf, finishOf, dropOf};
+ghost use Rattle.std.specs.Prelude.{◌≡◌, true, ◌+◌, ◌≤◌, length, take};
+ghost use Rattle.theory.specs.Bytes.{put};
+ghost use Rattle.member.specs.Record.{holdingSize};
+ghost use Rattle.member.specs.Member.{withHeld};
+ghost use Rattle.card.specs.Layout.{HasRecord, isMember, withMember, holdingIn, withHolding, noBytes};
+ghost use Rattle.card.specs.Sound.{isSound};
+ghost use Rattle.staging.specs.SetSteps.{setInto};
+ghost use Rattle.staging.specs.Staging.{answerNumber, memberRefusal, openRefusal, beginOf, feedOf, finishOf, dropOf};
+
 use changes::Changed;
-use member::HOLDING_SIZE;
-use member::Member;
-use protocol::Answer;
-use protocol::ChangeOp;
+use member::{HOLDING_SIZE, Member};
+use protocol::{Answer, ChangeOp};
 
 const NOT_SOUND: u32 = 9;
 
@@ -26,14 +22,14 @@ const PARTS_SET: usize = 0x10;
 // ---- the answers ----
 
 fn number(a: Answer) -> u32
-    ensures { λ r. ⌜ r ≡ answerNumber a ⌝ }
+    ensures { result ≡ answerNumber a }
 {
     protocol::status(a) as u32 + 65536 * (protocol::qualifier(a) as u32)
 }
 
 // A call for one member: the first refusal that applies, or 0.
 fn member_refusal(card: &[u8], m: u64) -> u32
-    ensures { λ r. ⌜ r ≡ memberRefusal (now (card .entry)) m ⌝ }
+    ensures { result ≡ memberRefusal card.now m }
 {
     if !card::is_sound(card) {
         return NOT_SOUND;
@@ -49,7 +45,7 @@ fn member_refusal(card: &[u8], m: u64) -> u32
 
 // A call for one member that has begun a restore: the first refusal that applies, or 0.
 fn open_refusal(card: &[u8], m: u64) -> u32
-    ensures { λ r. ⌜ r ≡ openRefusal (now (card .entry)) m ⌝ }
+    ensures { result ≡ openRefusal card.now m }
 {
     let a = member_refusal(card, m);
     if a != DONE {
@@ -67,8 +63,8 @@ fn open_refusal(card: &[u8], m: u64) -> u32
 
 // The holding place is gone, and nothing of its bytes is left; x is the member.
 fn end(card: &mut [u8], m: u64, x: Member)
-    requires { ⌜ HasRecord (now card) m ⌝ }
-    ensures { λ _. ⌜ now (card .exit) ≡ withHolding (withMember (now (card .entry)) m (withHeld x 0)) m noBytes ⌝ }
+    requires { HasRecord card.old m }
+    ensures { card.new ≡ withHolding (withMember card.old m (withHeld x 0)) m noBytes }
 {
     card::save_member(card, m, x.with_held(0));
     card::zero_holding(card, m);
@@ -76,7 +72,7 @@ fn end(card: &mut [u8], m: u64, x: Member)
 
 // An empty holding place is opened.
 pub fn begin(card: &mut [u8], m: u64) -> u32
-    ensures { λ r. ⌜ (r, now (card .exit)) ≡ beginOf (now (card .entry)) m ⌝ }
+    ensures { (result, card.new) ≡ beginOf card.old m }
 {
     let a = member_refusal(card, m);
     if a != DONE {
@@ -93,8 +89,8 @@ pub fn begin(card: &mut [u8], m: u64) -> u32
 
 // The holding place has these bytes from a place on; x is the member.
 fn hold(card: &mut [u8], m: u64, x: Member, from: usize, bytes: &[u8])
-    requires { ⌜ HasRecord (now card) m × (from + length (now bytes) ≤ holdingSize) ⌝ }
-    ensures { λ _. ⌜ now (card .exit) ≡ withHolding (withMember (now (card .entry)) m x) m (put from (now (bytes .entry)) (holdingIn (now (card .entry)) m)) ⌝ }
+    requires { HasRecord card.old m × (from + length bytes.now ≤ holdingSize) }
+    ensures { card.new ≡ withHolding (withMember card.old m x) m (put from bytes.now (holdingIn card.old m)) }
 {
     card::save_member(card, m, x);
     card::write_holding(card, m, from, bytes);
@@ -102,7 +98,7 @@ fn hold(card: &mut [u8], m: u64, x: Member, from: usize, bytes: &[u8])
 
 // A fragment goes behind the bytes that are held; one that does not fit ends the holding place.
 pub fn feed(card: &mut [u8], m: u64, fragment: &[u8]) -> u32
-    ensures { λ r. ⌜ (r, now (card .exit)) ≡ feedOf (now (card .entry)) m (now (fragment .entry)) ⌝ }
+    ensures { (result, card.new) ≡ feedOf card.old m fragment.now }
 {
     let a = open_refusal(card, m);
     if a != DONE {
@@ -121,16 +117,16 @@ pub fn feed(card: &mut [u8], m: u64, fragment: &[u8]) -> u32
 }
 
 fn first(bytes: &[u8], k: usize) -> &[u8]
-    requires { ⌜ k ≤ length (now bytes) ⌝ }
-    ensures { λ r. ⌜ now r ≡ take k (now (bytes .entry)) ⌝ }
+    requires { k ≤ length bytes.now }
+    ensures { result.now ≡ take k bytes.now }
 {
     &bytes[0..k]
 }
 
 // What a parts set of the first k bytes of the holding place comes to, read where they stand; x is the member.
 fn set_held(card: &[u8], m: u64, x: Member, id: u32, k: usize) -> Changed
-    requires { ⌜ (isSound (now card) ≡ true) × (isMember (now card) m ≡ true) × (k ≤ holdingSize) ⌝ }
-    ensures { λ r. ⌜ r ≡ setInto (now (card .entry)) id (take k (holdingIn (now (card .entry)) m)) x ⌝ }
+    requires { (isSound card.now ≡ true) × (isMember card.now m ≡ true) × (k ≤ holdingSize) }
+    ensures { result ≡ setInto card.now id (take k (holdingIn card.now m)) x }
 {
     if !protocol::bit(card::in_use(card), PARTS_SET) {
         return Changed {
@@ -152,7 +148,7 @@ fn set_held(card: &[u8], m: u64, x: Member, id: u32, k: usize) -> Changed
 
 // One parts set of the bytes held, through the set object of this id; then the holding place ends, whatever the answer.
 pub fn finish(card: &mut [u8], m: u64, id: u32) -> u32
-    ensures { λ r. ⌜ (r, now (card .exit)) ≡ finishOf (now (card .entry)) m id ⌝ }
+    ensures { (result, card.new) ≡ finishOf card.old m id }
 {
     let a = open_refusal(card, m);
     if a != DONE {
@@ -169,7 +165,7 @@ pub fn finish(card: &mut [u8], m: u64, id: u32) -> u32
 
 // The holding place ends.
 pub fn discard(card: &mut [u8], m: u64) -> u32
-    ensures { λ r. ⌜ (r, now (card .exit)) ≡ dropOf (now (card .entry)) m ⌝ }
+    ensures { (result, card.new) ≡ dropOf card.old m }
 {
     let a = open_refusal(card, m);
     if a != DONE {

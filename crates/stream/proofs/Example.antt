@@ -1,22 +1,22 @@
 -- Captures by computation: none, an empty one, one that is cut, one that is torn, a long one. Assumes nothing.
-use mathlib.Core.Path.{_≡_, refl}
+use mathlib.Core.Path.{◌≡◌, refl}
 use mathlib.Core.Bool.{true, false}
-use mathlib.Core.List.{List, [], _∷_}
+use mathlib.Core.List.{List, [], ◌∷◌}
 use Prim.Native.Nat.{ℕ}
 use lib.ListN.{replicate}
-use Rattle·theory.specs.Logic.{if_then_else_, unless_answer_then_, _and_, _or_, indicator}
-use Rattle·theory.specs.Items.{itemsFrom}
-use Rattle·wire.specs.Le.{le, number}
-use Rattle·parts.specs.List.{stepAt, atMost, partsFrom, whole}
-use Rattle·rules.specs.Rules.{every, repeated, causeIn}
-use Rattle·tally.specs.Rows.{partsOfType, rows, addsIn}
-use Rattle·sheet.specs.Text.{figures}
-use Rattle·stream·specs.specs.Stream.{most, captureThen, capturesIn, isWhole}
-use Rattle·stream·specs.specs.Totals.{total, totals, figuresOf}
+use Rattle.theory.specs.Logic.{if◌then◌else◌, unless◌answer◌then◌, ◌and◌, ◌or◌, indicator}
+use Rattle.theory.specs.Items.{itemsFrom}
+use Rattle.wire.specs.Le.{le, number}
+use Rattle.parts.specs.List.{stepAt, at_most, partsFrom, whole}
+use Rattle.rules.specs.Rules.{every, repeated, causeIn}
+use Rattle.tally.specs.Rows.{partsOfType, rows, addsIn}
+use Rattle.sheet.specs.Text.{figures}
+use Rattle.stream.specs.Stream.{most, captureThen, capturesIn, is_whole}
+use Rattle.stream.specs.Totals.{total, totals, figuresOf}
 
 -- what computes where a proof says `unfolding model`
 unfoldable model : Unit {0}
-unfolding if_then_else_ unless_answer_then_ _and_ _or_ indicator itemsFrom le number stepAt atMost partsFrom whole every repeated causeIn partsOfType rows addsIn captureThen capturesIn isWhole total totals figuresOf
+unfolding if◌then◌else◌ unless◌answer◌then◌ ◌and◌ ◌or◌ indicator itemsFrom le number stepAt at_most partsFrom whole every repeated causeIn partsOfType rows addsIn captureThen capturesIn is_whole total totals figuresOf
 model = tt
 
 module _ (queues : ℕ) (features : List ℕ) where

@@ -1,26 +1,26 @@
 -- The loop over a chunk, the start and the end of a stream. Assumes nothing.
-use mathlib.Core.Path.{_≡_, refl, ap, sym, _∙_}
+use mathlib.Core.Path.{◌≡◌, refl, ap, sym, ◌∙◌}
 use mathlib.Core.Bool.{Bool}
-use mathlib.Core.List.{List, [], _++_, append-assoc}
-use Prim.Native.Nat.{ℕ, _+_, _-_, _≤_, _<_, _^_}
-use native.Mathlib.Nat.{le-refl}
+use mathlib.Core.List.{List, [], ◌++◌, append_assoc}
+use Prim.Native.Nat.{ℕ, ◌+◌, ◌-◌, ◌≤◌, ◌<◌, ◌^◌}
+use native.Mathlib.Nat.{le_refl}
 use native.Mathlib.Omega.{arith}
-use borrow.Author.Tests.{ne-eqb, le-leb, lt-leb}
-use lib.ListN.{length, take, drop, replicate, take-append-drop, drop-of-length-le}
+use borrow.Author.Tests.{ne_eqb, le-leb, lt-leb}
+use lib.ListN.{length, take, drop, replicate, take-append-drop, drop_of_length-le}
 use lib.Seq.{drop-drop}
-use Rattle·theory.specs.Logic.{if_then_else_}
-use Rattle·theory.specs.Bytes.{put}
-use Rattle·theory.proofs.Bytes.{length-bytesAt}
-use Rattle·tally.specs.Counts.{_plus_, Below}
-use Rattle·tally.specs.Rows.{rowCount, longest, addsOf}
-use Rattle·tally.proofs.Plus.{below-more}
-use Rattle·sheet.specs.Text.{figures, textOf}
-use Rattle·stream·specs.specs.Progress.{figuresFrom, started, endedIn, ended, stoppedIn, stopped, finishedOf, Counted, Ready, Took, Run}
-use Rattle·stream·specs.specs.Steps.{progress, awaiting, opened}
-use Rattle·stream·specs.specs.declared.Item.{Item}
-use Rattle·stream·specs.specs.declared.Item.the-variants as item
-use Rattle·stream·specs.specs.declared.Progress.{Progress}
-use Rattle·stream·proofs.proofs.Totals.{counts-room}
+use Rattle.theory.specs.Logic.{if◌then◌else◌}
+use Rattle.theory.specs.Bytes.{put}
+use Rattle.theory.proofs.Bytes.{length-bytesAt}
+use Rattle.tally.specs.Counts.{◌plus◌, Below}
+use Rattle.tally.specs.Rows.{rowCount, longest, addsOf}
+use Rattle.tally.proofs.Plus.{below_more}
+use Rattle.sheet.specs.Text.{figures, text_of}
+use Rattle.stream.specs.Progress.{figuresFrom, started, endedIn, ended, stoppedIn, stopped, finishedOf, Counted, Ready, Took, Run}
+use Rattle.stream.specs.Steps.{progress, awaiting, opened}
+use Rattle.stream.specs.declared.Item.{Item}
+use Rattle.stream.specs.declared.Item.TheVariants as item
+use Rattle.stream.specs.declared.Progress.{Progress}
+use Rattle.stream.proofs.Totals.{counts-room}
 
 -- ---- the loop ----
 
@@ -36,14 +36,14 @@ along-start q features p b chunk w = record { count = omega arith; long = refl; 
 
 module _ (q : ℕ) (features : List ℕ) (p : Progress) (b chunk : List ℕ) (s : Progress) (buffer : List ℕ) (at : ℕ)
     (a : Along q features p b chunk s buffer at) where
-  pub run-fits : (n : ℕ) → Run (s .left) (length chunk - at) n
-      → Run (s .left) (length (take (at + n - at) (drop at chunk))) (length (take (at + n - at) (drop at chunk)))
-  run-fits n z =
+  pub run_fits : (n : ℕ) → Run s.left (length chunk - at) n
+      → Run s.left (length (take (at + n - at) (drop at chunk))) (length (take (at + n - at) (drop at chunk)))
+  run_fits n z =
       let e : at + n - at ≡ n = omega arith in
-      let l : length (take (at + n - at) (drop at chunk)) ≡ n = rw e (length-bytesAt at n chunk (omega (arith, a .count, z .chunk))) in
-      rw l (record { some = z .some; item = z .item; chunk = le-refl n })
+      let l : length (take (at + n - at) (drop at chunk)) ≡ n = rw e (length-bytesAt at n chunk (omega (arith, a.count, z.chunk))) in
+      rw l (record { some = z.some; item = z.item; chunk = le_refl n })
 
-  pub along-on : (n : ℕ) (r : Progress) (after : List ℕ) → Run (s .left) (length chunk - at) n
+  pub along-on : (n : ℕ) (r : Progress) (after : List ℕ) → Run s.left (length chunk - at) n
       → Took q features s buffer (take (at + n - at) (drop at chunk)) r after → length after ≡ length buffer
       → Along q features p b chunk r after (at + n)
   along-on n r after z t l =
@@ -51,39 +51,39 @@ module _ (q : ℕ) (features : List ℕ) (p : Progress) (b chunk : List ℕ) (s 
       let cut : take (at + n - at) (drop at chunk) ++ drop (at + n) chunk ≡ drop at chunk =
       rw (e, ← drop-drop n at chunk) (take-append-drop n (drop at chunk)) in
       record {
-        count = omega (arith, a .count, z .chunk);
-        long = l ∙ a .long;
-        ready = t .ready;
+        count = omega (arith, a.count, z.chunk);
+        long = l ∙ a.long;
+        ready = t.ready;
         same = λ x.
-            t .same (drop (at + n) chunk ++ x)
-            ∙ ap (figuresFrom q features s buffer) (sym (append-assoc (take (at + n - at) (drop at chunk)) (drop (at + n) chunk) x) ∙ ap (_++ x) cut) ∙ a .same x;
+            t.same (drop (at + n) chunk ++ x)
+            ∙ ap (figuresFrom q features s buffer) (sym (append_assoc (take (at + n - at) (drop at chunk)) (drop (at + n) chunk) x) ∙ ap (◌++ x) cut) ∙ a.same x;
       }
 
   pub along-end : length chunk ≤ at → Took q features p b chunk s buffer
-  along-end h = record { ready = a .ready; same = λ l. ap (λ x. figuresFrom q features s buffer (x ++ l)) (sym (drop-of-length-le chunk h)) ∙ a .same l }
+  along-end h = record { ready = a.ready; same = λ l. ap (λ x. figuresFrom q features s buffer (x ++ l)) (sym (drop_of_length-le chunk h)) ∙ a.same l }
 
 -- ---- the sheet ----
 
 pub counts-fit : (counts : List ℕ) → Counted counts → Below (2 ^ 64) counts
-counts-fit counts w = below-more (2 ^ 62) (2 ^ 64) counts (counts-room counts w) (omega arith)
+counts-fit counts w = below_more (2 ^ 62) (2 ^ 64) counts (counts-room counts w) (omega arith)
 
-pub ended-is : (p : Progress) (i : Item) (x : Bool) → p .item ≡ i → x ≡ endedIn i (p .have) → x ≡ ended p
-ended-is p i x e f = f ∙ ap (λ j. endedIn j (p .have)) (sym e)
+pub ended_is : (p : Progress) (i : Item) (x : Bool) → p.item ≡ i → x ≡ endedIn i p.have → x ≡ ended p
+ended_is p i x e f = f ∙ ap (λ j. endedIn j p.have) (sym e)
 
-pub stopped-is : (p : Progress) (i : Item) (x : Bool) → p .item ≡ i → x ≡ stoppedIn i → x ≡ stopped p
+pub stopped-is : (p : Progress) (i : Item) (x : Bool) → p.item ≡ i → x ≡ stoppedIn i → x ≡ stopped p
 stopped-is p i x e f = f ∙ ap stoppedIn (sym e)
 
 module _ (p : Progress) (w : Bool) (e : w ≡ ended p) where
-  pub finish-put : (out after : List ℕ) → after ≡ put 0 (textOf (figures (p .counts) w)) out → after ≡ put 0 (finishedOf p) out
+  pub finish-put : (out after : List ℕ) → after ≡ put 0 (text_of (figures p.counts w)) out → after ≡ put 0 (finishedOf p) out
   unfolding finishedOf
   finish-put out after f = rw e at f
 
-  pub finish-length : (r : ℕ) → r ≡ length (textOf (figures (p .counts) w)) → r ≡ length (finishedOf p)
+  pub finish-length : (r : ℕ) → r ≡ length (text_of (figures p.counts w)) → r ≡ length (finishedOf p)
   unfolding finishedOf
   finish-length r f = rw e at f
 
 pub starts : (r : Progress) → r ≡ awaiting (replicate rowCount 0) → r ≡ started
-unfolding awaiting if_then_else_
+unfolding awaiting if◌then◌else◌
 starts r e = e
 
 pub closes : (r : Progress) (x y : List ℕ) → r ≡ awaiting x → x ≡ y → r ≡ awaiting y
@@ -92,13 +92,13 @@ closes r x y e f = rw (← f) e
 -- n is the length that was read, x what it is in the definition
 module _ (q : ℕ) (features counts : List ℕ) (n x : ℕ) (e : n ≡ x) where
   pub opened-empty : (r : Progress) → r ≡ awaiting (counts plus addsOf q features []) → n ≡ 0 → r ≡ opened q features counts x
-  unfolding opened if_then_else_
+  unfolding opened if◌then◌else◌
   opened-empty r f h = rw (← e, h) f
 
   pub opened-held : (n ≡ 0 → ⊥) → n ≤ longest → progress item.Capture 0 n counts ≡ opened q features counts x
-  unfolding opened if_then_else_
-  opened-held h k = rw (← e, ne-eqb n 0 h, le-leb n longest k)
+  unfolding opened if◌then◌else◌
+  opened-held h k = rw (← e, ne_eqb n 0 h, le-leb n longest k)
 
   pub opened-long : (n ≡ 0 → ⊥) → longest < n → progress item.Skipped 0 n counts ≡ opened q features counts x
-  unfolding opened if_then_else_
-  opened-long h k = rw (← e, ne-eqb n 0 h, lt-leb n longest k)
+  unfolding opened if◌then◌else◌
+  opened-long h k = rw (← e, ne_eqb n 0 h, lt-leb n longest k)

@@ -1,52 +1,52 @@
 -- The captures that are still to come, at the end of an item and within one. Assumes nothing.
-use mathlib.Core.Path.{_≡_, refl, ap, sym, _∙_}
+use mathlib.Core.Path.{◌≡◌, refl, ap, sym, ◌∙◌}
 use mathlib.Core.Bool.{false}
-use mathlib.Core.List.{List, [], _++_}
-use Prim.Native.Nat.{ℕ, zero, suc, _+_, _-_, _≤_, _<_}
-use native.Mathlib.Nat.{le-refl, zero-add}
+use mathlib.Core.List.{List, [], ◌++◌}
+use Prim.Native.Nat.{ℕ, zero, suc, ◌+◌, ◌-◌, ◌≤◌, ◌<◌}
+use native.Mathlib.Nat.{le_refl, zero-add}
 use native.Mathlib.Omega.{arith}
 use lib.Dec.{eqb, leb, ltb}
 use lib.ListN.{length, take, drop, length-append}
-use lib.Seq.{take-at, drop-at, take-add, take-all, drop-append-add}
+use lib.Seq.{take_at, drop_at, take-add, take_all, drop-append-add}
 use borrow.Author.Tests.{lt-ltb, le-leb, lt-leb, eqb-true, eqb-false, leb-true, leb-false, ltb-true, ltb-false}
-use Rattle·theory.specs.Logic.{if_then_else_, unless_answer_then_}
-use Rattle·theory.specs.Bytes.{put}
-use Rattle·theory.proofs.Bytes.{take-before, bytesAt-put}
-use Rattle·theory.proofs.Tests.{by-cases, if-cases}
-use Rattle·wire.specs.Le.{number}
-use Rattle·tally.specs.Counts.{_plus_}
-use Rattle·tally.specs.Rows.{longest, addsOf, addsLong}
-use Rattle·tally.proofs.Captures.{read-more}
-use Rattle·stream·specs.specs.Stream.{Captures, capture, long, lengthSize, most, captureThen, capturesIn}
-use Rattle·stream·specs.specs.Progress.{readOf, longThen, withRest, figuresFrom, Counted, Ready}
-use Rattle·stream·specs.specs.Steps.{awaiting, opened}
-use Rattle·stream·proofs.proofs.Totals.{one-counted, long-counted, counted-capture, counted-long}
+use Rattle.theory.specs.Logic.{if◌then◌else◌, unless◌answer◌then◌}
+use Rattle.theory.specs.Bytes.{put}
+use Rattle.theory.proofs.Bytes.{take-before, bytesAt-put}
+use Rattle.theory.proofs.Tests.{by_cases, if-cases}
+use Rattle.wire.specs.Le.{number}
+use Rattle.tally.specs.Counts.{◌plus◌}
+use Rattle.tally.specs.Rows.{longest, addsOf, addsLong}
+use Rattle.tally.proofs.Captures.{read_more}
+use Rattle.stream.specs.Stream.{Captures, capture, long, lengthSize, most, captureThen, capturesIn}
+use Rattle.stream.specs.Progress.{read_of, longThen, withRest, figuresFrom, Counted, Ready}
+use Rattle.stream.specs.Steps.{awaiting, opened}
+use Rattle.stream.proofs.Totals.{one-counted, long-counted, counted-capture, counted-long}
 
 -- ---- a capture, or what is left of a long one, has come ----
 
 pub capture-come : (n : ℕ) (c l : List ℕ) (rest : List ℕ → Captures) → length c ≡ n → n ≤ longest
     → captureThen n (c ++ l) rest ≡ capture c (rest l)
-unfolding captureThen unless_answer_then_ if_then_else_
+unfolding captureThen unless◌answer◌then◌ if◌then◌else◌
 capture-come n c l rest e h =
     let m : n ≤ length (c ++ l) = simp length-append (omega arith) in
-    rw (le-leb n (length (c ++ l)) m, le-leb n longest h, take-at c l n e, drop-at c l n e)
+    rw (le-leb n (length (c ++ l)) m, le-leb n longest h, take_at c l n e, drop_at c l n e)
 
 pub long-come : (n : ℕ) (c l : List ℕ) (rest : List ℕ → Captures) → length c ≡ n → longThen n (c ++ l) rest ≡ long (rest l)
-unfolding longThen unless_answer_then_
+unfolding longThen unless◌answer◌then◌
 long-come n c l rest e =
     let m : n ≤ length (c ++ l) = simp length-append (omega arith) in
-    rw (le-leb n (length (c ++ l)) m, drop-at c l n e)
+    rw (le-leb n (length (c ++ l)) m, drop_at c l n e)
 
 pub long-opened : (n : ℕ) (l : List ℕ) (rest : List ℕ → Captures) → leb n longest ≡ false → captureThen n l rest ≡ longThen n l rest
-unfolding captureThen longThen if_then_else_
+unfolding captureThen longThen if◌then◌else◌
 long-opened n l rest e = rw e
 
 -- bytes of a long one
 pub long-on : (n : ℕ) (c l : List ℕ) (rest : List ℕ → Captures) → length c ≤ n → longThen n (c ++ l) rest ≡ longThen (n - length c) l rest
-unfolding longThen unless_answer_then_
+unfolding longThen unless◌answer◌then◌
 long-on n c l rest h =
     let d : drop n (c ++ l) ≡ drop (n - length c) l = dropped in
-    by-cases (leb (n - length c) (length l))
+    by_cases (leb (n - length c) (length l))
     (λ e.
     let k : n - length c ≤ length l = leb-true _ _ e in
     let m : n ≤ length (c ++ l) = simp length-append (omega arith) in
@@ -62,72 +62,72 @@ long-on n c l rest h =
 -- a length has come
 pub length-come : (m : ℕ) (c l : List ℕ) → length c ≡ lengthSize → 0 < m
     → capturesIn m (c ++ l) ≡ captureThen (number 0 lengthSize c) l (capturesIn (m - 1))
-unfolding capturesIn unless_answer_then_ number
+unfolding capturesIn unless◌answer◌then◌ number
 length-come zero c l e h = absurd (omega arith)
 length-come (suc m) c l e h =
     let s : 0 < length (c ++ l) = simp length-append (omega arith) in
     let t : lengthSize ≤ length (c ++ l) = simp length-append (omega arith) in
     let z : suc m - 1 ≡ m = omega arith in
-    rw (lt-ltb 0 (length (c ++ l)) s, le-leb lengthSize (length (c ++ l)) t, take-at c l lengthSize e, drop-at c l lengthSize e, take-all lengthSize c (omega arith), z)
+    rw (lt-ltb 0 (length (c ++ l)) s, le-leb lengthSize (length (c ++ l)) t, take_at c l lengthSize e, drop_at c l lengthSize e, take_all lengthSize c (omega arith), z)
 
 -- ---- what a run of bytes leaves in the buffer ----
 
-pub held-more : (have : ℕ) (run b after : List ℕ) → after ≡ put have run b → have + length run ≤ length b
+pub held_more : (have : ℕ) (run b after : List ℕ) → after ≡ put have run b → have + length run ≤ length b
     → take (have + length run) after ≡ take have b ++ run
-held-more have run b after e h =
+held_more have run b after e h =
     rw e (take-add have (length run) (put have run b)
-    ∙ rw (take-before have have run b (le-refl have), bytesAt-put have run b h))
+    ∙ rw (take-before have have run b (le_refl have), bytesAt-put have run b h))
 
 -- ---- the next item ----
 
 module _ (q : ℕ) (features counts : List ℕ) (w : Counted counts) where
   -- a capture has ended
-  awaits : (b l : List ℕ) → figuresFrom q features (awaiting counts) b l ≡ withRest q features counts (capturesIn (most - readOf counts) l)
-  unfolding awaiting if_then_else_ capturesIn
+  awaits : (b l : List ℕ) → figuresFrom q features (awaiting counts) b l ≡ withRest q features counts (capturesIn (most - read_of counts) l)
+  unfolding awaiting if◌then◌else◌ capturesIn
   awaits b l =
-      by-cases (ltb (readOf counts) most) (λ e. rw e)
+      by_cases (ltb (read_of counts) most) (λ e. rw e)
       (λ e.
-      let h : most ≤ readOf counts = ltb-false _ _ e in
-      let z : most - readOf counts ≡ 0 = omega arith in
+      let h : most ≤ read_of counts = ltb-false _ _ e in
+      let z : most - read_of counts ≡ 0 = omega arith in
       rw (e, z))
 
   pub awaiting-ready : (b : List ℕ) → length b ≡ longest → Ready (awaiting counts) b
   unfolding awaiting
   awaiting-ready b r =
-      if-cases (λ p. Ready p b) (ltb (readOf counts) most) _ _
+      if-cases (λ p. Ready p b) (ltb (read_of counts) most) _ _
       (λ e. record { room = r; more = omega arith; counted = w; within = refl; going = ltb-true _ _ e })
       (λ e. record { room = r; more = omega arith; counted = w; within = tt; going = tt })
 
-module _ (q : ℕ) (features counts : List ℕ) (w : Counted counts) (h : readOf counts < most) where
+module _ (q : ℕ) (features counts : List ℕ) (w : Counted counts) (h : read_of counts < most) where
   -- a capture of these bytes
   pub capture-closed : (c b l : List ℕ) → length c ≤ longest
       → figuresFrom q features (awaiting (counts plus addsOf q features c)) b l
-      ≡ withRest q features counts (capture c (capturesIn (most - readOf counts - 1) l))
+      ≡ withRest q features counts (capture c (capturesIn (most - read_of counts - 1) l))
   capture-closed c b l s =
-      let r : readOf (counts plus addsOf q features c) ≡ readOf counts + 1 = read-more counts q _ c (w .some) in
-      let z : most - readOf (counts plus addsOf q features c) ≡ most - readOf counts - 1 = omega arith in
+      let r : read_of (counts plus addsOf q features c) ≡ read_of counts + 1 = read_more counts q _ c w.some in
+      let z : most - read_of (counts plus addsOf q features c) ≡ most - read_of counts - 1 = omega arith in
       awaits q features _ (counted-capture counts w h q features c s) b l
       ∙ ap (λ m. withRest q features (counts plus addsOf q features c) (capturesIn m l)) z ∙ one-counted q features counts c _
 
   pub long-closed : (b l : List ℕ) → figuresFrom q features (awaiting (counts plus addsLong)) b l
-      ≡ withRest q features counts (long (capturesIn (most - readOf counts - 1) l))
+      ≡ withRest q features counts (long (capturesIn (most - read_of counts - 1) l))
   long-closed b l =
-      let r : readOf (counts plus addsLong) ≡ readOf counts + 1 = read-more counts 0 8 [] (w .some) in
-      let z : most - readOf (counts plus addsLong) ≡ most - readOf counts - 1 = omega arith in
+      let r : read_of (counts plus addsLong) ≡ read_of counts + 1 = read_more counts 0 8 [] w.some in
+      let z : most - read_of (counts plus addsLong) ≡ most - read_of counts - 1 = omega arith in
       awaits q features _ (counted-long counts w h) b l
       ∙ ap (λ m. withRest q features (counts plus addsLong) (capturesIn m l)) z ∙ long-counted q features counts _
 
   -- a length of n
   pub length-closed : (n : ℕ) (b l : List ℕ) → figuresFrom q features (opened q features counts n) b l
-      ≡ withRest q features counts (captureThen n l (capturesIn (most - readOf counts - 1)))
-  unfolding opened if_then_else_
+      ≡ withRest q features counts (captureThen n l (capturesIn (most - read_of counts - 1)))
+  unfolding opened if◌then◌else◌
   length-closed n b l =
-      by-cases (eqb n 0)
+      by_cases (eqb n 0)
       (λ e. let z : n ≡ 0 = eqb-true _ _ e in
-      rw (e, z, capture-come 0 [] l (capturesIn (most - readOf counts - 1)) refl (omega arith)) (capture-closed [] b l (omega arith)))
+      rw (e, z, capture-come 0 [] l (capturesIn (most - read_of counts - 1)) refl (omega arith)) (capture-closed [] b l (omega arith)))
       (λ e.
-      by-cases (leb n longest) (λ f. rw (e, f, zero-add))
-      (λ f. rw (e, f) (ap (withRest q features counts) (sym (long-opened n l (capturesIn (most - readOf counts - 1)) f)))))
+      by_cases (leb n longest) (λ f. rw (e, f, zero-add))
+      (λ f. rw (e, f) (ap (withRest q features counts) (sym (long-opened n l (capturesIn (most - read_of counts - 1)) f)))))
 
   pub opened-ready : (n : ℕ) (b : List ℕ) → length b ≡ longest → Ready (opened q features counts n) b
   unfolding opened

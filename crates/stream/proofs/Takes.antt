@@ -1,8 +1,8 @@
 -- What a run of bytes leaves: one law for each need and return of the functions that take runs. Assumes nothing.
-use mathlib.Core.Path.{_≡_, ap, sym, _∙_}
-use mathlib.Core.List.{List, _++_, append-assoc}
-use Prim.Native.Nat.{ℕ, _+_, _-_, _≤_, _<_}
-use native.Mathlib.Nat.{le-refl, sub-zero}
+use mathlib.Core.Path.{◌≡◌, ap, sym, ◌∙◌}
+use mathlib.Core.List.{List, ◌++◌, append_assoc}
+use Prim.Native.Nat.{ℕ, ◌+◌, ◌-◌, ◌≤◌, ◌<◌}
+use native.Mathlib.Nat.{le_refl, sub-zero}
 use native.Mathlib.Omega.{arith}
 use mir.Syntax.{w64}
 use mir.Val.{Fits}
@@ -10,198 +10,198 @@ use lib.Dec.{ltb}
 use lib.ListN.{length, take, drop}
 use lib.Seq.{take-take, length-take-le}
 use borrow.Author.Tests.{ltb-true, ltb-false}
-use Rattle·theory.proofs.Tests.{by-cases}
-use Rattle·theory.specs.Logic.{if_then_else_}
-use Rattle·theory.specs.Bytes.{put}
-use Rattle·theory.proofs.Bytes.{length-put}
-use Rattle·wire.specs.Le.{le, number}
-use Rattle·tally.specs.Counts.{_plus_}
-use Rattle·tally.specs.Rows.{longest, addsOf}
-use Rattle·stream·specs.specs.Stream.{lengthSize, most, captureThen, capturesIn}
-use Rattle·stream·specs.specs.Progress.{readOf, restIn, restOf, withRest, Within, Going, Ready, Took, Run}
-use Rattle·stream·specs.specs.Steps.{progress, awaiting, opened, skipped}
-use Rattle·stream·specs.specs.declared.Item.{Item}
-use Rattle·stream·specs.specs.declared.Item.the-variants as item
-use Rattle·stream·specs.specs.declared.Progress.{Progress}
-use Rattle·stream·proofs.proofs.Totals.{counted-capture, counted-long}
-use Rattle·stream·proofs.proofs.Rest.{capture-come, long-come, long-on, length-come, held-more, awaiting-ready, opened-ready, capture-closed, long-closed, length-closed}
+use Rattle.theory.proofs.Tests.{by_cases}
+use Rattle.theory.specs.Logic.{if◌then◌else◌}
+use Rattle.theory.specs.Bytes.{put}
+use Rattle.theory.proofs.Bytes.{length-put}
+use Rattle.wire.specs.Le.{le, number}
+use Rattle.tally.specs.Counts.{◌plus◌}
+use Rattle.tally.specs.Rows.{longest, addsOf}
+use Rattle.stream.specs.Stream.{lengthSize, most, captureThen, capturesIn}
+use Rattle.stream.specs.Progress.{read_of, restIn, rest_of, withRest, Within, Going, Ready, Took, Run}
+use Rattle.stream.specs.Steps.{progress, awaiting, opened, skipped}
+use Rattle.stream.specs.declared.Item.{Item}
+use Rattle.stream.specs.declared.Item.TheVariants as item
+use Rattle.stream.specs.declared.Progress.{Progress}
+use Rattle.stream.proofs.Totals.{counted-capture, counted-long}
+use Rattle.stream.proofs.Rest.{capture-come, long-come, long-on, length-come, held_more, awaiting-ready, opened-ready, capture-closed, long-closed, length-closed}
 
 -- ---- the item under way ----
 
-module _ (p : Progress) (b : List ℕ) (i : Item) (e : p .item ≡ i) where
-  pub rest-is : (l : List ℕ) → restOf p b l ≡ restIn i (p .have) (p .left) (most - readOf (p .counts)) (take (p .have) b) l
-  rest-is l = ap (λ x. restIn x (p .have) (p .left) (most - readOf (p .counts)) (take (p .have) b) l) e
+module _ (p : Progress) (b : List ℕ) (i : Item) (e : p.item ≡ i) where
+  pub rest-is : (l : List ℕ) → rest_of p b l ≡ restIn i p.have p.left (most - read_of p.counts) (take p.have b) l
+  rest-is l = ap (λ x. restIn x p.have p.left (most - read_of p.counts) (take p.have b) l) e
 
-  pub within-is : Ready p b → Within i (p .have) (p .left)
-  within-is w = rw e at (w .within)
+  pub within-is : Ready p b → Within i p.have p.left
+  within-is w = rw e at w.within
 
-  pub going-is : Ready p b → Going i (readOf (p .counts))
-  going-is w = rw e at (w .going)
+  pub going-is : Ready p b → Going i (read_of p.counts)
+  going-is w = rw e at w.going
 
 number-front : (x : List ℕ) → number 0 lengthSize (take lengthSize x) ≡ number 0 lengthSize x
 unfolding number
-number-front x = ap le (take-take lengthSize lengthSize x (le-refl lengthSize))
+number-front x = ap le (take-take lengthSize lengthSize x (le_refl lengthSize))
 
 -- ---- a length ----
 
-module _ (p : Progress) (b run : List ℕ) (w : Ready p b) (e : p .item ≡ item.Length) (z : Run (p .left) (length run) (length run)) where
-  length-size : p .have + p .left ≡ lengthSize
+module _ (p : Progress) (b run : List ℕ) (w : Ready p b) (e : p.item ≡ item.Length) (z : Run p.left (length run) (length run)) where
+  length-size : p.have + p.left ≡ lengthSize
   length-size = within-is p b item.Length e w
 
-  pub length-room : p .have + length run ≤ length b
-  length-room = omega (arith, length-size, z .item, w .room)
+  pub length-room : p.have + length run ≤ length b
+  length-room = omega (arith, length-size, z.item, w.room)
 
-  pub length-sum : Fits w64 (p .have + length run)
-  length-sum = record { fits = omega (arith, length-size, z .item) }
+  pub length-sum : Fits w64 (p.have + length run)
+  length-sum = record { fits = omega (arith, length-size, z.item) }
 
-  module _ (q : ℕ) (features after : List ℕ) (put-there : after ≡ put (p .have) run b) where
-    held : take (p .have + length run) after ≡ take (p .have) b ++ run
-    held = held-more (p .have) run b after put-there length-room
+  module _ (q : ℕ) (features after : List ℕ) (put-there : after ≡ put p.have run b) where
+    held : take (p.have + length run) after ≡ take p.have b ++ run
+    held = held_more p.have run b after put-there length-room
 
-    long-after : length after ≡ longest
-    long-after = rw (put-there, length-put) (w .room)
+    long_after : length after ≡ longest
+    long_after = rw (put-there, length-put) w.room
 
-    pub length-front : lengthSize ≤ length after
-    length-front = omega (arith, long-after)
+    pub length_front : lengthSize ≤ length after
+    length_front = omega (arith, long_after)
 
-    pub length-more : length run < p .left
-        → Took q features p b run (progress item.Length (p .have + length run) (p .left - length run) (p .counts)) after
-    length-more h = record {
+    pub length_more : length run < p.left
+        → Took q features p b run (progress item.Length (p.have + length run) (p.left - length run) p.counts) after
+    length_more h = record {
       ready = record {
-        room = long-after;
+        room = long_after;
         more = omega arith;
-        counted = w .counted;
+        counted = w.counted;
         within = omega (arith, length-size);
         going = going-is p b item.Length e w;
       };
       same = λ l.
-          ap (withRest q features (p .counts))
-          (rw (held, append-assoc) (sym (rest-is p b item.Length e (run ++ l))));
+          ap (withRest q features p.counts)
+          (rw (held, append_assoc) (sym (rest-is p b item.Length e (run ++ l))));
     }
 
-    pub length-done : (r : Progress) → r ≡ opened q features (p .counts) (number 0 lengthSize after) → p .left ≤ length run
+    pub length-done : (r : Progress) → r ≡ opened q features p.counts (number 0 lengthSize after) → p.left ≤ length run
         → Took q features p b run r after
     length-done r f h =
-        let going : readOf (p .counts) < most = going-is p b item.Length e w in
-        let four : p .have + length run ≡ lengthSize = omega (arith, length-size, z .item) in
-        let c : take lengthSize after ≡ take (p .have) b ++ run = rw four at held in
-        let n : number 0 lengthSize (take (p .have) b ++ run) ≡ number 0 lengthSize after = rw (← c) (number-front after) in
-        let m : length (take (p .have) b ++ run) ≡ lengthSize = rw (← c) (length-take-le lengthSize after length-front) in
+        let going : read_of p.counts < most = going-is p b item.Length e w in
+        let four : p.have + length run ≡ lengthSize = omega (arith, length-size, z.item) in
+        let c : take lengthSize after ≡ take p.have b ++ run = rw four at held in
+        let n : number 0 lengthSize (take p.have b ++ run) ≡ number 0 lengthSize after = rw (← c) (number-front after) in
+        let m : length (take p.have b ++ run) ≡ lengthSize = rw (← c) (length-take-le lengthSize after length_front) in
         rw f (record {
-          ready = opened-ready q features (p .counts) (w .counted) going (number 0 lengthSize after) after long-after;
+          ready = opened-ready q features p.counts w.counted going (number 0 lengthSize after) after long_after;
           same = λ l.
-              let come : captureThen (number 0 lengthSize after) l (capturesIn (most - readOf (p .counts) - 1))
-              ≡ capturesIn (most - readOf (p .counts)) ((take (p .have) b ++ run) ++ l) =
-              rw (← n) (sym (length-come (most - readOf (p .counts)) (take (p .have) b ++ run) l m (omega arith))) in
-              let rest : capturesIn (most - readOf (p .counts)) ((take (p .have) b ++ run) ++ l) ≡ restOf p b (run ++ l) =
-              rw append-assoc (sym (rest-is p b item.Length e (run ++ l))) in
-              length-closed q features (p .counts) (w .counted) going (number 0 lengthSize after) after l
-              ∙ ap (withRest q features (p .counts)) (come ∙ rest);
+              let come : captureThen (number 0 lengthSize after) l (capturesIn (most - read_of p.counts - 1))
+              ≡ capturesIn (most - read_of p.counts) ((take p.have b ++ run) ++ l) =
+              rw (← n) (sym (length-come (most - read_of p.counts) (take p.have b ++ run) l m (omega arith))) in
+              let rest : capturesIn (most - read_of p.counts) ((take p.have b ++ run) ++ l) ≡ rest_of p b (run ++ l) =
+              rw append_assoc (sym (rest-is p b item.Length e (run ++ l))) in
+              length-closed q features p.counts w.counted going (number 0 lengthSize after) after l
+              ∙ ap (withRest q features p.counts) (come ∙ rest);
         })
 
 -- ---- a capture ----
 
-module _ (p : Progress) (b run : List ℕ) (w : Ready p b) (e : p .item ≡ item.Capture) (z : Run (p .left) (length run) (length run)) where
-  capture-size : p .have + p .left ≤ longest
+module _ (p : Progress) (b run : List ℕ) (w : Ready p b) (e : p.item ≡ item.Capture) (z : Run p.left (length run) (length run)) where
+  capture-size : p.have + p.left ≤ longest
   capture-size = within-is p b item.Capture e w
 
-  capture-going : readOf (p .counts) < most
+  capture-going : read_of p.counts < most
   capture-going = going-is p b item.Capture e w
 
-  pub capture-room : p .have + length run ≤ length b
-  capture-room = omega (arith, capture-size, z .item, w .room)
+  pub capture-room : p.have + length run ≤ length b
+  capture-room = omega (arith, capture-size, z.item, w.room)
 
-  pub capture-sum : Fits w64 (p .have + length run)
-  capture-sum = record { fits = omega (arith, capture-size, z .item) }
+  pub capture-sum : Fits w64 (p.have + length run)
+  capture-sum = record { fits = omega (arith, capture-size, z.item) }
 
-  pub run-short : length run ≤ longest
-  run-short = omega (arith, capture-size, z .item)
+  pub run_short : length run ≤ longest
+  run_short = omega (arith, capture-size, z.item)
 
   -- c: all its bytes
-  done : (q : ℕ) (features after c : List ℕ) → c ≡ take (p .have) b ++ run → p .left ≤ length run → length c ≤ longest
-      → length c ≡ p .have + p .left → length after ≡ longest
-      → Took q features p b run (awaiting (p .counts plus addsOf q features c)) after
+  done : (q : ℕ) (features after c : List ℕ) → c ≡ take p.have b ++ run → p.left ≤ length run → length c ≤ longest
+      → length c ≡ p.have + p.left → length after ≡ longest
+      → Took q features p b run (awaiting (p.counts plus addsOf q features c)) after
   done q features after c k h s n a = record {
-    ready = awaiting-ready q features _ (counted-capture (p .counts) (w .counted) capture-going q features c s) after a;
+    ready = awaiting-ready q features _ (counted-capture p.counts w.counted capture-going q features c s) after a;
     same = λ l.
-        capture-closed q features (p .counts) (w .counted) capture-going c after l s
-        ∙ ap (withRest q features (p .counts))
-        (sym (capture-come (p .have + p .left) c l (capturesIn (most - readOf (p .counts) - 1)) n capture-size)
-        ∙ rw (k, append-assoc) (sym (rest-is p b item.Capture e (run ++ l))));
+        capture-closed q features p.counts w.counted capture-going c after l s
+        ∙ ap (withRest q features p.counts)
+        (sym (capture-come (p.have + p.left) c l (capturesIn (most - read_of p.counts - 1)) n capture-size)
+        ∙ rw (k, append_assoc) (sym (rest-is p b item.Capture e (run ++ l))));
   }
 
-  pub capture-here : (q : ℕ) (features : List ℕ) (r : Progress) → r ≡ awaiting (p .counts plus addsOf q features run)
-      → p .left ≤ length run → p .have ≡ 0 → Took q features p b run r b
+  pub capture-here : (q : ℕ) (features : List ℕ) (r : Progress) → r ≡ awaiting (p.counts plus addsOf q features run)
+      → p.left ≤ length run → p.have ≡ 0 → Took q features p b run r b
   capture-here q features r f h k =
-      let none : run ≡ take (p .have) b ++ run = rw k in
-      rw f (done q features b run none h run-short (omega (arith, z .item)) (w .room))
+      let none : run ≡ take p.have b ++ run = rw k in
+      rw f (done q features b run none h run_short (omega (arith, z.item)) w.room)
 
-  module _ (q : ℕ) (features after : List ℕ) (put-there : after ≡ put (p .have) run b) where
-    held-here : take (p .have + length run) after ≡ take (p .have) b ++ run
-    held-here = held-more (p .have) run b after put-there capture-room
+  module _ (q : ℕ) (features after : List ℕ) (put-there : after ≡ put p.have run b) where
+    held-here : take (p.have + length run) after ≡ take p.have b ++ run
+    held-here = held_more p.have run b after put-there capture-room
 
-    pub after-room : p .have + length run ≤ length after
+    pub after-room : p.have + length run ≤ length after
     after-room = rw (put-there, length-put) capture-room
 
     long-here : length after ≡ longest
-    long-here = rw (put-there, length-put) (w .room)
+    long-here = rw (put-there, length-put) w.room
 
-    pub held-short : length (take (p .have + length run - 0) (drop 0 after)) ≤ longest
-    held-short = rw (sub-zero, length-take-le (p .have + length run) after after-room) (omega (arith, capture-size, z .item))
+    pub held-short : length (take (p.have + length run - 0) (drop 0 after)) ≤ longest
+    held-short = rw (sub-zero, length-take-le (p.have + length run) after after-room) (omega (arith, capture-size, z.item))
 
-    pub capture-more : length run < p .left
-        → Took q features p b run (progress item.Capture (p .have + length run) (p .left - length run) (p .counts)) after
+    pub capture-more : length run < p.left
+        → Took q features p b run (progress item.Capture (p.have + length run) (p.left - length run) p.counts) after
     capture-more h =
-        let same-size : p .have + length run + (p .left - length run) ≡ p .have + p .left = omega arith in
+        let same_size : p.have + length run + (p.left - length run) ≡ p.have + p.left = omega arith in
         record {
           ready = record {
             room = long-here;
             more = omega arith;
-            counted = w .counted;
-            within = rw same-size capture-size;
+            counted = w.counted;
+            within = rw same_size capture-size;
             going = capture-going;
           };
           same = λ l.
-              ap (withRest q features (p .counts))
-              (rw (same-size, held-here, append-assoc) (sym (rest-is p b item.Capture e (run ++ l))));
+              ap (withRest q features p.counts)
+              (rw (same_size, held-here, append_assoc) (sym (rest-is p b item.Capture e (run ++ l))));
         }
 
-    pub capture-done : (r : Progress) → r ≡ awaiting (p .counts plus addsOf q features (take (p .have + length run - 0) (drop 0 after)))
-        → p .left ≤ length run → Took q features p b run r after
+    pub capture-done : (r : Progress) → r ≡ awaiting (p.counts plus addsOf q features (take (p.have + length run - 0) (drop 0 after)))
+        → p.left ≤ length run → Took q features p b run r after
     capture-done r f h =
-        let n : length (take (p .have + length run) after) ≡ p .have + length run = length-take-le (p .have + length run) after after-room in
-        rw (f, sub-zero) (done q features after (take (p .have + length run) after) held-here h
-        (omega (arith, capture-size, z .item)) (omega (arith, z .item)) long-here)
+        let n : length (take (p.have + length run) after) ≡ p.have + length run = length-take-le (p.have + length run) after after-room in
+        rw (f, sub-zero) (done q features after (take (p.have + length run) after) held-here h
+        (omega (arith, capture-size, z.item)) (omega (arith, z.item)) long-here)
 
 -- ---- a long capture, and nothing more ----
 
-module _ (p : Progress) (b run : List ℕ) (w : Ready p b) (z : Run (p .left) (length run) (length run)) where
-  pub skip-took : (q : ℕ) (features : List ℕ) (r : Progress) → p .item ≡ item.Skipped → r ≡ skipped p (length run)
+module _ (p : Progress) (b run : List ℕ) (w : Ready p b) (z : Run p.left (length run) (length run)) where
+  pub skip-took : (q : ℕ) (features : List ℕ) (r : Progress) → p.item ≡ item.Skipped → r ≡ skipped p (length run)
       → Took q features p b run r b
-  unfolding skipped if_then_else_
-  skip-took q features r e f = by-cases (ltb (length run) (p .left))
+  unfolding skipped if◌then◌else◌
+  skip-took q features r e f = by_cases (ltb (length run) p.left)
       (λ t.
-      let h : length run < p .left = ltb-true _ _ t in
+      let h : length run < p.left = ltb-true _ _ t in
       rw (f, t) (record {
-        ready = record { room = w .room; more = omega arith; counted = w .counted; within = tt; going = going-is p b item.Skipped e w };
+        ready = record { room = w.room; more = omega arith; counted = w.counted; within = tt; going = going-is p b item.Skipped e w };
         same = λ l.
-            ap (withRest q features (p .counts))
-            (sym (rest-is p b item.Skipped e (run ++ l) ∙ long-on (p .left) run l (capturesIn (most - readOf (p .counts) - 1)) (z .item)));
+            ap (withRest q features p.counts)
+            (sym (rest-is p b item.Skipped e (run ++ l) ∙ long-on p.left run l (capturesIn (most - read_of p.counts - 1)) z.item));
       }))
       (λ t.
-      let h : p .left ≤ length run = ltb-false _ _ t in
-      let going : readOf (p .counts) < most = going-is p b item.Skipped e w in
+      let h : p.left ≤ length run = ltb-false _ _ t in
+      let going : read_of p.counts < most = going-is p b item.Skipped e w in
       rw (f, t) (record {
-        ready = awaiting-ready q features _ (counted-long (p .counts) (w .counted) going) b (w .room);
+        ready = awaiting-ready q features _ (counted-long p.counts w.counted going) b w.room;
         same = λ l.
-            long-closed q features (p .counts) (w .counted) going b l
-            ∙ ap (withRest q features (p .counts))
+            long-closed q features p.counts w.counted going b l
+            ∙ ap (withRest q features p.counts)
             (sym (rest-is p b item.Skipped e (run ++ l)
-            ∙ long-come (p .left) run l (capturesIn (most - readOf (p .counts) - 1)) (omega (arith, z .item))));
+            ∙ long-come p.left run l (capturesIn (most - read_of p.counts - 1)) (omega (arith, z.item))));
       }))
 
-  pub stop-took : (q : ℕ) (features : List ℕ) → p .item ≡ item.Stopped → Took q features p b run p b
+  pub stop-took : (q : ℕ) (features : List ℕ) → p.item ≡ item.Stopped → Took q features p b run p b
   stop-took q features e = record {
     ready = w;
-    same = λ l. ap (withRest q features (p .counts)) (rest-is p b item.Stopped e l ∙ sym (rest-is p b item.Stopped e (run ++ l)));
+    same = λ l. ap (withRest q features p.counts) (rest-is p b item.Stopped e l ∙ sym (rest-is p b item.Stopped e (run ++ l)));
   }

@@ -1,23 +1,23 @@
 -- Counts, and captures that are still to be counted: one capture more is counted, and none is left. Assumes nothing.
-use mathlib.Core.Path.{_≡_, refl, ap}
+use mathlib.Core.Path.{◌≡◌, refl, ap}
 use mathlib.Core.Bool.{true, false}
-use mathlib.Core.List.{List, [], _∷_, map}
-use Prim.Native.Nat.{ℕ, _+_, _≤_, _<_, _^_}
+use mathlib.Core.List.{List, [], ◌∷◌, map}
+use Prim.Native.Nat.{ℕ, ◌+◌, ◌≤◌, ◌<◌, ◌^◌}
 use native.Mathlib.Omega.{arith}
 use lib.ListN.{length}
-use Rattle·theory.specs.Logic.{if_then_else_}
-use Rattle·tally.specs.Counts.{_plus_, Below}
-use Rattle·tally.specs.Rows.{Row, rows, longest, longLine, addsIn, addsOf, addsLong}
-use Rattle·tally.proofs.Plus.{length-plus, plus-assoc, plus-zeros, at-plus}
-use Rattle·tally.proofs.Captures.{read-more, adds-few}
-use Rattle·stream·specs.specs.Stream.{Captures, whole, torn, capture, long, most, isWhole}
-use Rattle·stream·specs.specs.Totals.{total, totals}
-use Rattle·stream·specs.specs.Progress.{readOf, withRest, Counted}
+use Rattle.theory.specs.Logic.{if◌then◌else◌}
+use Rattle.tally.specs.Counts.{◌plus◌, Below}
+use Rattle.tally.specs.Rows.{Row, rows, longest, longLine, addsIn, addsOf, addsLong}
+use Rattle.tally.proofs.Plus.{length-plus, plus_assoc, plus-zeros, at-plus}
+use Rattle.tally.proofs.Captures.{read_more, adds-few}
+use Rattle.stream.specs.Stream.{Captures, whole, torn, capture, long, most, is_whole}
+use Rattle.stream.specs.Totals.{total, totals}
+use Rattle.stream.specs.Progress.{read_of, withRest, Counted}
 
 rows-sum : (f g : Row → ℕ) (rs : List Row) → map (λ (r : Row). f r + g r) rs ≡ map f rs plus map g rs
-unfolding _plus_
+unfolding ◌plus◌
 rows-sum f g [] = refl
-rows-sum f g (r ∷ rs) = ap ((f r + g r) ∷_) (rows-sum f g rs)
+rows-sum f g (r ∷ rs) = ap ((f r + g r) ∷◌) (rows-sum f g rs)
 
 length-adds : (q k : ℕ) (c : List ℕ) → length (addsIn q k c) ≡ 16
 unfolding addsIn rows
@@ -34,7 +34,7 @@ module _ (q : ℕ) (features : List ℕ) where
 
   -- no queue count matters to a long one
   long-adds : addsIn q longLine [] ≡ addsLong
-  unfolding addsIn rows if_then_else_
+  unfolding addsIn rows if◌then◌else◌
   long-adds = refl
 
   totals-long : (cs : Captures) → totals q features (long cs) ≡ addsIn q longLine [] plus totals q features cs
@@ -44,43 +44,43 @@ module _ (q : ℕ) (features : List ℕ) where
   module _ (counts : List ℕ) where
     -- a capture is counted
     pub one-counted : (c : List ℕ) (cs : Captures) → withRest q features (counts plus addsOf q features c) cs ≡ withRest q features counts (capture c cs)
-    unfolding withRest isWhole
+    unfolding withRest is_whole
     one-counted c cs =
         let a : length (totals q features cs) ≡ 16 = length-totals cs in
         let b : length (addsOf q features c) ≡ 16 = length-adds q _ c in
-        let e = plus-assoc counts (addsOf q features c) (totals q features cs) (omega arith) in
+        let e = plus_assoc counts (addsOf q features c) (totals q features cs) (omega arith) in
         rw (totals-capture c cs, e)
 
     pub long-counted : (cs : Captures) → withRest q features (counts plus addsLong) cs ≡ withRest q features counts (long cs)
-    unfolding withRest isWhole
+    unfolding withRest is_whole
     long-counted cs =
         let a : length (totals q features cs) ≡ 16 = length-totals cs in
         let b : length addsLong ≡ 16 = length-adds 0 longLine [] in
-        let e = plus-assoc counts addsLong (totals q features cs) (omega arith) in
+        let e = plus_assoc counts addsLong (totals q features cs) (omega arith) in
         rw (totals-long cs, long-adds, e)
 
     -- no capture is left
-    pub none-left : withRest q features counts whole ≡ record { counts = counts; ended = true }
-    unfolding withRest isWhole totals total rows
-    none-left = rw (plus-zeros counts 16)
+    pub none_left : withRest q features counts whole ≡ record { counts = counts; ended = true }
+    unfolding withRest is_whole totals total rows
+    none_left = rw (plus-zeros counts 16)
 
     pub torn-left : withRest q features counts torn ≡ record { counts = counts; ended = false }
-    unfolding withRest isWhole totals total rows
+    unfolding withRest is_whole totals total rows
     torn-left = rw (plus-zeros counts 16)
 
 -- ---- the counts stay within their bounds ----
 
 pub counts-room : (a : List ℕ) → Counted a → Below (2 ^ 62) a
-counts-room a w = record { at = λ i. omega (arith, w .bound i, w .upTo) }
+counts-room a w = record { at = λ i. omega (arith, w.bound i, w.up_to) }
 
-module _ (a : List ℕ) (w : Counted a) (h : readOf a < most) where
+module _ (a : List ℕ) (w : Counted a) (h : read_of a < most) where
   counted-in : (q k : ℕ) (c : List ℕ) → length c ≤ longest → Counted (a plus addsIn q k c)
   counted-in q k c l =
-      let r = read-more a q k c (w .some) in
+      let r = read_more a q k c w.some in
       record {
-        some = rw length-plus (w .some);
-        bound = λ i. omega (arith, r, w .bound i, adds-few q k c l .at i, at-plus a (addsIn q k c) i);
-        upTo = omega (arith, r);
+        some = rw length-plus w.some;
+        bound = λ i. omega (arith, r, w.bound i, (adds-few q k c l).at i, at-plus a (addsIn q k c) i);
+        up_to = omega (arith, r);
       }
 
   pub counted-capture : (q : ℕ) (features c : List ℕ) → length c ≤ longest → Counted (a plus addsOf q features c)

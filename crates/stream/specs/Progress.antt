@@ -1,23 +1,18 @@
 -- How far the captures of a stream are taken: numbers, and the bytes held of the item under way. Assumes nothing.
-use mathlib.Core.Path.{_≡_}
-use mathlib.Core.Bool.{Bool, true, false}
-use mathlib.Core.List.{List, _++_}
-use Prim.Native.Nat.{ℕ, _+_, _-_, _*_, _≤_, _<_}
-use lib.Dec.{eqb, leb}
-use lib.ListN.{length, getD, take, drop, replicate}
-use Rattle·theory.specs.Logic.{unless_answer_then_}
-use Rattle·tally.specs.Counts.{_plus_}
-use Rattle·tally.specs.Rows.{longest, rowCount}
-use Rattle·stream·specs.specs.Stream.{Captures, torn, long, lengthSize, most, captureThen, capturesIn, isWhole}
-use Rattle·sheet.specs.Text.{Figures, figures, textOf}
-use Rattle·stream·specs.specs.Totals.{totals}
-use Rattle·stream·specs.specs.declared.Item.{Item}
-use Rattle·stream·specs.specs.declared.Item.the-variants as item
-use Rattle·stream·specs.specs.declared.Progress.{Progress}
+use Rattle.std.specs.Prelude.{◌≡◌, Bool, true, false, List, ◌++◌, ℕ, ◌+◌, ◌-◌, ◌*◌, ◌≤◌, ◌<◌, eqb, leb, length, get_or, take, drop, replicate}
+use Rattle.theory.specs.Logic.{unless◌answer◌then◌}
+use Rattle.tally.specs.Counts.{◌plus◌}
+use Rattle.tally.specs.Rows.{longest, rowCount}
+use Rattle.stream.specs.Stream.{Captures, torn, long, lengthSize, most, captureThen, capturesIn, is_whole}
+use Rattle.sheet.specs.Text.{Figures, figures, text_of}
+use Rattle.stream.specs.Totals.{totals}
+use Rattle.stream.specs.declared.Item.{Item}
+use Rattle.stream.specs.declared.Item.TheVariants as item
+use Rattle.stream.specs.declared.Progress.{Progress}
 
 -- the captures that were read
-abbrev pub readOf : List ℕ → ℕ
-readOf counts = getD counts 0 0
+abbrev pub read_of : List ℕ → ℕ
+read_of counts = get_or counts 0 0
 
 -- a long capture of which n bytes are still to come
 unfoldable pub longThen : ℕ → List ℕ → (List ℕ → Captures) → Captures
@@ -31,17 +26,17 @@ restIn item.Skipped have left more held l = longThen left l (capturesIn (more - 
 restIn item.Stopped have left more held l = torn
 
 -- as many of the buffer's bytes are held as the progress has
-abbrev pub restOf : Progress → List ℕ → List ℕ → Captures
-restOf p buffer l = restIn (p .item) (p .have) (p .left) (most - readOf (p .counts)) (take (p .have) buffer) l
+abbrev pub rest_of : Progress → List ℕ → List ℕ → Captures
+rest_of p buffer l = restIn p.item p.have p.left (most - read_of p.counts) (take p.have buffer) l
 
 -- counts, and captures that are still to be counted
 unfoldable pub withRest : ℕ → List ℕ → List ℕ → Captures → Figures
 withRest queues features counts cs =
-    record { counts = counts plus totals queues features cs; ended = isWhole cs }
+    record { counts = counts plus totals queues features cs; ended = is_whole cs }
 
 -- the figures of all captures, where l follows
 abbrev pub figuresFrom : ℕ → List ℕ → Progress → List ℕ → List ℕ → Figures
-figuresFrom queues features p buffer l = withRest queues features (p .counts) (restOf p buffer l)
+figuresFrom queues features p buffer l = withRest queues features p.counts (rest_of p buffer l)
 
 -- nothing is taken yet
 abbrev pub started : Progress
@@ -55,11 +50,11 @@ endedIn item.Skipped have = false
 endedIn item.Stopped have = false
 
 abbrev pub ended : Progress → Bool
-ended p = endedIn (p .item) (p .have)
+ended p = endedIn p.item p.have
 
 -- the sheet of a stream that ends here
 unfoldable pub finishedOf : Progress → List ℕ
-finishedOf p = textOf (figures (p .counts) (ended p))
+finishedOf p = text_of (figures p.counts (ended p))
 
 -- nothing more is taken, whatever follows
 abbrev pub stoppedIn : Item → Bool
@@ -69,15 +64,15 @@ stoppedIn item.Skipped = false
 stoppedIn item.Stopped = true
 
 abbrev pub stopped : Progress → Bool
-stopped p = stoppedIn (p .item)
+stopped p = stoppedIn p.item
 
 -- ---- what holds of every progress ----
 
 -- of captures of up to 4,064 bytes, no number is more than 4,064 for each
 pub record Counted (counts : List ℕ) : Type 0 where
   pub some : 0 < length counts
-  pub bound : (i : ℕ) → getD counts i 0 ≤ longest * readOf counts
-  pub upTo : readOf counts ≤ most
+  pub bound : (i : ℕ) → get_or counts i 0 ≤ longest * read_of counts
+  pub up_to : read_of counts ≤ most
 
 -- an item that is held has room, and captures are taken up to the last one
 abbrev pub Within : Item → ℕ → ℕ → Type 0
@@ -94,10 +89,10 @@ Going item.Stopped read = Unit {0}
 
 pub record Ready (p : Progress) (buffer : List ℕ) : Type 0 where
   pub room : length buffer ≡ longest
-  pub more : 0 < p .left
-  pub counted : Counted (p .counts)
-  pub within : Within (p .item) (p .have) (p .left)
-  pub going : Going (p .item) (readOf (p .counts))
+  pub more : 0 < p.left
+  pub counted : Counted p.counts
+  pub within : Within p.item p.have p.left
+  pub going : Going p.item (read_of p.counts)
 
 -- a chunk was taken: whatever follows, the figures are those of the chunk and what follows
 pub record Took (queues : ℕ) (features : List ℕ) (p : Progress) (buffer chunk : List ℕ) (r : Progress) (after : List ℕ) : Type 0 where

@@ -1,15 +1,13 @@
 -- What the private functions leave at the end of an item. No public contract cites this. Assumes nothing.
-use mathlib.Core.List.{List, []}
-use Prim.Native.Nat.{ℕ, _-_, _^_}
-use lib.Dec.{eqb, leb, ltb}
-use Rattle·theory.specs.Logic.{if_then_else_}
-use Rattle·tally.specs.Counts.{_plus_}
-use Rattle·tally.specs.Rows.{longest, addsOf, addsLong}
-use Rattle·stream·specs.specs.Stream.{lengthSize, most}
-use Rattle·stream·specs.specs.Progress.{readOf}
-use Rattle·stream·specs.specs.declared.Item.{Item}
-use Rattle·stream·specs.specs.declared.Item.the-variants as item
-use Rattle·stream·specs.specs.declared.Progress.{Progress}
+use Rattle.std.specs.Prelude.{List, [], ℕ, ◌-◌, ◌^◌, eqb, leb, ltb}
+use Rattle.theory.specs.Logic.{if◌then◌else◌}
+use Rattle.tally.specs.Counts.{◌plus◌}
+use Rattle.tally.specs.Rows.{longest, addsOf, addsLong}
+use Rattle.stream.specs.Stream.{lengthSize, most}
+use Rattle.stream.specs.Progress.{read_of}
+use Rattle.stream.specs.declared.Item.{Item}
+use Rattle.stream.specs.declared.Item.TheVariants as item
+use Rattle.stream.specs.declared.Progress.{Progress}
 
 abbrev pub progress : Item → ℕ → ℕ → List ℕ → Progress
 progress i have left counts = record { item = i; have = have; left = left; counts = counts }
@@ -17,7 +15,7 @@ progress i have left counts = record { item = i; have = have; left = left; count
 -- a capture has ended: a length comes next, or nothing more is taken
 unfoldable pub awaiting : List ℕ → Progress
 awaiting counts =
-    if ltb (readOf counts) most then progress item.Length 0 lengthSize counts else
+    if ltb (read_of counts) most then progress item.Length 0 lengthSize counts else
     progress item.Stopped 0 (2 ^ 64 - 1) counts
 
 -- a length has ended: its capture comes next; one of no bytes has ended too
@@ -30,5 +28,5 @@ opened queues features counts n =
 -- n bytes more of a long capture
 unfoldable pub skipped : Progress → ℕ → Progress
 skipped p n =
-    if ltb n (p .left) then progress item.Skipped 0 (p .left - n) (p .counts) else
-    awaiting (p .counts plus addsLong)
+    if ltb n p.left then progress item.Skipped 0 (p.left - n) p.counts else
+    awaiting (p.counts plus addsLong)

@@ -1,12 +1,8 @@
 -- A stream of captures, behind its setup: 02, request 11. Assumes nothing.
-use mathlib.Core.Bool.{Bool, true, false}
-use mathlib.Core.List.{List}
-use Prim.Native.Nat.{ℕ, zero, suc}
-use lib.Dec.{ltb, leb}
-use lib.ListN.{length, take, drop}
-use Rattle·theory.specs.Logic.{if_then_else_, unless_answer_then_}
-use Rattle·wire.specs.Le.{number}
-use Rattle·tally.specs.Rows.{longest}
+use Rattle.std.specs.Prelude.{Bool, true, false, List, ℕ, zero, suc, ltb, leb, length, take, drop}
+use Rattle.theory.specs.Logic.{if◌then◌else◌, unless◌answer◌then◌}
+use Rattle.wire.specs.Le.{number}
+use Rattle.tally.specs.Rows.{longest}
 
 -- captures one after the other, and how the stream ends
 pub data Captures : Type 0 where
@@ -37,8 +33,8 @@ capturesIn (suc n) l =
     unless leb lengthSize (length l) answer torn then
     captureThen (number 0 lengthSize l) (drop lengthSize l) (capturesIn n)
 
-unfoldable pub isWhole : Captures → Bool
-isWhole whole = true
-isWhole torn = false
-isWhole (capture c cs) = isWhole cs
-isWhole (long cs) = isWhole cs
+unfoldable pub is_whole : Captures → Bool
+is_whole whole = true
+is_whole torn = false
+is_whole (capture c cs) = is_whole cs
+is_whole (long cs) = is_whole cs

@@ -1,19 +1,16 @@
 // The captures of a stream, 02, request 11, counted. What stands behind the setup is taken in chunks that end anywhere: the
 // numbers by value, the bytes of the item under way in a lent buffer.
-ghost use mathlib.Core.Path.{_≡_};
-ghost use Prim.Native.Nat.{_<_, _≤_};
-ghost use lib.ListN.{length};
-ghost use Rattle·theory.specs.Bytes.{put};
-ghost use Rattle·wire.specs.Le.{number};
-ghost use Rattle·tally.specs.Counts.{_plus_};
-ghost use Rattle·tally.specs.Rows.{longest, addsOf};
-ghost use Rattle·sheet.specs.Text.{sheetRoom};
-ghost use Rattle·stream·specs.specs.Stream.{lengthSize};
-ghost use Rattle·stream·specs.specs.Progress.{started, ended, stopped, finishedOf, Counted, Ready, Run, Took};
-ghost use Rattle·stream·specs.specs.Steps.{awaiting, opened, skipped};
-use tally::LINES;
-use tally::LONGEST;
-use tally::READ;
+ghost use Rattle.std.specs.Prelude.{◌≡◌, ◌<◌, ◌≤◌, length};
+ghost use Rattle.theory.specs.Bytes.{put};
+ghost use Rattle.wire.specs.Le.{number};
+ghost use Rattle.tally.specs.Counts.{◌plus◌};
+ghost use Rattle.tally.specs.Rows.{longest, addsOf};
+ghost use Rattle.sheet.specs.Text.{sheetRoom};
+ghost use Rattle.stream.specs.Stream.{lengthSize};
+ghost use Rattle.stream.specs.Progress.{started, ended, stopped, finishedOf, Counted, Ready, Run, Took};
+ghost use Rattle.stream.specs.Steps.{awaiting, opened, skipped};
+
+use tally::{LINES, LONGEST, READ};
 
 // Each capture stands behind its length, in four bytes.
 const LENGTH_SIZE: usize = 4;
@@ -23,6 +20,7 @@ const MOST: u64 = 4294967295;
 
 // What the stream is in the middle of: the length of a capture, a capture, a long capture, which is skipped. Or nothing
 // more is taken.
+#[derive(Drop)]
 pub enum Item {
     Length,
     Capture,
@@ -31,6 +29,7 @@ pub enum Item {
 }
 
 // The item under way, how many of its bytes are held and how many are still to come, and the numbers of the sheet.
+#[derive(Drop)]
 pub struct Progress {
     pub item: Item,
     pub have: usize,
@@ -42,7 +41,7 @@ pub struct Progress {
 
 // A capture has ended: a length comes next, or nothing more is taken.
 fn await_length(counts: [u64; LINES]) -> Progress
-    ensures { λ r. ⌜ r ≡ awaiting counts ⌝ }
+    ensures { result ≡ awaiting counts }
 {
     if counts[READ] < MOST {
         return Progress {
@@ -62,16 +61,16 @@ fn await_length(counts: [u64; LINES]) -> Progress
 
 // A capture has come whole.
 fn close_capture(counts: [u64; LINES], queues: u8, features: &[u8], capture: &[u8]) -> Progress
-    requires { ⌜ Counted counts × (length (now capture) ≤ longest) ⌝ }
-    ensures { λ r. ⌜ r ≡ awaiting (counts plus addsOf queues (now (features .entry)) (now (capture .entry))) ⌝ }
+    requires { Counted counts × (length capture.now ≤ longest) }
+    ensures { result ≡ awaiting (counts plus addsOf queues features.now capture.now) }
 {
     await_length(tally::count_capture(counts, queues, features, capture))
 }
 
 // A length has come whole; its four bytes are the first ones held.
 fn open_capture(counts: [u64; LINES], queues: u8, features: &[u8], held: &[u8]) -> Progress
-    requires { ⌜ Counted counts × (lengthSize ≤ length (now held)) ⌝ }
-    ensures { λ r. ⌜ r ≡ opened queues (now (features .entry)) counts (number 0 lengthSize (now (held .entry))) ⌝ }
+    requires { Counted counts × (lengthSize ≤ length held.now) }
+    ensures { result ≡ opened queues features.now counts (number 0 lengthSize held.now) }
 {
     let n = wire::read_u32(held, 0) as usize;
     if n == 0 {
@@ -97,8 +96,8 @@ fn open_capture(counts: [u64; LINES], queues: u8, features: &[u8], held: &[u8]) 
 
 // Bytes of a length.
 fn take_length(p: Progress, queues: u8, features: &[u8], buffer: &mut [u8], run: &[u8]) -> Progress
-    requires { ⌜ Ready p (now buffer) × (p .item ≡ Item.Length) × Run (p .left) (length (now run)) (length (now run)) ⌝ }
-    ensures { λ r. ⌜ Took queues (now (features .entry)) p (now (buffer .entry)) (now (run .entry)) r (now (buffer .exit)) ⌝ }
+    requires { Ready p buffer.old × (p.item ≡ Item.Length) × Run p.left (length run.now) (length run.now) }
+    ensures { Took queues features.now p buffer.old run.now result buffer.new }
 {
     let have = p.have;
     let left = p.left;
@@ -118,8 +117,8 @@ fn take_length(p: Progress, queues: u8, features: &[u8], buffer: &mut [u8], run:
 
 // Bytes of a capture. One that lies whole in the chunk is not copied.
 fn take_capture(p: Progress, queues: u8, features: &[u8], buffer: &mut [u8], run: &[u8]) -> Progress
-    requires { ⌜ Ready p (now buffer) × (p .item ≡ Item.Capture) × Run (p .left) (length (now run)) (length (now run)) ⌝ }
-    ensures { λ r. ⌜ Took queues (now (features .entry)) p (now (buffer .entry)) (now (run .entry)) r (now (buffer .exit)) ⌝ }
+    requires { Ready p buffer.old × (p.item ≡ Item.Capture) × Run p.left (length run.now) (length run.now) }
+    ensures { Took queues features.now p buffer.old run.now result buffer.new }
 {
     let have = p.have;
     let left = p.left;
@@ -144,8 +143,8 @@ fn take_capture(p: Progress, queues: u8, features: &[u8], buffer: &mut [u8], run
 
 // So many bytes of a long capture.
 fn skip_bytes(p: Progress, count: usize) -> Progress
-    requires { ⌜ Counted (p .counts) × (count ≤ p .left) ⌝ }
-    ensures { λ r. ⌜ r ≡ skipped p count ⌝ }
+    requires { Counted p.counts × (count ≤ p.left) }
+    ensures { result ≡ skipped p count }
 {
     let left = p.left;
     let counts = p.counts;
@@ -162,8 +161,8 @@ fn skip_bytes(p: Progress, count: usize) -> Progress
 
 // Bytes of the item under way.
 fn take_run(p: Progress, queues: u8, features: &[u8], buffer: &mut [u8], run: &[u8]) -> Progress
-    requires { ⌜ Ready p (now buffer) × Run (p .left) (length (now run)) (length (now run)) ⌝ }
-    ensures { λ r. ⌜ Took queues (now (features .entry)) p (now (buffer .entry)) (now (run .entry)) r (now (buffer .exit)) ⌝ }
+    requires { Ready p buffer.old × Run p.left (length run.now) (length run.now) }
+    ensures { Took queues features.now p buffer.old run.now result buffer.new }
 {
     let item = p.item;
     match item {
@@ -176,8 +175,8 @@ fn take_run(p: Progress, queues: u8, features: &[u8], buffer: &mut [u8], run: &[
 
 // As many bytes of the rest of a chunk as the item under way still takes.
 fn run_size(left: usize, rest: usize) -> usize
-    requires { ⌜ (0 < left) × (0 < rest) ⌝ }
-    ensures { λ r. ⌜ Run left rest r ⌝ }
+    requires { (0 < left) × (0 < rest) }
+    ensures { Run left rest result }
 {
     if left < rest { left } else { rest }
 }
@@ -186,15 +185,15 @@ fn run_size(left: usize, rest: usize) -> usize
 
 // Nothing is taken yet.
 pub fn start() -> Progress
-    ensures { λ r. ⌜ r ≡ started ⌝ }
+    ensures { result ≡ started }
 {
     await_length([0u64; LINES])
 }
 
 // A chunk, wherever it ends. The buffer is the one of the chunks before it.
 pub fn feed(p: Progress, queues: u8, features: &[u8], buffer: &mut [u8], chunk: &[u8]) -> Progress
-    requires { ⌜ Ready p (now buffer) ⌝ }
-    ensures { λ r. ⌜ Took queues (now (features .entry)) p (now (buffer .entry)) (now (chunk .entry)) r (now (buffer .exit)) ⌝ }
+    requires { Ready p buffer.old }
+    ensures { Took queues features.now p buffer.old chunk.now result buffer.new }
 {
     let mut s = p;
     let mut at = 0;
@@ -209,7 +208,7 @@ pub fn feed(p: Progress, queues: u8, features: &[u8], buffer: &mut [u8], chunk: 
 
 // Whether the stream can end here.
 fn is_whole(p: Progress) -> bool
-    ensures { λ r. ⌜ r ≡ ended p ⌝ }
+    ensures { result ≡ ended p }
 {
     let item = p.item;
     match item {
@@ -222,7 +221,7 @@ fn is_whole(p: Progress) -> bool
 
 // Whether nothing more is taken, whatever follows.
 pub fn is_stopped(p: Progress) -> bool
-    ensures { λ r. ⌜ r ≡ stopped p ⌝ }
+    ensures { result ≡ stopped p }
 {
     let item = p.item;
     match item {
@@ -235,8 +234,8 @@ pub fn is_stopped(p: Progress) -> bool
 
 // The stream has ended: its sheet, from the start of the buffer. Answers how long it is.
 pub fn finish(p: Progress, out: &mut [u8]) -> usize
-    requires { ⌜ Counted (p .counts) × (sheetRoom ≤ length (now out)) ⌝ }
-    ensures { λ r. ⌜ (now (out .exit) ≡ put 0 (finishedOf p) (now (out .entry))) × (r ≡ length (finishedOf p)) ⌝ }
+    requires { Counted p.counts × (sheetRoom ≤ length out.old) }
+    ensures { (out.new ≡ put 0 (finishedOf p) out.old) × (result ≡ length (finishedOf p)) }
 {
     let counts = p.counts;
     sheet::write(out, counts, is_whole(p))

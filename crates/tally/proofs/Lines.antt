@@ -1,23 +1,23 @@
 -- What one part, one capture adds, line by line: one law for each return of the functions. Assumes nothing.
-use mathlib.Core.Path.{_≡_, refl, sym, _∙_}
+use mathlib.Core.Path.{◌≡◌, refl, sym, ◌∙◌}
 use mathlib.Core.Bool.{true}
 use mathlib.Core.List.{List}
-use Prim.Native.Nat.{ℕ, zero, suc, _+_, _-_, _≤_, _<_}
+use Prim.Native.Nat.{ℕ, zero, suc, ◌+◌, ◌-◌, ◌≤◌, ◌<◌}
 use native.Mathlib.Omega.{arith}
 use lib.Dec.{eqb, leb}
-use lib.ListN.{getD, set}
+use lib.ListN.{get_or, set}
 use borrow.Author.Tests.{leb-true}
-use Rattle·theory.specs.Logic.{_and_, indicator}
-use Rattle·theory.proofs.Tests.{both, and-false}
-use Rattle·inventory.specs.Inventory.{rowAt, placeOf, deviceFeatures, driverFeatures, pciCommon, deviceStatus, queue, queueNotify}
-use Rattle·inventory.specs.declared.Place.{Place}
-use Rattle·inventory.specs.declared.Place.the-variants.{At, Absent}
-use Rattle·inventory.proofs.Find.{place-found}
-use Rattle·inventory.proofs.Rules.{table, every-row}
-use Rattle·rules.specs.Rules.{known}
-use Rattle·tally·specs.specs.Counts.{_plus_}
-use Rattle·tally·specs.specs.Steps.{byType, partAdds}
-use Rattle·tally·proofs.proofs.Plus.{raised, plus-zeros}
+use Rattle.theory.specs.Logic.{◌and◌, indicator}
+use Rattle.theory.proofs.Tests.{both, and-false}
+use Rattle.inventory.specs.Inventory.{row_at, place_of, deviceFeatures, driverFeatures, pciCommon, deviceStatus, queue, queueNotify}
+use Rattle.inventory.specs.declared.Place.{Place}
+use Rattle.inventory.specs.declared.Place.TheVariants.{At, Absent}
+use Rattle.inventory.proofs.Find.{place_found}
+use Rattle.inventory.proofs.Rules.{table, every-row}
+use Rattle.rules.specs.Rules.{known}
+use Rattle.tally.specs.Counts.{◌plus◌}
+use Rattle.tally.specs.Steps.{byType, partAdds}
+use Rattle.tally.proofs.Plus.{raised, plus-zeros}
 
 -- ---- one part ----
 
@@ -26,15 +26,15 @@ pub record KnownType (t : ℕ) : Type 0 where
   pub low : deviceFeatures ≤ t
   pub high : t ≤ queueNotify
 
-type-of-row : (i : ℕ) → i < 15 → KnownType (rowAt i .partType)
+type-of-row : (i : ℕ) → i < 15 → KnownType (row_at i).partType
 unfolding table
 type-of-row i h =
-    let e = both _ _ (every-row (λ k r. leb deviceFeatures (r .partType) and leb (r .partType) queueNotify) refl i h) in
-    record { low = leb-true _ _ (e .0); high = leb-true _ _ (e .1) }
+    let e = both _ _ (every-row (λ k r. leb deviceFeatures r.partType and leb r.partType queueNotify) refl i h) in
+    record { low = leb-true _ _ e.0; high = leb-true _ _ e.1 }
 
-module _ (q t s : ℕ) (r : Place) (here : r ≡ placeOf q t s) where
+module _ (q t s : ℕ) (r : Place) (here : r ≡ place_of q t s) where
   pub type-known : (i : ℕ) → r ≡ At i → KnownType t
-  type-known i e = let f = place-found q t s i (sym here ∙ e) in rw (f .type-is) at (type-of-row i (f .below))
+  type-known i e = let f = place_found q t s i (sym here ∙ e) in rw f.type-is at (type-of-row i f.below)
 
   pub part-absent : (a : List ℕ) → r ≡ Absent → a ≡ a plus partAdds q t s
   unfolding partAdds byType known indicator
@@ -44,8 +44,8 @@ module _ (q t s : ℕ) (r : Place) (here : r ≡ placeOf q t s) where
 by-type : (P : ℕ → Type 0) → P deviceFeatures → P driverFeatures → P pciCommon → P deviceStatus → P queue → P queueNotify
     → (t : ℕ) → KnownType t → P t
 by-type P p₀ p₁ p₂ p₃ p₄ p₅ t k =
-    let l = k .low in
-    let h = k .high in
+    let l = k.low in
+    let h = k.high in
     let e : deviceFeatures + (t - deviceFeatures) ≡ t = omega arith in
     rw (← e) (cases (t - deviceFeatures) (omega arith))
   where
@@ -59,19 +59,19 @@ by-type P p₀ p₁ p₂ p₃ p₄ p₅ t k =
     cases (suc (suc (suc (suc (suc (suc j)))))) h = absurd (omega arith)
 
 raised-type : (a : List ℕ) (t : ℕ) → KnownType t
-    → set a (9 + (t - deviceFeatures)) (getD a (9 + (t - deviceFeatures)) 0 + 1) ≡ a plus byType (λ u. indicator (eqb t u and true))
-unfolding byType indicator _and_
+    → set a (9 + (t - deviceFeatures)) (get_or a (9 + (t - deviceFeatures)) 0 + 1) ≡ a plus byType (λ u. indicator (eqb t u and true))
+unfolding byType indicator ◌and◌
 raised-type a =
-    by-type (λ t. set a (9 + (t - deviceFeatures)) (getD a (9 + (t - deviceFeatures)) 0 + 1) ≡ a plus byType (λ u. indicator (eqb t u and true)))
+    by-type (λ t. set a (9 + (t - deviceFeatures)) (get_or a (9 + (t - deviceFeatures)) 0 + 1) ≡ a plus byType (λ u. indicator (eqb t u and true)))
     (raised a 9 1 6) (raised a 10 1 5) (raised a 11 1 4) (raised a 12 1 3) (raised a 13 1 2) (raised a 14 1 1)
 
-module _ (q t s i : ℕ) (r : Place) (here : r ≡ placeOf q t s) (e : r ≡ At i) where
-  pub part-counted : (a : List ℕ) → set a (9 + (t - deviceFeatures)) (getD a (9 + (t - deviceFeatures)) 0 + 1) ≡ a plus partAdds q t s
+module _ (q t s i : ℕ) (r : Place) (here : r ≡ place_of q t s) (e : r ≡ At i) where
+  pub part-counted : (a : List ℕ) → set a (9 + (t - deviceFeatures)) (get_or a (9 + (t - deviceFeatures)) 0 + 1) ≡ a plus partAdds q t s
   unfolding partAdds known
   part-counted a = rw (← here, e) (raised-type a t (type-known q t s r here i e))
 
   pub type-low : deviceFeatures ≤ t
-  type-low = type-known q t s r here i e .low
+  type-low = (type-known q t s r here i e).low
 
   pub line-in : 9 + (t - deviceFeatures) < 16
-  line-in = let k = type-known q t s r here i e in omega (arith, k .low, k .high)
+  line-in = let k = type-known q t s r here i e in omega (arith, k.low, k.high)

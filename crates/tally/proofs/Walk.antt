@@ -1,64 +1,64 @@
 -- The walk that counts parts: what the parts that are left add gives what the whole list adds. Assumes nothing.
-use mathlib.Core.Path.{_≡_, refl, ap, sym, _∙_}
-use mathlib.Core.List.{List, [], _∷_}
-use Prim.Native.Nat.{ℕ, zero, suc, _+_, _≤_, _^_}
+use mathlib.Core.Path.{◌≡◌, refl, ap, sym, ◌∙◌}
+use mathlib.Core.List.{List, [], ◌∷◌}
+use Prim.Native.Nat.{ℕ, zero, suc, ◌+◌, ◌≤◌, ◌^◌}
 use native.Mathlib.Omega.{arith}
 use types.Run.{OneOf}
-use denote.Enum.Declared.{tagOf}
+use denote.Enum.Declared.{tag_of}
 use lib.Dec.{eqb}
-use lib.ListN.{length, getD}
-use Rattle·theory.specs.Logic.{_and_}
-use Rattle·theory.proofs.Tests.{indicator-le}
-use Rattle·parts.specs.declared.ListForm.the-variants.{Parts}
-use Rattle·parts.specs.declared.Step.{Step}
-use Rattle·parts.specs.declared.Step.the-variants as step
-use Rattle·parts.specs.List.{stepAt, cut, end, part, partIn, onStep, atMost, partsFrom, partsOf, PartList}
-use Rattle·parts.proofs.Turns.{stopped, opened}
-use Rattle·rules.specs.Rules.{known}
-use Rattle·tally·specs.specs.Counts.{_plus_, Below}
-use Rattle·tally·specs.specs.Rows.{partsOfType, longest}
-use Rattle·tally·specs.specs.Steps.{byType, partAdds, partsAdd}
-use Rattle·tally·proofs.proofs.Plus.{AtMost, none-more, one-more, zeros-first, plus-assoc, plus-zeros, at-plus, at-least}
+use lib.ListN.{length, get_or}
+use Rattle.theory.specs.Logic.{◌and◌}
+use Rattle.theory.proofs.Tests.{indicator-le}
+use Rattle.parts.specs.declared.ListForm.TheVariants.{Parts}
+use Rattle.parts.specs.declared.Step.{Step}
+use Rattle.parts.specs.declared.Step.TheVariants as step
+use Rattle.parts.specs.List.{stepAt, cut, end, part, partIn, onStep, at_most, partsFrom, parts_of, PartList}
+use Rattle.parts.proofs.Turns.{stopped, opened}
+use Rattle.rules.specs.Rules.{known}
+use Rattle.tally.specs.Counts.{◌plus◌, Below}
+use Rattle.tally.specs.Rows.{partsOfType, longest}
+use Rattle.tally.specs.Steps.{byType, partAdds, partsAdd}
+use Rattle.tally.proofs.Plus.{AtMost, none_more, one_more, zeros-first, plus_assoc, plus-zeros, at-plus, at_least}
 
 -- ---- how many parts there are ----
 
-few : (q t n : ℕ) (l : List ℕ) (at : ℕ) → partsOfType q t (atMost Parts n l at) ≤ n
-unfolding atMost partsOfType
+few : (q t n : ℕ) (l : List ℕ) (at : ℕ) → partsOfType q t (at_most Parts n l at) ≤ n
+unfolding at_most partsOfType
 few q t zero l at = omega arith
 few q t (suc n) l at = cases (stepAt Parts l at) (λ k. few q t n l k)
   where
-    cases : (r : Step) → ((k : ℕ) → partsOfType q t (atMost Parts n l k) ≤ n)
-        → partsOfType q t (onStep r (λ u f s start len. part (partIn l u f s start len) (atMost Parts n l (start + len))) cut end) ≤ suc n
+    cases : (r : Step) → ((k : ℕ) → partsOfType q t (at_most Parts n l k) ≤ n)
+        → partsOfType q t (onStep r (λ u f s start len. part (partIn l u f s start len) (at_most Parts n l (start + len))) cut end) ≤ suc n
     cases (step.Part u f s start len) ih = omega (arith, ih (start + len), indicator-le (eqb u t and known q u s))
     cases step.Cut ih = omega arith
     cases step.End ih = omega arith
 
 -- no more than there are bytes
-pub parts-few : (q t : ℕ) (l : List ℕ) → partsOfType q t (partsOf Parts l) ≤ length l
+pub parts-few : (q t : ℕ) (l : List ℕ) → partsOfType q t (parts_of Parts l) ≤ length l
 unfolding partsFrom
 parts-few q t l = few q t (length l) l 0
 
 pub by-type-few : (n : ℕ) (f : ℕ → ℕ) → ((t : ℕ) → f t ≤ n) → AtMost n (byType f)
 unfolding byType
 by-type-few n f h =
-    let last : AtMost n (0 ∷ []) = one-more n 0 [] (omega arith) (none-more n) in
+    let last : AtMost n (0 ∷ []) = one_more n 0 [] (omega arith) (none_more n) in
     zeros-first n 9 _
-    (one-more n _ _ (h _) (one-more n _ _ (h _) (one-more n _ _ (h _) (one-more n _ _ (h _) (one-more n _ _ (h _)
-    (one-more n _ _ (h _) last))))))
+    (one_more n _ _ (h _) (one_more n _ _ (h _) (one_more n _ _ (h _) (one_more n _ _ (h _) (one_more n _ _ (h _)
+    (one_more n _ _ (h _) last))))))
 
-pub parts-add-few : (q : ℕ) (l : List ℕ) → AtMost (length l) (partsAdd q (partsOf Parts l))
+pub parts-add-few : (q : ℕ) (l : List ℕ) → AtMost (length l) (partsAdd q (parts_of Parts l))
 unfolding partsAdd
 parts-add-few q l = by-type-few (length l) _ (λ t. parts-few q t l)
 
 -- ---- the walk ----
 
 add-part : (q : ℕ) (l : List ℕ) (t f s start len : ℕ) (ps : PartList) → partsAdd q (part (partIn l t f s start len) ps) ≡ partAdds q t s plus partsAdd q ps
-unfolding partsAdd partAdds byType partsOfType _plus_
+unfolding partsAdd partAdds byType partsOfType ◌plus◌
 add-part q l t f s start len ps = refl
 
 -- a₀ the counts before, a now
 pub record Counting (q : ℕ) (l a₀ a : List ℕ) (at : ℕ) : Type 0 where
-  pub rest : a₀ plus partsAdd q (partsOf Parts l) ≡ a plus partsAdd q (partsFrom Parts l at)
+  pub rest : a₀ plus partsAdd q (parts_of Parts l) ≡ a plus partsAdd q (partsFrom Parts l at)
 
 pub counting-start : (q : ℕ) (l a : List ℕ) → Counting q l a a 0
 counting-start q l a = record { rest = refl }
@@ -69,11 +69,11 @@ module _ (q : ℕ) (l a₀ a : List ℕ) (at : ℕ) (w : Counting q l a₀ a at)
     at = λ i.
         omega (
           arith,
-          v .at i,
-          parts-add-few q l .at i,
-          at-plus a₀ (partsAdd q (partsOf Parts l)) i,
-          at-least a (partsAdd q (partsFrom Parts l at)) i,
-          ap (λ x. getD x i 0) (w .rest),
+          v.at i,
+          (parts-add-few q l).at i,
+          at-plus a₀ (partsAdd q (parts_of Parts l)) i,
+          at_least a (partsAdd q (partsFrom Parts l at)) i,
+          ap (λ x. get_or x i 0) w.rest,
         );
   }
 
@@ -85,13 +85,13 @@ module _ (q : ℕ) (l a₀ a : List ℕ) (at : ℕ) (w : Counting q l a₀ a at)
         let p = opened Parts l at r here t f s start len found in
         record {
           rest =
-              w .rest ∙ ap (λ x. a plus partsAdd q x) p
-              ∙ ap (a plus_) (add-part q l t f s start len (partsFrom Parts l (start + len)))
-              ∙ sym (plus-assoc a (partAdds q t s) (partsAdd q (partsFrom Parts l (start + len))) (omega arith))
-              ∙ ap (_plus partsAdd q (partsFrom Parts l (start + len))) (sym e);
+              w.rest ∙ ap (λ x. a plus partsAdd q x) p
+              ∙ ap (a plus◌) (add-part q l t f s start len (partsFrom Parts l (start + len)))
+              ∙ sym (plus_assoc a (partAdds q t s) (partsAdd q (partsFrom Parts l (start + len))) (omega arith))
+              ∙ ap (◌plus partsAdd q (partsFrom Parts l (start + len))) (sym e);
         }
 
-    pub counting-end : OneOf (1 ∷ 2 ∷ []) (tagOf Rattle·parts.proofs.Step.the-type r) → a ≡ a₀ plus partsAdd q (partsOf Parts l)
+    pub counting-end : OneOf (1 ∷ 2 ∷ []) (tag_of Rattle.parts.specs.contracts.Step.the_type r) → a ≡ a₀ plus partsAdd q (parts_of Parts l)
     unfolding partsAdd byType partsOfType
     counting-end none =
-        sym (w .rest ∙ stopped Parts l at r here none (λ x. a plus partsAdd q x) a (plus-zeros a 16) (plus-zeros a 16))
+        sym (w.rest ∙ stopped Parts l at r here none (λ x. a plus partsAdd q x) a (plus-zeros a 16) (plus-zeros a 16))

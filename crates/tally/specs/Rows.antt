@@ -1,15 +1,12 @@
 -- The numbers of the sheet, and what a capture adds to each: 02, request 11. Assumes nothing.
-use mathlib.Core.List.{List, [], _∷_, map}
-use Prim.Native.Nat.{ℕ, _+_}
-use lib.Dec.{eqb}
-use lib.ListN.{length}
-use Rattle·theory.specs.Logic.{if_then_else_, _and_, indicator}
-use Rattle·inventory.specs.Inventory.{deviceFeatures, driverFeatures, pciCommon, deviceStatus, queue, queueNotify}
-use Rattle·parts.specs.declared.ListForm.the-variants.{Parts}
-use Rattle·parts.specs.List.{PartList, end, cut, part, partsOf, longestList}
-use Rattle·rules.specs.declared.Cause.{Cause}
-use Rattle·rules.specs.declared.Cause.the-variants.{Accepted, Cut, Unknown, Length, Size, Features, Twice}
-use Rattle·rules.specs.Rules.{known, causeOf}
+use Rattle.std.specs.Prelude.{List, [], ◌∷◌, map, ℕ, ◌+◌, eqb, length}
+use Rattle.theory.specs.Logic.{if◌then◌else◌, ◌and◌, indicator}
+use Rattle.inventory.specs.Inventory.{deviceFeatures, driverFeatures, pciCommon, deviceStatus, queue, queueNotify}
+use Rattle.parts.specs.declared.ListForm.TheVariants.{Parts}
+use Rattle.parts.specs.List.{PartList, end, cut, part, parts_of, longestList}
+use Rattle.rules.specs.declared.Cause.{Cause}
+use Rattle.rules.specs.declared.Cause.TheVariants.{Accepted, Cut, Unknown, Length, Size, Features, Twice}
+use Rattle.rules.specs.Rules.{known, causeOf}
 
 -- Each capture is counted in one of the lines 1 to 8, besides `read`: in that of the first cause that occurs anywhere in it
 abbrev pub causeLine : Cause → ℕ
@@ -33,7 +30,7 @@ unfoldable pub partsOfType : ℕ → ℕ → PartList → ℕ
 partsOfType queues t end = 0
 partsOfType queues t cut = 0
 partsOfType queues t (part p ps) =
-    indicator (eqb (p .partType) t and known queues (p .partType) (p .selector)) + partsOfType queues t ps
+    indicator (eqb p.partType t and known queues p.partType p.selector) + partsOfType queues t ps
 
 -- a line: its name, and what a capture that is counted in the line k adds to its number, by the queue count
 pub record Row : Type 0 where
@@ -52,7 +49,7 @@ abbrev overAccepted : ℕ → ℕ → ℕ
 overAccepted k n = if eqb k (causeLine Accepted) then n else 0
 
 abbrev parts : ℕ → ℕ → ℕ → List ℕ → ℕ
-parts t queues k c = overAccepted k (partsOfType queues t (partsOf Parts c))
+parts t queues k c = overAccepted k (partsOfType queues t (parts_of Parts c))
 
 abbrev bytes : ℕ → ℕ → List ℕ → ℕ
 bytes queues k c = overAccepted k (length c)
@@ -83,7 +80,7 @@ rowCount = 16
 
 -- what a capture adds to each number, by the line in which it is counted
 unfoldable pub addsIn : ℕ → ℕ → List ℕ → List ℕ
-addsIn queues k c = map (λ (r : Row). r .adds queues k c) rows
+addsIn queues k c = map (λ (r : Row). r.adds queues k c) rows
 
 abbrev pub addsOf : ℕ → List ℕ → List ℕ → List ℕ
 addsOf queues features c = addsIn queues (causeLine (causeOf queues features c)) c

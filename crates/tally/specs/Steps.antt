@@ -1,16 +1,13 @@
 -- What the private functions add, step by step, for one number each of the sixteen. No public contract cites this.
 -- Assumes nothing.
-use mathlib.Core.List.{List, [], _∷_, _++_}
-use Prim.Native.Nat.{ℕ, _-_}
-use lib.Dec.{eqb}
-use lib.ListN.{length, replicate}
-use Rattle·theory.specs.Logic.{_and_, indicator}
-use Rattle·inventory.specs.Inventory.{deviceFeatures, driverFeatures, pciCommon, deviceStatus, queue, queueNotify}
-use Rattle·parts.specs.declared.ListForm.the-variants.{Parts}
-use Rattle·parts.specs.List.{PartList, partsOf}
-use Rattle·rules.specs.Rules.{known}
-use Rattle·tally·specs.specs.Counts.{_plus_}
-use Rattle·tally·specs.specs.Rows.{partsOfType}
+use Rattle.std.specs.Prelude.{List, [], ◌∷◌, ◌++◌, ℕ, ◌-◌, eqb, length, replicate}
+use Rattle.theory.specs.Logic.{◌and◌, indicator}
+use Rattle.inventory.specs.Inventory.{deviceFeatures, driverFeatures, pciCommon, deviceStatus, queue, queueNotify}
+use Rattle.parts.specs.declared.ListForm.TheVariants.{Parts}
+use Rattle.parts.specs.List.{PartList, parts_of}
+use Rattle.rules.specs.Rules.{known}
+use Rattle.tally.specs.Counts.{◌plus◌}
+use Rattle.tally.specs.Rows.{partsOfType}
 
 -- n in the line k, and a number for each type of parts
 unfoldable pub inLine : ℕ → ℕ → List ℕ
@@ -28,7 +25,7 @@ unfoldable pub partsAdd : ℕ → PartList → List ℕ
 partsAdd queues ps = byType (λ u. partsOfType queues u ps)
 
 unfoldable pub contentsAdd : ℕ → List ℕ → List ℕ
-contentsAdd queues c = partsAdd queues (partsOf Parts c) plus inLine 15 (length c)
+contentsAdd queues c = partsAdd queues (parts_of Parts c) plus inLine 15 (length c)
 
 unfoldable pub captureAdds : ℕ → List ℕ
 captureAdds line = inLine 0 1 plus inLine line 1

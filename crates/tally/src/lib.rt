@@ -1,16 +1,13 @@
 // The numbers of the sheet, 02, request 11: what one capture adds to each. They stand in an array, in the sheet's order.
-ghost use mathlib.Core.Path.{_≡_};
-ghost use Prim.Native.Nat.{_≤_, _^_};
-ghost use lib.ListN.{length};
-ghost use Rattle·parts.specs.declared.ListForm.the-variants.{Parts};
-ghost use Rattle·parts.specs.List.{partsOf};
-ghost use Rattle·tally·specs.specs.Rows.{causeLine, longLine, longest, addsOf, addsLong};
-ghost use Rattle·tally·specs.specs.Counts.{_plus_, Below};
-ghost use Rattle·tally·specs.specs.Steps.{partAdds, partsAdd, contentsAdd, captureAdds};
-use inventory::DEVICE_FEATURES;
-use inventory::Place;
-use parts::ListForm;
-use parts::Step;
+ghost use Rattle.std.specs.Prelude.{◌≡◌, ◌≤◌, ◌^◌, length};
+ghost use Rattle.parts.specs.declared.ListForm.TheVariants.{Parts};
+ghost use Rattle.parts.specs.List.{parts_of};
+ghost use Rattle.tally.specs.Rows.{causeLine, longLine, longest, addsOf, addsLong};
+ghost use Rattle.tally.specs.Counts.{◌plus◌, Below};
+ghost use Rattle.tally.specs.Steps.{partAdds, partsAdd, contentsAdd, captureAdds};
+
+use inventory::{DEVICE_FEATURES, Place};
+use parts::{ListForm, Step};
 use rules::Cause;
 
 pub const LINES: usize = 16;
@@ -31,7 +28,7 @@ const BYTES: usize = 15;
 
 // The line that counts captures of a cause.
 fn cause_line(cause: Cause) -> usize
-    ensures { λ r. ⌜ r ≡ causeLine cause ⌝ }
+    ensures { result ≡ causeLine cause }
 {
     match cause {
         Cause::Accepted => ACCEPTED,
@@ -46,8 +43,8 @@ fn cause_line(cause: Cause) -> usize
 
 // One part more in the line of its type, where a member with so many queues has got the part.
 fn count_part(counts: &mut [u64; LINES], queues: u8, t: u16, selector: u64)
-    requires { ⌜ Below (2 ^ 63) (now counts) ⌝ }
-    ensures { λ _. ⌜ now (counts .exit) ≡ now (counts .entry) plus partAdds queues t selector ⌝ }
+    requires { Below (2 ^ 63) counts.old }
+    ensures { counts.new ≡ counts.old plus partAdds queues t selector }
 {
     let Place::At(_) = inventory::place_of(queues, t, selector) else {
         return;
@@ -58,8 +55,8 @@ fn count_part(counts: &mut [u64; LINES], queues: u8, t: u16, selector: u64)
 
 // The parts of a capture, each in the line of its type.
 fn count_parts(counts: &mut [u64; LINES], queues: u8, capture: &[u8])
-    requires { ⌜ Below (2 ^ 62) (now counts) × (length (now capture) ≤ longest) ⌝ }
-    ensures { λ _. ⌜ now (counts .exit) ≡ now (counts .entry) plus partsAdd queues (partsOf Parts (now (capture .entry))) ⌝ }
+    requires { Below (2 ^ 62) counts.old × (length capture.now ≤ longest) }
+    ensures { counts.new ≡ counts.old plus partsAdd queues (parts_of Parts capture.now) }
 {
     let mut at = 0;
     loop {
@@ -80,8 +77,8 @@ fn count_parts(counts: &mut [u64; LINES], queues: u8, capture: &[u8])
 
 // What an accepted capture adds besides: its parts and its bytes.
 fn with_contents(counts: [u64; LINES], queues: u8, capture: &[u8]) -> [u64; LINES]
-    requires { ⌜ Below (2 ^ 62) counts × (length (now capture) ≤ longest) ⌝ }
-    ensures { λ r. ⌜ r ≡ counts plus contentsAdd queues (now (capture .entry)) ⌝ }
+    requires { Below (2 ^ 62) counts × (length capture.now ≤ longest) }
+    ensures { result ≡ counts plus contentsAdd queues capture.now }
 {
     let mut sums = counts;
     count_parts(&mut sums, queues, capture);
@@ -91,8 +88,8 @@ fn with_contents(counts: [u64; LINES], queues: u8, capture: &[u8]) -> [u64; LINE
 
 // One capture more, in `read` and in another line.
 fn with_capture(counts: [u64; LINES], line: usize) -> [u64; LINES]
-    requires { ⌜ Below (2 ^ 63) counts × (line ≤ longLine) ⌝ }
-    ensures { λ r. ⌜ r ≡ counts plus captureAdds line ⌝ }
+    requires { Below (2 ^ 63) counts × (line ≤ longLine) }
+    ensures { result ≡ counts plus captureAdds line }
 {
     let mut sums = counts;
     sums[READ] += 1;
@@ -107,8 +104,8 @@ pub fn count_capture(
     features: &[u8],
     capture: &[u8],
 ) -> [u64; LINES]
-    requires { ⌜ Below (2 ^ 62) counts × (length (now capture) ≤ longest) ⌝ }
-    ensures { λ r. ⌜ r ≡ counts plus addsOf queues (now (features .entry)) (now (capture .entry)) ⌝ }
+    requires { Below (2 ^ 62) counts × (length capture.now ≤ longest) }
+    ensures { result ≡ counts plus addsOf queues features.now capture.now }
 {
     let line = cause_line(rules::check_list(queues, features, capture));
     if line == ACCEPTED {
@@ -119,8 +116,8 @@ pub fn count_capture(
 
 // The counts with one long capture more.
 pub fn count_long(counts: [u64; LINES]) -> [u64; LINES]
-    requires { ⌜ Below (2 ^ 62) counts ⌝ }
-    ensures { λ r. ⌜ r ≡ counts plus addsLong ⌝ }
+    requires { Below (2 ^ 62) counts }
+    ensures { result ≡ counts plus addsLong }
 {
     with_capture(counts, LONG)
 }

@@ -1,13 +1,13 @@
--- The laws of `bytesAt` and `put` of specs/Bytes.antt. `put` never writes past the end, so most ask no length.
+-- The laws of `bytes_at` and `put` of specs/Bytes.antt. `put` never writes past the end, so most ask no length.
 -- Assumes nothing.
-use mathlib.Core.Path.{_≡_, refl, ap, sym, _∙_}
-use mathlib.Core.List.{List, [], _∷_, _++_, append-nil}
-use Prim.Native.Nat.{ℕ, zero, suc, _+_, _-_, _≤_, _<_}
+use mathlib.Core.Path.{◌≡◌, refl, ap, sym, ◌∙◌}
+use mathlib.Core.List.{List, [], ◌∷◌, ◌++◌, append-nil}
+use Prim.Native.Nat.{ℕ, zero, suc, ◌+◌, ◌-◌, ◌≤◌, ◌<◌}
 use native.Mathlib.Nat.{zero-add, add-zero, suc-add}
 use native.Mathlib.Omega.{arith}
-use lib.ListN.{length, getD, take, drop, set, length-take, length-drop, drop-of-length-le}
-use lib.Seq.{length-take-le, take-at, drop-at, take-nil, drop-drop, take-take, getD-drop, getD-take}
-use Rattle·theory·specs.specs.Bytes.{bytesAt, put}
+use lib.ListN.{length, get_or, take, drop, set, length-take, length-drop, drop_of_length-le}
+use lib.Seq.{length-take-le, take_at, drop_at, take-nil, drop-drop, take-take, get_or-drop, get_or-take}
+use Rattle.theory.specs.Bytes.{bytes_at, put}
 
 -- ---- put ----
 
@@ -22,7 +22,7 @@ pub put-nil : (at : ℕ) (l : List ℕ) → put at [] l ≡ l
 unfolding put
 put-nil at [] = refl
 put-nil zero (b ∷ l) = refl
-put-nil (suc at) (b ∷ l) = ap (b ∷_) (put-nil at l)
+put-nil (suc at) (b ∷ l) = ap (b ∷◌) (put-nil at l)
 
 -- what was put is covered by what is put over it
 pub put-over : (at i : ℕ) (x y l : List ℕ) → at ≤ i → i + length x ≤ at + length y → put at y (put i x l) ≡ put at y l
@@ -30,11 +30,11 @@ unfolding put
 put-over at i x y [] h k = refl
 put-over zero zero [] y (b ∷ l) h k = refl
 put-over zero zero (v ∷ x) [] (b ∷ l) h k = absurd (omega arith)
-put-over zero zero (v ∷ x) (w ∷ y) (b ∷ l) h k = ap (w ∷_) (put-over zero zero x y l (omega arith) (omega arith))
+put-over zero zero (v ∷ x) (w ∷ y) (b ∷ l) h k = ap (w ∷◌) (put-over zero zero x y l (omega arith) (omega arith))
 put-over zero (suc i) x [] (b ∷ l) h k = absurd (omega arith)
-put-over zero (suc i) x (w ∷ y) (b ∷ l) h k = ap (w ∷_) (put-over zero i x y l (omega arith) (omega arith))
+put-over zero (suc i) x (w ∷ y) (b ∷ l) h k = ap (w ∷◌) (put-over zero i x y l (omega arith) (omega arith))
 put-over (suc at) zero x y (b ∷ l) h k = absurd (omega arith)
-put-over (suc at) (suc i) x y (b ∷ l) h k = ap (b ∷_) (put-over at i x y l (omega arith) (omega arith))
+put-over (suc at) (suc i) x y (b ∷ l) h k = ap (b ∷◌) (put-over at i x y l (omega arith) (omega arith))
 
 -- two that lie apart, in either order
 pub put-comm : (i : ℕ) (x : List ℕ) (j : ℕ) (y l : List ℕ) → i + length x ≤ j → put i x (put j y l) ≡ put j y (put i x l)
@@ -42,34 +42,34 @@ unfolding put
 put-comm i x j y [] h = refl
 put-comm zero [] j y (b ∷ l) h = put-nil zero (put j y (b ∷ l))
 put-comm zero (v ∷ x) zero y (b ∷ l) h = absurd (omega arith)
-put-comm zero (v ∷ x) (suc j) y (b ∷ l) h = ap (v ∷_) (put-comm zero x j y l (omega arith))
+put-comm zero (v ∷ x) (suc j) y (b ∷ l) h = ap (v ∷◌) (put-comm zero x j y l (omega arith))
 put-comm (suc i) x zero y (b ∷ l) h = absurd (omega arith)
-put-comm (suc i) x (suc j) y (b ∷ l) h = ap (b ∷_) (put-comm i x j y l (omega arith))
+put-comm (suc i) x (suc j) y (b ∷ l) h = ap (b ∷◌) (put-comm i x j y l (omega arith))
 
 -- to put what is there changes nothing
-pub put-bytesAt : (at n : ℕ) (l : List ℕ) → put at (bytesAt at n l) l ≡ l
+pub put-bytesAt : (at n : ℕ) (l : List ℕ) → put at (bytes_at at n l) l ≡ l
 unfolding put
 put-bytesAt at n [] = refl
 put-bytesAt zero zero (b ∷ l) = refl
-put-bytesAt zero (suc n) (b ∷ l) = ap (b ∷_) (put-bytesAt zero n l)
-put-bytesAt (suc at) n (b ∷ l) = ap (b ∷_) (put-bytesAt at n l)
+put-bytesAt zero (suc n) (b ∷ l) = ap (b ∷◌) (put-bytesAt zero n l)
+put-bytesAt (suc at) n (b ∷ l) = ap (b ∷◌) (put-bytesAt at n l)
 
 -- past the end nothing is put
 pub put-out : (at : ℕ) (x l : List ℕ) → length l ≤ at → put at x l ≡ l
 unfolding put
 put-out at x [] h = refl
 put-out zero x (b ∷ l) h = absurd (omega arith)
-put-out (suc at) x (b ∷ l) h = ap (b ∷_) (put-out at x l (omega arith))
+put-out (suc at) x (b ∷ l) h = ap (b ∷◌) (put-out at x l (omega arith))
 
 -- one element first
 pub put-cons : (at v : ℕ) (x l : List ℕ) → put at (v ∷ x) l ≡ put (suc at) x (set l at v)
 unfolding put
 put-cons at v x [] = refl
 put-cons zero v x (b ∷ l) = refl
-put-cons (suc at) v x (b ∷ l) = ap (b ∷_) (put-cons at v x l)
+put-cons (suc at) v x (b ∷ l) = ap (b ∷◌) (put-cons at v x l)
 
-pub put-one : (at v : ℕ) (l : List ℕ) → put at (v ∷ []) l ≡ set l at v
-put-one at v l = put-cons at v [] l ∙ put-nil (suc at) (set l at v)
+pub put_one : (at v : ℕ) (l : List ℕ) → put at (v ∷ []) l ≡ set l at v
+put_one at v l = put-cons at v [] l ∙ put-nil (suc at) (set l at v)
 
 -- one list after the other
 pub put-append : (at : ℕ) (x y l : List ℕ) → put at (x ++ y) l ≡ put (at + length x) y (put at x l)
@@ -85,18 +85,18 @@ put-eq zero [] [] h = refl
 put-eq zero (v ∷ x) [] h = absurd (omega arith)
 put-eq (suc at) x [] h = absurd (omega arith)
 put-eq zero [] (b ∷ l) h = refl
-put-eq zero (v ∷ x) (b ∷ l) h = rw (zero-add, ← zero-add (length x)) (ap (v ∷_) (put-eq zero x l (omega arith)))
-put-eq (suc at) x (b ∷ l) h = rw suc-add (ap (b ∷_) (put-eq at x l (omega arith)))
+put-eq zero (v ∷ x) (b ∷ l) h = rw (zero-add, ← zero-add (length x)) (ap (v ∷◌) (put-eq zero x l (omega arith)))
+put-eq (suc at) x (b ∷ l) h = rw suc-add (ap (b ∷◌) (put-eq at x l (omega arith)))
 
 -- at the front
-pub put-front : (x l : List ℕ) → length x ≤ length l → put 0 x l ≡ x ++ drop (length x) l
-put-front x l h = rw (put-eq 0 x l (omega arith), zero-add)
+pub put_front : (x l : List ℕ) → length x ≤ length l → put 0 x l ≡ x ++ drop (length x) l
+put_front x l h = rw (put-eq 0 x l (omega arith), zero-add)
 
 -- the whole list
-pub put-all : (x l : List ℕ) → length x ≡ length l → put 0 x l ≡ x
-put-all x l e =
+pub put_all : (x l : List ℕ) → length x ≡ length l → put 0 x l ≡ x
+put_all x l e =
     let h : length l ≤ length x = omega arith in
-    put-front x l (omega arith) ∙ rw (drop-of-length-le l h) (append-nil x)
+    put_front x l (omega arith) ∙ rw (drop_of_length-le l h) (append-nil x)
 
 -- ---- a part of a list in which something was put ----
 
@@ -105,7 +105,7 @@ unfolding put
 take-before n i x [] h = refl
 take-before zero i x (b ∷ l) h = refl
 take-before (suc n) zero x (b ∷ l) h = absurd (omega arith)
-take-before (suc n) (suc i) x (b ∷ l) h = ap (b ∷_) (take-before n i x l (omega arith))
+take-before (suc n) (suc i) x (b ∷ l) h = ap (b ∷◌) (take-before n i x l (omega arith))
 
 pub drop-after : (at i : ℕ) (x l : List ℕ) → i + length x ≤ at → drop at (put i x l) ≡ drop at l
 unfolding put
@@ -123,33 +123,33 @@ drop-put zero i x l = rw zero-add
 drop-put (suc at) i x [] = refl
 drop-put (suc at) i x (b ∷ l) = rw suc-add (drop-put at i x l)
 
-pub take-put : (n i : ℕ) (x l : List ℕ) → take n (put i x l) ≡ put i x (take n l)
+pub take_put : (n i : ℕ) (x l : List ℕ) → take n (put i x l) ≡ put i x (take n l)
 unfolding put
-take-put n i x [] = rw take-nil
-take-put zero i x (b ∷ l) = refl
-take-put (suc n) zero [] (b ∷ l) = refl
-take-put (suc n) zero (v ∷ x) (b ∷ l) = ap (v ∷_) (take-put n zero x l)
-take-put (suc n) (suc i) x (b ∷ l) = ap (b ∷_) (take-put n i x l)
+take_put n i x [] = rw take-nil
+take_put zero i x (b ∷ l) = refl
+take_put (suc n) zero [] (b ∷ l) = refl
+take_put (suc n) zero (v ∷ x) (b ∷ l) = ap (v ∷◌) (take_put n zero x l)
+take_put (suc n) (suc i) x (b ∷ l) = ap (b ∷◌) (take_put n i x l)
 
 -- a part that lies before, and one that lies after, is as it was
-pub bytesAt-before : (at n i : ℕ) (x l : List ℕ) → at + n ≤ i → bytesAt at n (put i x l) ≡ bytesAt at n l
+pub bytesAt-before : (at n i : ℕ) (x l : List ℕ) → at + n ≤ i → bytes_at at n (put i x l) ≡ bytes_at at n l
 bytesAt-before at n i x l h =
     let e : i ≡ at + (i - at) = omega arith in
-    ap (λ k. bytesAt at n (put k x l)) e
+    ap (λ k. bytes_at at n (put k x l)) e
     ∙ rw drop-put (take-before n (i - at) x (drop at l) (omega arith))
 
-pub bytesAt-after : (at n i : ℕ) (x l : List ℕ) → i + length x ≤ at → bytesAt at n (put i x l) ≡ bytesAt at n l
+pub bytesAt-after : (at n i : ℕ) (x l : List ℕ) → i + length x ≤ at → bytes_at at n (put i x l) ≡ bytes_at at n l
 bytesAt-after at n i x l h = ap (take n) (drop-after at i x l h)
 
 -- what was put
-pub bytesAt-put : (at : ℕ) (x l : List ℕ) → at + length x ≤ length l → bytesAt at (length x) (put at x l) ≡ x
+pub bytesAt-put : (at : ℕ) (x l : List ℕ) → at + length x ≤ length l → bytes_at at (length x) (put at x l) ≡ x
 bytesAt-put at x l h =
-    ap (bytesAt at (length x)) (put-eq at x l h)
-    ∙ ap (take (length x)) (drop-at (take at l) _ at (length-take-le at l (omega arith)))
-    ∙ take-at x _ (length x) refl
+    ap (bytes_at at (length x)) (put-eq at x l h)
+    ∙ ap (take (length x)) (drop_at (take at l) _ at (length-take-le at l (omega arith)))
+    ∙ take_at x _ (length x) refl
 
 -- the same, at a length that is known
-pub bytesAt-put-as : (at n : ℕ) (x l : List ℕ) → length x ≡ n → at + n ≤ length l → bytesAt at n (put at x l) ≡ x
+pub bytesAt-put-as : (at n : ℕ) (x l : List ℕ) → length x ≡ n → at + n ≤ length l → bytes_at at n (put at x l) ≡ x
 bytesAt-put-as at n x l e h = rw (← e) (bytesAt-put at x l (rw e h))
 
 -- ---- a part ----
@@ -159,27 +159,27 @@ drop-take zero m l = rw zero-add
 drop-take (suc n) m [] = rw (suc-add, take-nil)
 drop-take (suc n) m (x ∷ l) = rw suc-add (drop-take n m l)
 
-pub length-bytesAt : (at n : ℕ) (l : List ℕ) → at + n ≤ length l → length (bytesAt at n l) ≡ n
+pub length-bytesAt : (at n : ℕ) (l : List ℕ) → at + n ≤ length l → length (bytes_at at n l) ≡ n
 length-bytesAt at n l h = length-take-le n (drop at l) (rw length-drop (omega arith))
 
-pub length-bytesAt-le : (at n : ℕ) (l : List ℕ) → length (bytesAt at n l) ≤ n
+pub length-bytesAt-le : (at n : ℕ) (l : List ℕ) → length (bytes_at at n l) ≤ n
 length-bytesAt-le at n l = rw length-take (omega arith)
 
-pub getD-bytesAt : (at n i : ℕ) (l : List ℕ) → i < n → getD (bytesAt at n l) i 0 ≡ getD l (at + i) 0
-getD-bytesAt at n i l h = rw (getD-take, getD-drop)
+pub getD-bytesAt : (at n i : ℕ) (l : List ℕ) → i < n → get_or (bytes_at at n l) i 0 ≡ get_or l (at + i) 0
+getD-bytesAt at n i l h = rw (get_or-take, get_or-drop)
 
 -- a part of a part
-pub bytesAt-bytesAt : (at n b m : ℕ) (l : List ℕ) → at + n ≤ m → bytesAt at n (bytesAt b m l) ≡ bytesAt (b + at) n l
+pub bytesAt-bytesAt : (at n b m : ℕ) (l : List ℕ) → at + n ≤ m → bytes_at at n (bytes_at b m l) ≡ bytes_at (b + at) n l
 bytesAt-bytesAt at n b m l h =
     let k : n ≤ m - at = omega arith in
     let e : m ≡ at + (m - at) = omega arith in
-    ap (λ j. bytesAt at n (bytesAt b j l)) e
+    ap (λ j. bytes_at at n (bytes_at b j l)) e
     ∙ rw (drop-take at (m - at) (drop b l), drop-drop) (take-take n (m - at) (drop (b + at) l) k)
 
 -- a put within a part of a list, as a put in the list
-pub put-within : (at n i : ℕ) (x l : List ℕ) → i + length x ≤ n → at + n ≤ length l → put at (put i x (bytesAt at n l)) l ≡ put (at + i) x l
+pub put-within : (at n i : ℕ) (x l : List ℕ) → i + length x ≤ n → at + n ≤ length l → put at (put i x (bytes_at at n l)) l ≡ put (at + i) x l
 put-within at n i x l h k =
-    let l′ = put (at + i) x l in
-    let e : put i x (bytesAt at n l) ≡ bytesAt at n l′ = sym (take-put n i x (drop at l)) ∙ ap (take n) (sym (drop-put at i x l)) in
-    let m : length (bytesAt at n l′) ≡ n = length-bytesAt at n l′ (rw length-put k) in
-    rw e (sym (put-over at (at + i) x (bytesAt at n l′) l (omega arith) (omega arith)) ∙ put-bytesAt at n l′)
+    let l' = put (at + i) x l in
+    let e : put i x (bytes_at at n l) ≡ bytes_at at n l' = sym (take_put n i x (drop at l)) ∙ ap (take n) (sym (drop-put at i x l)) in
+    let m : length (bytes_at at n l') ≡ n = length-bytesAt at n l' (rw length-put k) in
+    rw e (sym (put-over at (at + i) x (bytes_at at n l') l (omega arith) (omega arith)) ∙ put-bytesAt at n l')

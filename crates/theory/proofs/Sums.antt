@@ -1,20 +1,20 @@
 -- Sums of numbers by their index: how long items are together, and a loop that adds up. Assumes nothing.
-use mathlib.Core.Path.{_≡_, refl}
+use mathlib.Core.Path.{◌≡◌, refl}
 use mathlib.Core.List.{List}
-use Prim.Native.Nat.{ℕ, zero, suc, _+_, _*_, _-_, _≤_, _<_}
+use Prim.Native.Nat.{ℕ, zero, suc, ◌+◌, ◌*◌, ◌-◌, ◌≤◌, ◌<◌}
 use native.Mathlib.Nat.{zero-add, sub-zero}
 use native.Mathlib.Omega.{arith}
 use lib.ListN.{length, length-append}
-use Rattle·theory·specs.specs.Items.{itemsFrom}
+use Rattle.theory.specs.Items.{itemsFrom}
 
 -- k numbers from the i-th on
 unfoldable pub sumFrom : (ℕ → ℕ) → ℕ → ℕ → ℕ
 sumFrom f zero i = 0
 sumFrom f (suc k) i = f i + sumFrom f k (i + 1)
 
-sum-step : (f : ℕ → ℕ) (n i : ℕ) → i < n → sumFrom f (n - i) i ≡ f i + sumFrom f (n - (i + 1)) (i + 1)
+sum_step : (f : ℕ → ℕ) (n i : ℕ) → i < n → sumFrom f (n - i) i ≡ f i + sumFrom f (n - (i + 1)) (i + 1)
 unfolding sumFrom
-sum-step f n i h = let e : n - i ≡ suc (n - (i + 1)) = omega arith in rw e
+sum_step f n i h = let e : n - i ≡ suc (n - (i + 1)) = omega arith in rw e
 
 sum-end : (f : ℕ → ℕ) (n i : ℕ) → n ≤ i → sumFrom f (n - i) i ≡ 0
 unfolding sumFrom
@@ -29,16 +29,16 @@ length-items item f n (suc k) i e l =
     rw (length-append, l i (omega arith), length-items item f n k (i + 1) (omega arith) l)
 
 -- numbers that are the same one by one
-pub sums-same : (f g : ℕ → ℕ) (n k i : ℕ) → i + k ≡ n → ((j : ℕ) → j < n → f j ≡ g j) → sumFrom f k i ≡ sumFrom g k i
+pub sums_same : (f g : ℕ → ℕ) (n k i : ℕ) → i + k ≡ n → ((j : ℕ) → j < n → f j ≡ g j) → sumFrom f k i ≡ sumFrom g k i
 unfolding sumFrom
-sums-same f g n zero i e s = refl
-sums-same f g n (suc k) i e s = rw (s i (omega arith), sums-same f g n k (i + 1) (omega arith) s)
+sums_same f g n zero i e s = refl
+sums_same f g n (suc k) i e s = rw (s i (omega arith), sums_same f g n k (i + 1) (omega arith) s)
 
 -- the same number k times
-pub sum-same : (x k i : ℕ) → sumFrom (λ j. x) k i ≡ k * x
+pub sum_same : (x k i : ℕ) → sumFrom (λ j. x) k i ≡ k * x
 unfolding sumFrom
-sum-same x zero i = omega arith
-sum-same x (suc k) i = omega (arith, sum-same x k (i + 1))
+sum_same x zero i = omega arith
+sum_same x (suc k) i = omega (arith, sum_same x k (i + 1))
 
 -- a loop that adds them up: n is the sum up to the i-th
 pub sum-start : (f : ℕ → ℕ) (total : ℕ) → 0 + sumFrom f (total - 0) 0 ≡ sumFrom f total 0
@@ -46,7 +46,7 @@ sum-start f total = rw (zero-add, sub-zero)
 
 module _ (f : ℕ → ℕ) (total n i : ℕ) (e : n + sumFrom f (total - i) i ≡ sumFrom f total 0) where
   pub sum-on : (x : ℕ) → i < total → x ≡ f i → n + x + sumFrom f (total - (i + 1)) (i + 1) ≡ sumFrom f total 0
-  sum-on x h d = omega (arith, sum-step f total i h)
+  sum-on x h d = omega (arith, sum_step f total i h)
 
   pub summed : total ≤ i → n ≡ sumFrom f total 0
   summed h = omega (arith, sum-end f total i h)

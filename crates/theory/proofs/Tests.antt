@@ -1,149 +1,149 @@
 -- Case analysis on a test, and the laws of the choices and tests of specs/Logic.antt and of `same`. Assumes nothing.
-use mathlib.Core.Path.{_≡_, refl, ap, sym}
-use mathlib.Core.Bool.{Bool, true, false, not, _&&_}
-use mathlib.Core.List.{List, [], _∷_}
-use Prim.Native.Nat.{ℕ, _+_, _≤_, _<_}
+use mathlib.Core.Path.{◌≡◌, refl, ap, sym}
+use mathlib.Core.Bool.{Bool, true, false, not, ◌&&◌}
+use mathlib.Core.List.{List, [], ◌∷◌}
+use Prim.Native.Nat.{ℕ, ◌+◌, ◌≤◌, ◌<◌}
 use native.Mathlib.Numerals.{add-one}
 use native.Mathlib.Omega.{arith}
-use mir.Val.{boolByte}
+use mir.Val.{bool_byte}
 use lib.Dec.{eqb}
-use lib.ListN.{length, getD, drop, drop-of-length-le}
+use lib.ListN.{length, get_or, drop, drop_of_length-le}
 use lib.Seq.{drop-cons}
-use borrow.Author.Tests.{ltb-true, ltb-false, leb-true, leb-false, eqb-true, eqb-false, lt-ltb, le-ltb, le-leb, lt-leb, eq-eqb, ne-eqb}
-use Rattle·theory·specs.specs.Logic.{if_then_else_, unless_answer_then_, _and_, _or_, within, indicator}
-use Rattle·theory·specs.specs.Bytes.{same}
+use borrow.Author.Tests.{ltb-true, ltb-false, leb-true, leb-false, eqb-true, eqb-false, lt-ltb, le-ltb, le-leb, lt-leb, eq-eqb, ne_eqb}
+use Rattle.theory.specs.Logic.{if◌then◌else◌, unless◌answer◌then◌, ◌and◌, ◌or◌, within, indicator}
+use Rattle.theory.specs.Bytes.{same}
 
 -- ---- cases ----
 
 -- a proof for each value of a test; `rw e` puts the value into the goal
-pub by-cases {ℓ} : {P : Type ℓ} (v : Bool) → (v ≡ true → P) → (v ≡ false → P) → P
-by-cases true f g = f refl
-by-cases false f g = g refl
+pub by_cases {ℓ} : {P : Type ℓ} (v : Bool) → (v ≡ true → P) → (v ≡ false → P) → P
+by_cases true f g = f refl
+by_cases false f g = g refl
 
 -- a case that cannot be: `never cc` closes one in which two facts name different constructors
 pub never {ℓ} : {P : Type ℓ} → false ≡ true → P
-never e = let z : _≡_ {A = ℕ} 0 1 = cc in absurd (omega arith)
+never e = let z : ◌≡◌ {A = ℕ} 0 1 = cc in absurd (omega arith)
 
 -- a fact about a choice follows from the fact about each of the two
 pub if-cases {ℓ κ} : {A : Type κ} (P : A → Type ℓ) (v : Bool) (x y : A)
     → (v ≡ true → P x) → (v ≡ false → P y) → P (if v then x else y)
-unfolding if_then_else_
+unfolding if◌then◌else◌
 if-cases P true x y f g = f refl
 if-cases P false x y f g = g refl
 
 pub unless-cases {ℓ κ} : {A : Type κ} (P : A → Type ℓ) (v : Bool) (a rest : A)
     → (v ≡ false → P a) → (v ≡ true → P rest) → P (unless v answer a then rest)
-unfolding unless_answer_then_
+unfolding unless◌answer◌then◌
 unless-cases P true a rest f g = g refl
 unless-cases P false a rest f g = f refl
 
 -- P holds of what a ladder gave, and not of a step's answer: that step was passed
 pub unless-passed {ℓ κ} : {A : Type κ} (P : A → Type ℓ) (v : Bool) (a rest : A)
     → (P a → ⊥) → P (unless v answer a then rest) → (v ≡ true) × P rest
-unfolding unless_answer_then_
+unfolding unless◌answer◌then◌
 unless-passed P true a rest n p = (refl, p)
 unless-passed P false a rest n p = absurd (n p)
 
 -- two choices that are the same
 pub if-same {ℓ} : {A : Type ℓ} (v : Bool) (x : A) → (if v then x else x) ≡ x
-unfolding if_then_else_
+unfolding if◌then◌else◌
 if-same true x = refl
 if-same false x = refl
 
 -- ---- and, or, not ----
 
 pub true-and : (b : Bool) → true and b ≡ b
-unfolding _and_
+unfolding ◌and◌
 true-and b = refl
 
 pub and-true : (a : Bool) → a and true ≡ a
-unfolding _and_
+unfolding ◌and◌
 and-true true = refl
 and-true false = refl
 
 pub false-and : (b : Bool) → false and b ≡ false
-unfolding _and_
+unfolding ◌and◌
 false-and b = refl
 
 pub and-false : (a : Bool) → a and false ≡ false
-unfolding _and_
+unfolding ◌and◌
 and-false true = refl
 and-false false = refl
 
-pub and-assoc : (a b c : Bool) → a and b and c ≡ a and (b and c)
-unfolding _and_
-and-assoc true b c = refl
-and-assoc false b c = refl
+pub and_assoc : (a b c : Bool) → a and b and c ≡ a and (b and c)
+unfolding ◌and◌
+and_assoc true b c = refl
+and_assoc false b c = refl
 
 pub true-or : (b : Bool) → true or b ≡ true
-unfolding _or_
+unfolding ◌or◌
 true-or b = refl
 
 pub or-true : (a : Bool) → a or true ≡ true
-unfolding _or_
+unfolding ◌or◌
 or-true true = refl
 or-true false = refl
 
 pub false-or : (b : Bool) → false or b ≡ b
-unfolding _or_
+unfolding ◌or◌
 false-or b = refl
 
 pub or-false : (a : Bool) → a or false ≡ a
-unfolding _or_
+unfolding ◌or◌
 or-false true = refl
 or-false false = refl
 
-pub or-assoc : (a b c : Bool) → a or b or c ≡ a or (b or c)
-unfolding _or_
-or-assoc true b c = refl
-or-assoc false b c = refl
+pub or_assoc : (a b c : Bool) → a or b or c ≡ a or (b or c)
+unfolding ◌or◌
+or_assoc true b c = refl
+or_assoc false b c = refl
 
-pub or-comm : (a b : Bool) → a or b ≡ b or a
-unfolding _or_
-or-comm true b = sym (or-true b)
-or-comm false b = sym (or-false b)
+pub or_comm : (a b : Bool) → a or b ≡ b or a
+unfolding ◌or◌
+or_comm true b = sym (or-true b)
+or_comm false b = sym (or-false b)
 
 pub not-and : (a b : Bool) → not a or not b ≡ not (a and b)
-unfolding _and_ _or_
+unfolding ◌and◌ ◌or◌
 not-and true b = refl
 not-and false b = refl
 
 pub not-or : (a b : Bool) → not a and not b ≡ not (a or b)
-unfolding _and_ _or_
+unfolding ◌and◌ ◌or◌
 not-or true b = refl
 not-or false b = refl
 
 -- the code's `&` of two tests
 pub and-bits : (a b : Bool) → (a && b) ≡ a and b
-unfolding _and_
+unfolding ◌and◌
 and-bits true b = refl
 and-bits false b = refl
 
 -- both hold; neither holds
 pub both : (a b : Bool) → a and b ≡ true → (a ≡ true) × (b ≡ true)
-unfolding _and_
+unfolding ◌and◌
 both true b e = (refl, e)
 both false b e = (e, cc)
 
 pub neither : (a b : Bool) → a or b ≡ false → (a ≡ false) × (b ≡ false)
-unfolding _or_
+unfolding ◌or◌
 neither true b e = (e, cc)
 neither false b e = (refl, e)
 
-pub and-i : (a b : Bool) → a ≡ true → b ≡ true → a and b ≡ true
-and-i a b e f = rw (e, f) (true-and true)
+pub and_i : (a b : Bool) → a ≡ true → b ≡ true → a and b ≡ true
+and_i a b e f = rw (e, f) (true-and true)
 
 pub or-i : (a b : Bool) → a ≡ false → b ≡ false → a or b ≡ false
 or-i a b e f = rw (e, f) (false-or false)
 
 -- one of the two holds; one of the two fails
 pub either {ℓ} : {P : Type ℓ} (a b : Bool) → a or b ≡ true → (a ≡ true → P) → (b ≡ true → P) → P
-unfolding _or_
+unfolding ◌or◌
 either true b e f g = f refl
 either false b e f g = g e
 
 pub not-both {ℓ} : {P : Type ℓ} (a b : Bool) → a and b ≡ false → (a ≡ false → P) → (b ≡ false → P) → P
-unfolding _and_
+unfolding ◌and◌
 not-both true b e f g = g e
 not-both false b e f g = f refl
 
@@ -151,7 +151,7 @@ not-both false b e f g = f refl
 
 pub inside : (a b n : ℕ) → a ≤ n → n ≤ b → within a b n ≡ true
 unfolding within
-inside a b n h l = and-i _ _ (le-leb a n h) (le-leb n b l)
+inside a b n h l = and_i _ _ (le-leb a n h) (le-leb n b l)
 
 pub below : (a b n : ℕ) → n < a → within a b n ≡ false
 unfolding within
@@ -161,13 +161,13 @@ pub above : (a b n : ℕ) → b < n → within a b n ≡ false
 unfolding within
 above a b n h = rw (lt-leb n b h) (and-false _)
 
-pub within-low : (a b n : ℕ) → within a b n ≡ true → a ≤ n
+pub within_low : (a b n : ℕ) → within a b n ≡ true → a ≤ n
 unfolding within
-within-low a b n e = leb-true a n (both _ _ e .0)
+within_low a b n e = leb-true a n (both _ _ e).0
 
 pub within-high : (a b n : ℕ) → within a b n ≡ true → n ≤ b
 unfolding within
-within-high a b n e = leb-true n b (both _ _ e .1)
+within-high a b n e = leb-true n b (both _ _ e).1
 
 pub outside {ℓ} : {P : Type ℓ} (a b n : ℕ) → within a b n ≡ false → (n < a → P) → (b < n → P) → P
 unfolding within
@@ -179,12 +179,12 @@ unfolding indicator
 indicator-false t e = rw e
 
 -- the code's indicator: a bool as a byte
-pub bool-byte : (b : Bool) → boolByte b ≡ indicator b
+pub bool-byte : (b : Bool) → bool_byte b ≡ indicator b
 unfolding indicator
 bool-byte true = refl
 bool-byte false = refl
 
-pub bool-byte-is : (b d : Bool) → b ≡ d → boolByte b ≡ indicator d
+pub bool-byte-is : (b d : Bool) → b ≡ d → bool_byte b ≡ indicator d
 bool-byte-is b d e = rw (bool-byte b) (ap indicator e)
 
 pub indicator-le : (t : Bool) → indicator t ≤ 1
@@ -193,41 +193,41 @@ indicator-le true = omega arith
 indicator-le false = omega arith
 
 -- `omega tests` reads `leb a b ≡ true`, `within a b n ≡ true` and the like as facts, and proves goals of the first form
-pub ruleset tests = (arith, ltb-true, ltb-false, leb-true, leb-false, eqb-true, eqb-false, lt-ltb, le-ltb, le-leb, lt-leb, eq-eqb, ne-eqb, within-low, within-high)
+pub ruleset tests = (arith, ltb-true, ltb-false, leb-true, leb-false, eqb-true, eqb-false, lt-ltb, le-ltb, le-leb, lt-leb, eq-eqb, ne_eqb, within_low, within-high)
 
 -- ---- the same bytes ----
 
-pub same-true : (a b : List ℕ) → same a b ≡ true → a ≡ b
+pub same_true : (a b : List ℕ) → same a b ≡ true → a ≡ b
 unfolding same
-same-true [] [] e = refl
-same-true [] (y ∷ b) e = cc
-same-true (x ∷ a) [] e = cc
-same-true (x ∷ a) (y ∷ b) e = let p = both _ _ e in rw (eqb-true x y (p .0), same-true a b (p .1))
+same_true [] [] e = refl
+same_true [] (y ∷ b) e = cc
+same_true (x ∷ a) [] e = cc
+same_true (x ∷ a) (y ∷ b) e = let p = both _ _ e in rw (eqb-true x y p.0, same_true a b p.1)
 
-pub same-refl : (a : List ℕ) → same a a ≡ true
+pub same_refl : (a : List ℕ) → same a a ≡ true
 unfolding same
-same-refl [] = refl
-same-refl (x ∷ a) = and-i _ _ (eq-eqb x x refl) (same-refl a)
+same_refl [] = refl
+same_refl (x ∷ a) = and_i _ _ (eq-eqb x x refl) (same_refl a)
 
 pub eq-same : (a b : List ℕ) → a ≡ b → same a b ≡ true
-eq-same a b e = rw e (same-refl b)
+eq-same a b e = rw e (same_refl b)
 
-pub ne-same : (a b : List ℕ) → (a ≡ b → ⊥) → same a b ≡ false
-ne-same a b n = by-cases (same a b) (λ e. absurd (n (same-true a b e))) (λ e. e)
+pub ne_same : (a b : List ℕ) → (a ≡ b → ⊥) → same a b ≡ false
+ne_same a b n = by_cases (same a b) (λ e. absurd (n (same_true a b e))) (λ e. e)
 
 pub same-other-length : (a b : List ℕ) → (length a ≡ length b → ⊥) → same a b ≡ false
-same-other-length a b n = ne-same a b (λ e. n (ap length e))
+same-other-length a b n = ne_same a b (λ e. n (ap length e))
 
 -- one byte more; and none left
-pub same-step : (a b : List ℕ) (i : ℕ) → length a ≡ length b → i < length a
-    → same (drop i a) (drop i b) ≡ eqb (getD a i 0) (getD b i 0) and same (drop (i + 1) a) (drop (i + 1) b)
+pub same_step : (a b : List ℕ) (i : ℕ) → length a ≡ length b → i < length a
+    → same (drop i a) (drop i b) ≡ eqb (get_or a i 0) (get_or b i 0) and same (drop (i + 1) a) (drop (i + 1) b)
 unfolding same
-same-step a b i e h =
+same_step a b i e h =
     let l : i < length b = omega arith in
     rw (drop-cons a i 0 h, drop-cons b i 0 l, add-one)
 
-pub same-end : (a b : List ℕ) (i : ℕ) → length a ≡ length b → length a ≤ i → same (drop i a) (drop i b) ≡ true
+pub same_end : (a b : List ℕ) (i : ℕ) → length a ≡ length b → length a ≤ i → same (drop i a) (drop i b) ≡ true
 unfolding same
-same-end a b i e h =
+same_end a b i e h =
     let l : length b ≤ i = omega arith in
-    rw (drop-of-length-le a h, drop-of-length-le b l)
+    rw (drop_of_length-le a h, drop_of_length-le b l)

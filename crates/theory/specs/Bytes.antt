@@ -1,14 +1,10 @@
 -- Bytes at a place of a list. A buffer is the list of its bytes. Assumes nothing.
-use mathlib.Core.List.{List, [], _∷_}
-use mathlib.Core.Bool.{Bool, true, false}
-use Prim.Native.Nat.{ℕ, zero, suc}
-use lib.Dec.{eqb}
-use lib.ListN.{take, drop}
-use Rattle·theory·specs.specs.Logic.{_and_}
+use Rattle.std.specs.Prelude.{List, [], ◌∷◌, Bool, true, false, ℕ, zero, suc, eqb, take, drop}
+use Rattle.theory.specs.Logic.{◌and◌}
 
 -- n bytes from a place
-abbrev pub bytesAt : ℕ → ℕ → List ℕ → List ℕ
-bytesAt at n l = take n (drop at l)
+abbrev pub bytes_at : ℕ → ℕ → List ℕ → List ℕ
+bytes_at at n l = take n (drop at l)
 
 -- the list with x written from a place; what would lie past the end is not written
 unfoldable pub put : ℕ → List ℕ → List ℕ → List ℕ

@@ -1,6 +1,5 @@
 -- Items of bytes, one after the other, by their index. Assumes nothing.
-use mathlib.Core.List.{List, [], _++_}
-use Prim.Native.Nat.{ℕ, zero, suc, _+_}
+use Rattle.std.specs.Prelude.{List, [], ◌++◌, ℕ, zero, suc, ◌+◌}
 
 -- k items from the i-th on
 unfoldable pub itemsFrom : (ℕ → List ℕ) → ℕ → ℕ → List ℕ

@@ -1,27 +1,25 @@
 -- Choices by a test, as the definitions write them. A proof sees into one only where it says `unfolding`, so that a law
 -- about one finds its arguments. Assumes nothing.
-use mathlib.Core.Bool.{Bool, true, false}
-use Prim.Native.Nat.{ℕ}
-use lib.Dec.{leb}
+use Rattle.std.specs.Prelude.{Bool, true, false, ℕ, leb}
 
-infixr 10 if_then_else_
-unfoldable pub if_then_else_ {ℓ} : {A : Type ℓ} → Bool → A → A → A
+infixr 10 if◌then◌else◌
+unfoldable pub if◌then◌else◌ {ℓ} : {A : Type ℓ} → Bool → A → A → A
 if true then a else b = a
 if false then a else b = b
 
 -- a step of a table of refusals: where the test fails this is the answer, else the steps below decide
-infixr 10 unless_answer_then_
-unfoldable pub unless_answer_then_ {ℓ} : {A : Type ℓ} → Bool → A → A → A
+infixr 10 unless◌answer◌then◌
+unfoldable pub unless◌answer◌then◌ {ℓ} : {A : Type ℓ} → Bool → A → A → A
 unless true answer a then rest = rest
 unless false answer a then rest = a
 
-infixl 35 _and_
-unfoldable pub _and_ : Bool → Bool → Bool
+infixl 35 ◌and◌
+unfoldable pub ◌and◌ : Bool → Bool → Bool
 true and b = b
 false and b = false
 
-infixl 30 _or_
-unfoldable pub _or_ : Bool → Bool → Bool
+infixl 30 ◌or◌
+unfoldable pub ◌or◌ : Bool → Bool → Bool
 true or b = true
 false or b = b
 

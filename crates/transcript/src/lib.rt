@@ -1,5 +1,6 @@
 // For the programs: requests that the host's half builds, and lines of text on standard output.
-ghost use Prim.Native.Nat.{_<_};
+ghost use Rattle.std.specs.Prelude.{◌<◌};
+
 use libc::STDOUT_FILENO;
 
 // The mask of all ten opcodes, and the kinds of objects.
@@ -10,6 +11,7 @@ pub const GET: u8 = 0;
 pub const SET: u8 = 1;
 
 // A request that the host's half built. Its room is for a list of 472 bytes: a full capture of four queues fits.
+#[derive(Drop)]
 pub struct Request {
     pub bytes: [u8; 512],
     pub len: usize,
@@ -127,7 +129,7 @@ fn digit(n: u8) -> u8 {
 
 // What stands after byte i of n: a line has 16.
 fn separator(i: usize, n: usize) -> u8
-    requires { ⌜ i < n ⌝ }
+    requires { i < n }
 {
     if i % 16 == 15 {
         return b'\n';

@@ -1,75 +1,75 @@
 -- What a card store and a list leave as it was: the length of the values, the device features, and that queues have allowed
 -- values. Assumes nothing.
-use mathlib.Core.Path.{_≡_, refl, _∙_}
+use mathlib.Core.Path.{◌≡◌, refl, ◌∙◌}
 use mathlib.Core.Bool.{true}
 use mathlib.Core.List.{List}
-use Prim.Native.Nat.{ℕ, _<_}
+use Prim.Native.Nat.{ℕ, ◌<◌}
 use native.Mathlib.Omega.{arith}
 use borrow.Author.Tests.{lt-ltb, ltb-true, eq-eqb, eqb-true, eqb-false}
 use lib.Dec.{ltb, eqb}
 use lib.ListN.{length}
-use Rattle·theory.specs.Logic.{if_then_else_, unless_answer_then_, _and_}
-use Rattle·theory.specs.Bytes.{bytesAt, put}
-use Rattle·theory.proofs.Tests.{by-cases, if-cases, unless-cases, both, and-i}
-use Rattle·theory.proofs.Bytes.{length-put, bytesAt-before}
-use Rattle·inventory.proofs.Values.{own-value, other-value}
-use Rattle·protocol.specs.declared.EventAnswer.{EventAnswer}
-use Rattle·protocol.specs.declared.EventAnswer.the-variants.{Done, NoPart, WrongLength, BadQueueSize}
-use Rattle·protocol.specs.Answers.{isEventDone}
-use Rattle·inventory.specs.Inventory.{featuresSize, rowAt, offsetOf, valuesSize, placeOf, onPlace}
-use Rattle·inventory.specs.Queue.{valueAllowed, queuesAllowed}
-use Rattle·inventory.specs.declared.Place.{Place}
-use Rattle·inventory.specs.declared.Place.the-variants.{At, Absent}
-use Rattle·inventory.proofs.Find.{place-found}
-use Rattle·inventory.proofs.Rules.{rows-apart, row-zero, offset-zero}
-use Rattle·inventory.proofs.Queue.{row-allowed, rows-allowed}
-use Rattle·parts.specs.List.{PartList, end, cut, part}
-use Rattle·values·specs.specs.Apply.{storable, stored, applied}
+use Rattle.theory.specs.Logic.{if◌then◌else◌, unless◌answer◌then◌, ◌and◌}
+use Rattle.theory.specs.Bytes.{bytes_at, put}
+use Rattle.theory.proofs.Tests.{by_cases, if-cases, unless-cases, both, and_i}
+use Rattle.theory.proofs.Bytes.{length-put, bytesAt-before}
+use Rattle.inventory.proofs.Values.{own_value, other-value}
+use Rattle.protocol.specs.declared.EventAnswer.{EventAnswer}
+use Rattle.protocol.specs.declared.EventAnswer.TheVariants.{Done, NoPart, WrongLength, BadQueueSize}
+use Rattle.protocol.specs.Answers.{isEventDone}
+use Rattle.inventory.specs.Inventory.{featuresSize, row_at, offset_of, valuesSize, place_of, onPlace}
+use Rattle.inventory.specs.Queue.{valueAllowed, queuesAllowed}
+use Rattle.inventory.specs.declared.Place.{Place}
+use Rattle.inventory.specs.declared.Place.TheVariants.{At, Absent}
+use Rattle.inventory.proofs.Find.{place_found}
+use Rattle.inventory.proofs.Rules.{rows_apart, row_zero, offset-zero}
+use Rattle.inventory.proofs.Queue.{row-allowed, rows-allowed}
+use Rattle.parts.specs.List.{PartList, end, cut, part}
+use Rattle.values.specs.Apply.{storable, stored, applied}
 
 module _ (q t s : ℕ) (x v : List ℕ) where
   -- a value is stored in a row after the first, of its length, or nothing is
   pub stored-cases {ℓ} : (P : List ℕ → Type ℓ) → P v
-      → ((i : ℕ) → placeOf q t s ≡ At i → 0 < i → length x ≡ rowAt i .size → P (put (offsetOf i) x v))
+      → ((i : ℕ) → place_of q t s ≡ At i → 0 < i → length x ≡ (row_at i).size → P (put (offset_of i) x v))
       → P (stored q t s x v)
   unfolding stored
-  stored-cases P none some = cases (placeOf q t s) refl
+  stored-cases P none some = cases (place_of q t s) refl
     where
-      cases : (p : Place) → placeOf q t s ≡ p
-          → P (onPlace p (λ i. if ltb 0 i and eqb (length x) (rowAt i .size) then put (offsetOf i) x v else v) v)
+      cases : (p : Place) → place_of q t s ≡ p
+          → P (onPlace p (λ i. if ltb 0 i and eqb (length x) (row_at i).size then put (offset_of i) x v else v) v)
       cases (At i) e =
-          if-cases P (ltb 0 i and eqb (length x) (rowAt i .size)) (put (offsetOf i) x v) v
-          (λ h. let b = both _ _ h in some i e (ltb-true 0 i (b .0)) (eqb-true _ _ (b .1)))
+          if-cases P (ltb 0 i and eqb (length x) (row_at i).size) (put (offset_of i) x v) v
+          (λ h. let b = both _ _ h in some i e (ltb-true 0 i b.0) (eqb-true _ _ b.1))
           (λ h. none)
       cases Absent e = none
 
-  pub stored-at : (i : ℕ) → placeOf q t s ≡ At i → 0 < i → length x ≡ rowAt i .size → stored q t s x v ≡ put (offsetOf i) x v
-  unfolding stored if_then_else_
-  stored-at i e h l = rw (e, and-i _ _ (lt-ltb 0 i h) (eq-eqb _ _ l))
+  pub stored_at : (i : ℕ) → place_of q t s ≡ At i → 0 < i → length x ≡ (row_at i).size → stored q t s x v ≡ put (offset_of i) x v
+  unfolding stored if◌then◌else◌
+  stored_at i e h l = rw (e, and_i _ _ (lt-ltb 0 i h) (eq-eqb _ _ l))
 
   pub stored-length : length (stored q t s x v) ≡ length v
-  stored-length = stored-cases (λ w. length w ≡ length v) refl (λ i f h l. length-put (offsetOf i) x v)
+  stored-length = stored-cases (λ w. length w ≡ length v) refl (λ i f h l. length-put (offset_of i) x v)
 
   -- the rows after the first start where it ends
-  pub stored-features : bytesAt 0 featuresSize (stored q t s x v) ≡ bytesAt 0 featuresSize v
+  pub stored-features : bytes_at 0 featuresSize (stored q t s x v) ≡ bytes_at 0 featuresSize v
   stored-features =
-      stored-cases (λ w. bytesAt 0 featuresSize w ≡ bytesAt 0 featuresSize v) refl
-      (λ i f h l. bytesAt-before 0 featuresSize (offsetOf i) x v (rw (offset-zero, row-zero) at (rows-apart 0 (omega arith) i (place-found q t s i f .below) h)))
+      stored-cases (λ w. bytes_at 0 featuresSize w ≡ bytes_at 0 featuresSize v) refl
+      (λ i f h l. bytesAt-before 0 featuresSize (offset_of i) x v (rw (offset-zero, row_zero) at (rows_apart 0 (omega arith) i (place_found q t s i f).below h)))
 
 -- a value that is allowed, stored, leaves the queues with allowed ones
 pub stored-allowed : (q t s : ℕ) (x v : List ℕ) → length v ≡ valuesSize → queuesAllowed q v ≡ true
-    → ((i : ℕ) → placeOf q t s ≡ At i → valueAllowed t x ≡ true) → queuesAllowed q (stored q t s x v) ≡ true
+    → ((i : ℕ) → place_of q t s ≡ At i → valueAllowed t x ≡ true) → queuesAllowed q (stored q t s x v) ≡ true
 stored-allowed q t s x v n a ok =
     stored-cases q t s x v (λ w. queuesAllowed q w ≡ true) a λ i p h l.
-    let f = place-found q t s i p in
-    rows-allowed q _ (length-put (offsetOf i) x v ∙ n) λ j b y.
-    by-cases (eqb j i)
-    (λ e. rw (eqb-true j i e, own-value i (f .below) x v l n, f .type-is) (ok i p))
-    (λ e. rw (other-value i (f .below) x v l j b (eqb-false j i e)) (row-allowed q v a j b y))
+    let f = place_found q t s i p in
+    rows-allowed q _ (length-put (offset_of i) x v ∙ n) λ j b y.
+    by_cases (eqb j i)
+    (λ e. rw (eqb-true j i e, own_value i f.below x v l n, f.type-is) (ok i p))
+    (λ e. rw (other-value i f.below x v l j b (eqb-false j i e)) (row-allowed q v a j b y))
 
 -- a value whose store is done is allowed
 pub done-allowed : (q t s : ℕ) (x : List ℕ) → isEventDone (storable q t s x) ≡ true → valueAllowed t x ≡ true
 unfolding storable
-done-allowed q t s x = cases (placeOf q t s)
+done-allowed q t s x = cases (place_of q t s)
   where
     Says : EventAnswer → Type 0
     Says a = isEventDone a ≡ true → valueAllowed t x ≡ true
@@ -78,7 +78,7 @@ done-allowed q t s x = cases (placeOf q t s)
         → Says (onPlace p
         (λ i.
         unless ltb 0 i answer NoPart then
-        unless eqb (length x) (rowAt i .size) answer WrongLength then
+        unless eqb (length x) (row_at i).size answer WrongLength then
         unless valueAllowed t x answer BadQueueSize then
         Done)
         NoPart)
@@ -96,11 +96,11 @@ unfolding applied
 applied-keeps look q keeps end v = refl
 applied-keeps look q keeps cut v = refl
 applied-keeps look q keeps (part p ps) v =
-    applied-keeps look q keeps ps (stored q (p .partType) (p .selector) (p .value) v)
-    ∙ keeps (p .partType) (p .selector) (p .value) v
+    applied-keeps look q keeps ps (stored q p.partType p.selector p.value v)
+    ∙ keeps p.partType p.selector p.value v
 
 pub applied-length : (q : ℕ) (ps : PartList) (v : List ℕ) → length (applied q ps v) ≡ length v
 applied-length q = applied-keeps length q (stored-length q)
 
-pub applied-features : (q : ℕ) (ps : PartList) (v : List ℕ) → bytesAt 0 featuresSize (applied q ps v) ≡ bytesAt 0 featuresSize v
-applied-features q = applied-keeps (bytesAt 0 featuresSize) q (stored-features q)
+pub applied-features : (q : ℕ) (ps : PartList) (v : List ℕ) → bytes_at 0 featuresSize (applied q ps v) ≡ bytes_at 0 featuresSize v
+applied-features q = applied-keeps (bytes_at 0 featuresSize) q (stored-features q)

@@ -1,30 +1,30 @@
 -- The turns and the return of the walk that sets: the parts that are left, applied to the values so far, give what the
 -- whole list gives. `r` is what next_part answered at `at`, `x` what the whole list gives. Assumes nothing.
-use mathlib.Core.Path.{_≡_, refl, _∙_}
-use mathlib.Core.List.{List, [], _∷_}
-use Prim.Native.Nat.{ℕ, _+_, _-_}
-use native.Mathlib.Nat.{add-sub-cancel-left}
+use mathlib.Core.Path.{◌≡◌, refl, ◌∙◌}
+use mathlib.Core.List.{List, [], ◌∷◌}
+use Prim.Native.Nat.{ℕ, ◌+◌, ◌-◌}
+use native.Mathlib.Nat.{add-sub_cancel_left}
 use types.Run.{OneOf}
-use denote.Enum.Declared.{tagOf}
+use denote.Enum.Declared.{tag_of}
 use lib.ListN.{take, drop}
-use Rattle·theory.specs.Bytes.{bytesAt}
-use Rattle·parts.specs.declared.ListForm.{ListForm}
-use Rattle·parts.specs.declared.Step.{Step}
-use Rattle·parts.specs.declared.Step.the-variants as step
-use Rattle·parts.specs.List.{stepAt, part, partIn, partsFrom}
-use Rattle·parts.proofs.Turns.{stopped, opened}
-use Rattle·values·specs.specs.Apply.{stored, applied}
+use Rattle.theory.specs.Bytes.{bytes_at}
+use Rattle.parts.specs.declared.ListForm.{ListForm}
+use Rattle.parts.specs.declared.Step.{Step}
+use Rattle.parts.specs.declared.Step.TheVariants as step
+use Rattle.parts.specs.List.{stepAt, part, partIn, partsFrom}
+use Rattle.parts.proofs.Turns.{stopped, opened}
+use Rattle.values.specs.Apply.{stored, applied}
 
 module _ (form : ListForm) (l : List ℕ) (at : ℕ) (r : Step) (here : r ≡ stepAt form l at) where
   -- the walk treats the end and a part that is cut short alike
-  module _ (none : OneOf (1 ∷ 2 ∷ []) (tagOf Rattle·parts.proofs.Step.the-type r)) where
+  module _ (none : OneOf (1 ∷ 2 ∷ []) (tag_of Rattle.parts.specs.contracts.Step.the_type r)) where
     pub applied-stop : (queues : ℕ) (x v : List ℕ) → x ≡ applied queues (partsFrom form l at) v → x ≡ v
     unfolding applied
     applied-stop queues x v e = e ∙ stopped form l at r here none (λ ps. applied queues ps v) v refl refl
 
   module _ (t f s start len : ℕ) (found : r ≡ step.Part t f s start len) where
-    at-part : partsFrom form l at ≡ part (partIn l t f s start len) (partsFrom form l (start + len))
-    at-part = opened form l at r here t f s start len found
+    at_part : partsFrom form l at ≡ part (partIn l t f s start len) (partsFrom form l (start + len))
+    at_part = opened form l at r here t f s start len found
 
     -- w: the values with its value stored
     pub applied-on : (queues : ℕ) (x v w : List ℕ) → x ≡ applied queues (partsFrom form l at) v
@@ -32,5 +32,5 @@ module _ (form : ListForm) (l : List ℕ) (at : ℕ) (r : Step) (here : r ≡ st
         → x ≡ applied queues (partsFrom form l (start + len)) w
     unfolding applied
     applied-on queues x v w e told =
-        let here : w ≡ stored queues t s (bytesAt start len l) v = rw add-sub-cancel-left at told in
-        e ∙ rw (at-part, here)
+        let here : w ≡ stored queues t s (bytes_at start len l) v = rw add-sub_cancel_left at told in
+        e ∙ rw (at_part, here)

@@ -1,23 +1,20 @@
 -- What a card store sets, SPEC 7.5, and what an accepted list sets, SPEC 5.7. Assumes nothing.
-use mathlib.Core.List.{List}
-use Prim.Native.Nat.{ℕ}
-use lib.Dec.{ltb, eqb}
-use lib.ListN.{length}
-use Rattle·theory.specs.Logic.{if_then_else_, unless_answer_then_, _and_}
-use Rattle·theory.specs.Bytes.{put}
-use Rattle·protocol.specs.declared.EventAnswer.{EventAnswer}
-use Rattle·protocol.specs.declared.EventAnswer.the-variants.{Done, NoPart, WrongLength, BadQueueSize}
-use Rattle·inventory.specs.Inventory.{featuresRow, rowAt, offsetOf, placeOf, onPlace}
-use Rattle·inventory.specs.Queue.{valueAllowed}
-use Rattle·parts.specs.List.{PartList, end, cut, part}
+use Rattle.std.specs.Prelude.{List, ℕ, ltb, eqb, length}
+use Rattle.theory.specs.Logic.{if◌then◌else◌, unless◌answer◌then◌, ◌and◌}
+use Rattle.theory.specs.Bytes.{put}
+use Rattle.protocol.specs.declared.EventAnswer.{EventAnswer}
+use Rattle.protocol.specs.declared.EventAnswer.TheVariants.{Done, NoPart, WrongLength, BadQueueSize}
+use Rattle.inventory.specs.Inventory.{featuresRow, row_at, offset_of, place_of, onPlace}
+use Rattle.inventory.specs.Queue.{valueAllowed}
+use Rattle.parts.specs.List.{PartList, end, cut, part}
 
 -- whether a value can be stored; device features are never set, so they count as no part
 unfoldable pub storable : ℕ → ℕ → ℕ → List ℕ → EventAnswer
 storable queues t s value =
-    onPlace (placeOf queues t s)
+    onPlace (place_of queues t s)
     (λ i.
     unless ltb featuresRow i answer NoPart then
-    unless eqb (length value) (rowAt i .size) answer WrongLength then
+    unless eqb (length value) (row_at i).size answer WrongLength then
     unless valueAllowed t value answer BadQueueSize then  -- SPEC 13.5
     Done)
     NoPart
@@ -25,8 +22,8 @@ storable queues t s value =
 -- the values with this one stored, where it can be
 unfoldable pub stored : ℕ → ℕ → ℕ → List ℕ → List ℕ → List ℕ
 stored queues t s value values =
-    onPlace (placeOf queues t s)
-    (λ i. if ltb featuresRow i and eqb (length value) (rowAt i .size) then put (offsetOf i) value values else values)
+    onPlace (place_of queues t s)
+    (λ i. if ltb featuresRow i and eqb (length value) (row_at i).size then put (offset_of i) value values else values)
     values
 
 -- the values after a list, part by part; what is unknown is skipped
@@ -34,4 +31,4 @@ unfoldable pub applied : ℕ → PartList → List ℕ → List ℕ
 applied queues end values = values
 applied queues cut values = values
 applied queues (part p ps) values =
-    applied queues ps (stored queues (p .partType) (p .selector) (p .value) values)
+    applied queues ps (stored queues p.partType p.selector p.value values)

@@ -1,19 +1,17 @@
 // What a card store sets, SPEC 7.5, and what an accepted list sets, SPEC 5.7.
-ghost use mathlib.Core.Path.{_≡_};
-ghost use lib.ListN.{length};
-ghost use Rattle·inventory.specs.Inventory.{valuesSize};
-ghost use Rattle·parts.specs.declared.ListForm.the-variants.{Parts};
-ghost use Rattle·parts.specs.List.{partsOf};
-ghost use Rattle·values·specs.specs.Apply.{storable, stored, applied};
-use inventory::FEATURES_ROW;
-use inventory::Place;
-use parts::ListForm;
-use parts::Step;
+ghost use Rattle.std.specs.Prelude.{◌≡◌, length};
+ghost use Rattle.inventory.specs.Inventory.{valuesSize};
+ghost use Rattle.parts.specs.declared.ListForm.TheVariants.{Parts};
+ghost use Rattle.parts.specs.List.{parts_of};
+ghost use Rattle.values.specs.Apply.{storable, stored, applied};
+
+use inventory::{FEATURES_ROW, Place};
+use parts::{ListForm, Step};
 use protocol::EventAnswer;
 
 // Whether a value can be stored. Device features are never set.
 pub fn store_answer(queues: u8, t: u16, selector: u64, value: &[u8]) -> EventAnswer
-    ensures { λ r. ⌜ r ≡ storable queues t selector (now (value .entry)) ⌝ }
+    ensures { result ≡ storable queues t selector value.now }
 {
     let Place::At(i) = inventory::place_of(queues, t, selector) else {
         return EventAnswer::NoPart;
@@ -32,8 +30,8 @@ pub fn store_answer(queues: u8, t: u16, selector: u64, value: &[u8]) -> EventAns
 
 // A value, stored where it can be.
 pub fn store_part(values: &mut [u8], queues: u8, t: u16, selector: u64, value: &[u8])
-    requires { ⌜ length (now values) ≡ valuesSize ⌝ }
-    ensures { λ _. ⌜ now (values .exit) ≡ stored queues t selector (now (value .entry)) (now (values .entry)) ⌝ }
+    requires { length values.old ≡ valuesSize }
+    ensures { values.new ≡ stored queues t selector value.now values.old }
 {
     let Place::At(i) = inventory::place_of(queues, t, selector) else {
         return;
@@ -49,8 +47,8 @@ pub fn store_part(values: &mut [u8], queues: u8, t: u16, selector: u64, value: &
 
 // The values of an accepted list, part by part.
 pub fn apply(values: &mut [u8], queues: u8, list: &[u8])
-    requires { ⌜ length (now values) ≡ valuesSize ⌝ }
-    ensures { λ _. ⌜ now (values .exit) ≡ applied queues (partsOf Parts (now (list .entry))) (now (values .entry)) ⌝ }
+    requires { length values.old ≡ valuesSize }
+    ensures { values.new ≡ applied queues (parts_of Parts list.now) values.old }
 {
     let mut at = 0;
     loop {

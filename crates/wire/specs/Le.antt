@@ -1,7 +1,6 @@
 -- Little-endian numbers: SPEC 3.1. Assumes nothing.
-use mathlib.Core.List.{List, [], _∷_}
-use Prim.Native.Nat.{ℕ, zero, suc, _+_, _*_, _/_, _%_}
-use Rattle·theory.specs.Bytes.{bytesAt}
+use Rattle.std.specs.Prelude.{List, [], ◌∷◌, ℕ, zero, suc, ◌+◌, ◌*◌, ◌/◌, ◌%◌}
+use Rattle.theory.specs.Bytes.{bytes_at}
 
 -- the number that bytes are, the lowest first
 unfoldable pub le : List ℕ → ℕ
@@ -15,4 +14,4 @@ bytes (suc n) x = x % 256 ∷ bytes n (x / 256)
 
 -- the number in n bytes from a place
 unfoldable pub number : ℕ → ℕ → List ℕ → ℕ
-number at n l = le (bytesAt at n l)
+number at n l = le (bytes_at at n l)

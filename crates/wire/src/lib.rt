@@ -1,24 +1,21 @@
 // Little-endian numbers, SPEC 3.1, and bytes, at a place of a slice.
-ghost use mathlib.Core.Path.{_≡_};
-ghost use Prim.Native.Nat.{_+_, _^_, _≤_, _<_};
-ghost use lib.Dec.{eqb};
-ghost use lib.ListN.{length, replicate};
-ghost use Rattle·theory.specs.Logic.{_and_};
-ghost use Rattle·theory.specs.Bytes.{put, same};
-ghost use Rattle·wire·specs.specs.Le.{bytes, number};
+ghost use Rattle.std.specs.Prelude.{◌≡◌, ◌+◌, ◌^◌, ◌≤◌, ◌<◌, eqb, length, replicate};
+ghost use Rattle.theory.specs.Logic.{◌and◌};
+ghost use Rattle.theory.specs.Bytes.{put, same};
+ghost use Rattle.wire.specs.Le.{bytes, number};
 
 // The number in one byte.
 fn byte(s: &[u8], at: usize) -> u64
-    requires { ⌜ at < length (now s) ⌝ }
-    ensures { λ r. ⌜ (r ≡ number at 1 (now (s .entry))) × (r < 256) ⌝ }
+    requires { at < length s.now }
+    ensures { (result ≡ number at 1 s.now) × (result < 256) }
 {
     s[at] as u64
 }
 
 // The number in n bytes.
 pub fn read(s: &[u8], at: usize, n: usize) -> u64
-    requires { ⌜ (n ≤ 8) × (at + n ≤ length (now s)) ⌝ }
-    ensures { λ r. ⌜ (r ≡ number at n (now (s .entry))) × (r < 256 ^ n) ⌝ }
+    requires { (n ≤ 8) × (at + n ≤ length s.now) }
+    ensures { (result ≡ number at n s.now) × (result < 256 ^ n) }
 {
     let mut r: u64 = 0;
     let mut i = n;
@@ -31,30 +28,30 @@ pub fn read(s: &[u8], at: usize, n: usize) -> u64
 
 // Each of the fixed widths becomes one load.
 pub fn read_u16(s: &[u8], at: usize) -> u16
-    requires { ⌜ at + 2 ≤ length (now s) ⌝ }
-    ensures { λ r. ⌜ r ≡ number at 2 (now (s .entry)) ⌝ }
+    requires { at + 2 ≤ length s.now }
+    ensures { result ≡ number at 2 s.now }
 {
     read(s, at, 2) as u16
 }
 
 pub fn read_u32(s: &[u8], at: usize) -> u32
-    requires { ⌜ at + 4 ≤ length (now s) ⌝ }
-    ensures { λ r. ⌜ r ≡ number at 4 (now (s .entry)) ⌝ }
+    requires { at + 4 ≤ length s.now }
+    ensures { result ≡ number at 4 s.now }
 {
     read(s, at, 4) as u32
 }
 
 pub fn read_u64(s: &[u8], at: usize) -> u64
-    requires { ⌜ at + 8 ≤ length (now s) ⌝ }
-    ensures { λ r. ⌜ r ≡ number at 8 (now (s .entry)) ⌝ }
+    requires { at + 8 ≤ length s.now }
+    ensures { result ≡ number at 8 s.now }
 {
     read(s, at, 8)
 }
 
 // The n low bytes of x.
 pub fn write(s: &mut [u8], at: usize, n: usize, x: u64)
-    requires { ⌜ at + n ≤ length (now s) ⌝ }
-    ensures { λ _. ⌜ now (s .exit) ≡ put at (bytes n x) (now (s .entry)) ⌝ }
+    requires { at + n ≤ length s.old }
+    ensures { s.new ≡ put at (bytes n x) s.old }
 {
     let mut v = x;
     let mut i = 0;
@@ -67,8 +64,8 @@ pub fn write(s: &mut [u8], at: usize, n: usize, x: u64)
 
 // All of src, from a place of dst on.
 pub fn copy(dst: &mut [u8], at: usize, src: &[u8])
-    requires { ⌜ at + length (now src) ≤ length (now dst) ⌝ }
-    ensures { λ _. ⌜ now (dst .exit) ≡ put at (now (src .entry)) (now (dst .entry)) ⌝ }
+    requires { at + length src.now ≤ length dst.old }
+    ensures { dst.new ≡ put at src.now dst.old }
 {
     let mut done = 0;
     while done < src.len() {
@@ -79,7 +76,7 @@ pub fn copy(dst: &mut [u8], at: usize, src: &[u8])
 
 // Every byte becomes 0.
 pub fn zero(s: &mut [u8])
-    ensures { λ _. ⌜ now (s .exit) ≡ replicate (length (now (s .entry))) 0 ⌝ }
+    ensures { s.new ≡ replicate (length s.old) 0 }
 {
     let mut i = 0;
     while i < s.len() {
@@ -90,14 +87,14 @@ pub fn zero(s: &mut [u8])
 
 // One byte more of a comparison.
 fn and_same(alike: bool, x: u8, y: u8) -> bool
-    ensures { λ r. ⌜ r ≡ alike and eqb x y ⌝ }
+    ensures { result ≡ alike and eqb x y }
 {
     if x == y { alike } else { false }
 }
 
 // Every byte is compared, whatever the first ones are: the loop has no early exit.
 pub fn equal(a: &[u8], b: &[u8]) -> bool
-    ensures { λ r. ⌜ r ≡ same (now (a .entry)) (now (b .entry)) ⌝ }
+    ensures { result ≡ same a.now b.now }
 {
     if a.len() != b.len() {
         return false;

@@ -1,13 +1,10 @@
 // The yearly sheet, 02, request 11: reads a stream from standard input, and prints its sheet.
-ghost use mathlib.Core.Path.{_≡_};
-ghost use lib.ListN.{length};
-ghost use Rattle·tally.specs.Rows.{longest};
-ghost use Rattle·stream.specs.Progress.{Counted};
-use figures::Phase;
-use figures::State;
-use libc::STDERR_FILENO;
-use libc::STDIN_FILENO;
-use libc::STDOUT_FILENO;
+ghost use Rattle.std.specs.Prelude.{◌≡◌, length};
+ghost use Rattle.tally.specs.Rows.{longest};
+ghost use Rattle.stream.specs.Progress.{Counted};
+
+use figures::{Phase, State};
+use libc::{STDERR_FILENO, STDIN_FILENO, STDOUT_FILENO};
 use sheet::SHEET_ROOM;
 use tally::LONGEST;
 
@@ -30,7 +27,7 @@ fn is_refused(s: State) -> bool {
 
 // The sheet of a stream that has ended. That its setup is refused is the sheet, and an error too.
 fn print_sheet(s: State)
-    requires { ⌜ Counted (s .progress .counts) ⌝ }
+    requires { Counted s.progress.counts }
 {
     let mut text = [0u8; SHEET_ROOM];
     let n = figures::finish(s, &mut text);
@@ -54,7 +51,7 @@ fn read_next(s: State, chunk: &mut [u8]) -> isize {
 // Reads a stream and prints its sheet. A read that was interrupted brought nothing, and another follows. A proved loop has to
 // end, so it counts its turns down, from a number that no run uses up.
 fn read_stream(chunk: &mut [u8], buffer: &mut [u8])
-    requires { ⌜ length (now buffer) ≡ longest ⌝ }
+    requires { length buffer.old ≡ longest }
 {
     let mut s = figures::start();
     let mut turns = u64::MAX;

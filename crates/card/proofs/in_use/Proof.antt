@@ -1,9 +1,9 @@
 -- `card::in_use` meets its contract: a number is read. Assumes nothing.
-use borrow.Author.Needs.{needs}
-use Rattle·card·specs.specs.Layout.{inUseOf}
-use Rattle·card·proofs.proofs.in_use.Statement.{statement}
-use Rattle·card·proofs.proofs.in_use.Tie as tie
+use borrow.Author.Rules.{rules}
+use Rattle.card.specs.Layout.{inUseOf}
+use Rattle.card.proofs.in_use.Statement.{statement}
+use Rattle.card.proofs.in_use.Tie as tie
 
 pub in-use-spec : {M : Type 1} → statement M
 unfolding inUseOf
-in-use-spec = tie.close (tie.spec (λ c κs. search needs) (λ c. search needs))
+in-use-spec = tie.close (tie.spec (λ c κs. search rules) (λ c. search rules))

@@ -1,11 +1,11 @@
 -- `card::member_bytes` meets its contract: the part lent is the member's. Assumes nothing.
-use borrow.Author.Needs.{needs}
-use Rattle·card·proofs.proofs.ReadLaws.{member-lent}
-use Rattle·card·proofs.proofs.member_bytes.Statement.{statement}
-use Rattle·card·proofs.proofs.member_bytes.Tie as tie
+use borrow.Author.Rules.{rules}
+use Rattle.card.proofs.ReadLaws.{member-lent}
+use Rattle.card.proofs.member_bytes.Statement.{statement}
+use Rattle.card.proofs.member_bytes.Tie as tie
 
 pub member-bytes-spec : {M : Type 1} → statement M
 member-bytes-spec =
     tie.close
-    (tie.spec (λ c κs. search needs) (λ c. search needs) (λ c. search needs) (λ c. search needs) (λ c. search needs)
-    (λ c. search (needs, member-lent)))
+    (tie.spec (λ c κs. search rules) (λ c. search rules) (λ c. search rules) (λ c. search rules) (λ c. search rules)
+    (λ c. search (rules, member-lent)))

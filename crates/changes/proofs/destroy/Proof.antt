@@ -1,13 +1,13 @@
 -- `changes::destroy` meets its contract. Assumes nothing.
-use borrow.Author.Needs.{needs}
-use Rattle·changes·proofs.proofs.Steps.{steps}
-use Rattle·changes·specs.specs.Changes.{destroyOf}
-use Rattle·changes·proofs.proofs.destroy.Statement.{statement}
-use Rattle·changes·proofs.proofs.destroy.Tie as tie
+use borrow.Author.Rules.{rules}
+use Rattle.changes.proofs.Steps.{steps}
+use Rattle.changes.specs.Changes.{destroyOf}
+use Rattle.changes.proofs.destroy.Statement.{statement}
+use Rattle.changes.proofs.destroy.Tie as tie
 
 pub destroy-spec : {M : Type 1} → statement M
 unfolding destroyOf
 destroy-spec =
     tie.close
-    (tie.spec (λ c κs. search needs) (λ c. search needs) (λ c. search needs) (λ c κs. search needs)
-    (λ c. search steps) (λ c κs. search needs) (λ c κs. search needs) (λ c. search steps))
+    (tie.spec (λ c κs. search rules) (λ c. search rules) (λ c. search rules) (λ c κs. search rules)
+    (λ c. search steps) (λ c κs. search rules) (λ c κs. search rules) (λ c. search steps))

@@ -1,10 +1,10 @@
 -- `difference::cut` meets its contract. Assumes nothing.
-use borrow.Author.Needs.{needs}
-use Rattle·difference·proofs.proofs.Handed.{part-bytes}
-use Rattle·difference·proofs.proofs.cut.Statement.{statement}
-use Rattle·difference·proofs.proofs.cut.Tie as tie
+use borrow.Author.Rules.{rules}
+use Rattle.difference.proofs.Handed.{part_bytes}
+use Rattle.difference.proofs.cut.Statement.{statement}
+use Rattle.difference.proofs.cut.Tie as tie
 
-pub cut-spec : {M : Type 1} → statement M
-cut-spec =
+pub cut_spec : {M : Type 1} → statement M
+cut_spec =
     tie.close
-    (tie.spec (λ c. search needs) (λ c. search needs) (λ c. search needs) (λ c. search needs) (λ c. search (needs, part-bytes)))
+    (tie.spec (λ c. search rules) (λ c. search rules) (λ c. search rules) (λ c. search rules) (λ c. search (rules, part_bytes)))

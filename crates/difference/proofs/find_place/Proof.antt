@@ -1,11 +1,11 @@
 -- `difference::find_place` meets its contract. Assumes nothing.
-use borrow.Author.Needs.{needs}
-use Rattle·difference·proofs.proofs.Handed.{later-told, full-told, refused-told}
-use Rattle·difference·proofs.proofs.find_place.Statement.{statement}
-use Rattle·difference·proofs.proofs.find_place.Tie as tie
+use borrow.Author.Rules.{rules}
+use Rattle.difference.proofs.Handed.{later-told, full-told, refused-told}
+use Rattle.difference.proofs.find_place.Statement.{statement}
+use Rattle.difference.proofs.find_place.Tie as tie
 
 pub find-place-spec : {M : Type 1} → statement M
 find-place-spec =
     tie.close
-    (tie.spec (λ c κs. search needs) (λ c. search needs) (λ c. search needs) (λ c. search needs) (λ c κs. search needs)
-    (λ c. search (needs, later-told)) (λ c. search (needs, full-told)) (λ c. search (needs, refused-told)))
+    (tie.spec (λ c κs. search rules) (λ c. search rules) (λ c. search rules) (λ c. search rules) (λ c κs. search rules)
+    (λ c. search (rules, later-told)) (λ c. search (rules, full-told)) (λ c. search (rules, refused-told)))

@@ -1,7 +1,7 @@
 -- `difference::is_good` meets its contract. Assumes nothing.
-use borrow.Author.Needs.{needs}
-use Rattle·difference·proofs.proofs.is_good.Statement.{statement}
-use Rattle·difference·proofs.proofs.is_good.Tie as tie
+use borrow.Author.Rules.{rules}
+use Rattle.difference.proofs.is_good.Statement.{statement}
+use Rattle.difference.proofs.is_good.Tie as tie
 
 pub is-good-spec : {M : Type 1} → statement M
-is-good-spec = tie.close (tie.spec (λ c κs. search needs) (λ c κs. search needs) (λ c. cc))
+is-good-spec = tie.close (tie.spec (λ c κs. search rules) (λ c κs. search rules) (λ c. cc))

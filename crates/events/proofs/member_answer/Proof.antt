@@ -1,14 +1,14 @@
 -- `events::member_answer` meets its contract. Assumes nothing.
-use borrow.Author.Needs.{needs}
-use Rattle·theory.proofs.Ladder.{ladder}
-use Rattle·events·specs.specs.Events.{memberAnswer}
-use Rattle·events·proofs.proofs.EventLaws.{told-long}
-use Rattle·events·proofs.proofs.member_answer.Statement.{statement}
-use Rattle·events·proofs.proofs.member_answer.Tie as tie
+use borrow.Author.Rules.{rules}
+use Rattle.theory.proofs.Ladder.{ladder}
+use Rattle.events.specs.Events.{memberAnswer}
+use Rattle.events.proofs.EventLaws.{told-long}
+use Rattle.events.proofs.member_answer.Statement.{statement}
+use Rattle.events.proofs.member_answer.Tie as tie
 
 pub member-answer-spec : {M : Type 1} → statement M
 unfolding memberAnswer
 member-answer-spec =
     tie.close
-    (tie.spec (λ c κs. search needs) (λ c. search ladder) (λ c κs. search (needs, told-long)) (λ c. search ladder)
+    (tie.spec (λ c κs. search rules) (λ c. search ladder) (λ c κs. search (rules, told-long)) (λ c. search ladder)
     (λ c. search ladder))

@@ -1,12 +1,12 @@
 -- `figures::feed` meets its contract. Assumes nothing.
-use borrow.Author.Needs.{needs}
-use Rattle·figures·proofs.proofs.Taking.{captures-ready, feed-captures, feed-refused}
-use Rattle·figures·proofs.proofs.feed.Statement.{statement}
-use Rattle·figures·proofs.proofs.feed.Tie as tie
+use borrow.Author.Rules.{rules}
+use Rattle.figures.proofs.Taking.{captures-ready, feed-captures, feed-refused}
+use Rattle.figures.proofs.feed.Statement.{statement}
+use Rattle.figures.proofs.feed.Tie as tie
 
 pub feed-spec : {M : Type 1} → statement M
 feed-spec =
     tie.close
-    (tie.spec (λ c. search needs) (λ c κs. search needs) (λ c. search needs) (λ c. search needs) (λ c. search needs)
-    (λ c κs. search (needs, captures-ready)) (λ c. search needs) (λ c. search (needs, feed-captures)) (λ c. search needs)
-    (λ c. search (needs, feed-refused)))
+    (tie.spec (λ c. search rules) (λ c κs. search rules) (λ c. search rules) (λ c. search rules) (λ c. search rules)
+    (λ c κs. search (rules, captures-ready)) (λ c. search rules) (λ c. search (rules, feed-captures)) (λ c. search rules)
+    (λ c. search (rules, feed-refused)))

@@ -1,9 +1,9 @@
 -- `host::destroy` meets its contract. Assumes nothing.
-use borrow.Author.Needs.{needs}
-use Rattle·host·proofs.proofs.Building.{alone}
-use Rattle·host·proofs.proofs.destroy.Statement.{statement}
-use Rattle·host·proofs.proofs.destroy.Tie as tie
+use borrow.Author.Rules.{rules}
+use Rattle.host.proofs.Building.{alone}
+use Rattle.host.proofs.destroy.Statement.{statement}
+use Rattle.host.proofs.destroy.Tie as tie
 
 pub destroy-spec : {M : Type 1} → statement M
 destroy-spec =
-    tie.close (tie.spec (λ c κs. search needs) (λ c. search needs) (λ c. search (needs, alone)))
+    tie.close (tie.spec (λ c κs. search rules) (λ c. search rules) (λ c. search (rules, alone)))

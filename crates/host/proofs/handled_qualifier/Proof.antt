@@ -1,8 +1,8 @@
 -- `host::handled_qualifier` meets its contract. Assumes nothing.
-use Rattle·theory.proofs.Ladder.{ladder}
-use Rattle·host·specs.specs.Reply.{handledQualifier}
-use Rattle·host·proofs.proofs.handled_qualifier.Statement.{statement}
-use Rattle·host·proofs.proofs.handled_qualifier.Tie as tie
+use Rattle.theory.proofs.Ladder.{ladder}
+use Rattle.host.specs.Reply.{handledQualifier}
+use Rattle.host.proofs.handled_qualifier.Statement.{statement}
+use Rattle.host.proofs.handled_qualifier.Tie as tie
 
 pub handled-qualifier-spec : {M : Type 1} → statement M
 unfolding handledQualifier

@@ -1,12 +1,12 @@
 -- `host::result_fits` meets its contract. Assumes nothing.
-use borrow.Author.Needs.{needs}
-use Rattle·host·specs.specs.Reply.{resultFits}
-use Rattle·host·proofs.proofs.result_fits.Statement.{statement}
-use Rattle·host·proofs.proofs.result_fits.Tie as tie
+use borrow.Author.Rules.{rules}
+use Rattle.host.specs.Reply.{resultFits}
+use Rattle.host.proofs.result_fits.Statement.{statement}
+use Rattle.host.proofs.result_fits.Tie as tie
 
 pub result-fits-spec : {M : Type 1} → statement M
 unfolding resultFits
 result-fits-spec =
     tie.close
-    (tie.spec (λ c. search needs) (λ c. search needs) (λ c κs. search needs) (λ c. search needs) (λ c κs. search needs)
+    (tie.spec (λ c. search rules) (λ c. search rules) (λ c κs. search rules) (λ c. search rules) (λ c κs. search rules)
     (λ c. cc) (λ c. cc) (λ c. cc))

@@ -1,20 +1,20 @@
 -- `host::sent_of` meets its contract. Assumes nothing.
-use borrow.Author.Needs.{needs}
-use Rattle·host·specs.specs.Request.{sentOf}
-use Rattle·host·proofs.proofs.Building.{as-sent}
-use Rattle·host·proofs.proofs.sent_of.Statement.{statement}
-use Rattle·host·proofs.proofs.sent_of.Tie as tie
+use borrow.Author.Rules.{rules}
+use Rattle.host.specs.Request.{sentOf}
+use Rattle.host.proofs.Building.{as-sent}
+use Rattle.host.proofs.sent_of.Statement.{statement}
+use Rattle.host.proofs.sent_of.Tie as tie
 
 pub sent-of-spec : {M : Type 1} → statement M
 unfolding sentOf
 sent-of-spec =
     tie.close
-    (tie.spec (λ c. search needs) (λ c κs. search needs) (λ c. search needs) (λ c κs. search needs) (λ c. search needs)
-    (λ c. search needs) (λ c κs. search needs) (λ c. search needs) (λ c. search needs) (λ c κs. search needs)
-    (λ c. search needs) (λ c κs. search needs) (λ c. search needs) (λ c κs. search needs) (λ c. search needs)
-    (λ c. search needs) (λ c κs. search needs) (λ c. search needs) (λ c. search needs) (λ c κs. search needs)
-    (λ c. search needs) (λ c κs. search needs) (λ c. search needs) (λ c. search needs) (λ c κs. search needs)
-    (λ c. search (needs, as-sent)) (λ c. search (needs, as-sent)) (λ c. search (needs, as-sent))
-    (λ c. search (needs, as-sent)) (λ c. search (needs, as-sent)) (λ c. search (needs, as-sent))
-    (λ c. search (needs, as-sent)) (λ c. search (needs, as-sent)) (λ c. search (needs, as-sent))
-    (λ c. search (needs, as-sent)))
+    (tie.spec (λ c. search rules) (λ c κs. search rules) (λ c. search rules) (λ c κs. search rules) (λ c. search rules)
+    (λ c. search rules) (λ c κs. search rules) (λ c. search rules) (λ c. search rules) (λ c κs. search rules)
+    (λ c. search rules) (λ c κs. search rules) (λ c. search rules) (λ c κs. search rules) (λ c. search rules)
+    (λ c. search rules) (λ c κs. search rules) (λ c. search rules) (λ c. search rules) (λ c κs. search rules)
+    (λ c. search rules) (λ c κs. search rules) (λ c. search rules) (λ c. search rules) (λ c κs. search rules)
+    (λ c. search (rules, as-sent)) (λ c. search (rules, as-sent)) (λ c. search (rules, as-sent))
+    (λ c. search (rules, as-sent)) (λ c. search (rules, as-sent)) (λ c. search (rules, as-sent))
+    (λ c. search (rules, as-sent)) (λ c. search (rules, as-sent)) (λ c. search (rules, as-sent))
+    (λ c. search (rules, as-sent)))

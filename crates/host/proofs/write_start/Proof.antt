@@ -1,12 +1,12 @@
 -- `host::write_start` meets its contract. Assumes nothing.
-use borrow.Author.Needs.{needs}
-use Rattle·host·proofs.proofs.Building.{start-written}
-use Rattle·host·proofs.proofs.write_start.Statement.{statement}
-use Rattle·host·proofs.proofs.write_start.Tie as tie
+use borrow.Author.Rules.{rules}
+use Rattle.host.proofs.Building.{start-written}
+use Rattle.host.proofs.write_start.Statement.{statement}
+use Rattle.host.proofs.write_start.Tie as tie
 
 pub write-start-spec : {M : Type 1} → statement M
 write-start-spec =
     tie.close
-    (tie.spec (λ c. search needs) (λ c. search needs) (λ c κs. search needs) (λ c κs. search needs) (λ c. search needs)
-    (λ c. search needs) (λ c κs. search needs) (λ c. search needs) (λ c. search needs) (λ c κs. search needs)
-    (λ c. search needs) (λ c. search (needs, start-written)))
+    (tie.spec (λ c. search rules) (λ c. search rules) (λ c κs. search rules) (λ c κs. search rules) (λ c. search rules)
+    (λ c. search rules) (λ c κs. search rules) (λ c. search rules) (λ c. search rules) (λ c κs. search rules)
+    (λ c. search rules) (λ c. search (rules, start-written)))

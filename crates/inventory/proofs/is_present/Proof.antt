@@ -1,8 +1,8 @@
 -- `inventory::is_present` meets its contract: its tests are those of the definition, in the same order. Assumes nothing.
-use Rattle·theory.proofs.Ladder.{ladder}
-use Rattle·inventory·specs.specs.Inventory.{present}
-use Rattle·inventory·proofs.proofs.is_present.Statement.{statement}
-use Rattle·inventory·proofs.proofs.is_present.Tie as tie
+use Rattle.theory.proofs.Ladder.{ladder}
+use Rattle.inventory.specs.Inventory.{present}
+use Rattle.inventory.proofs.is_present.Statement.{statement}
+use Rattle.inventory.proofs.is_present.Tie as tie
 
 pub is-present-spec : {M : Type 1} → statement M
 unfolding present

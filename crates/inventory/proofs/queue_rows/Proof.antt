@@ -1,8 +1,8 @@
 -- `inventory::queue_rows` meets its contract: its test is that of the definition. Assumes nothing.
-use Rattle·theory.proofs.Ladder.{ladder}
-use Rattle·inventory·specs.specs.Worked.{queueRows}
-use Rattle·inventory·proofs.proofs.queue_rows.Statement.{statement}
-use Rattle·inventory·proofs.proofs.queue_rows.Tie as tie
+use Rattle.theory.proofs.Ladder.{ladder}
+use Rattle.inventory.specs.Worked.{queueRows}
+use Rattle.inventory.proofs.queue_rows.Statement.{statement}
+use Rattle.inventory.proofs.queue_rows.Tie as tie
 
 pub queue-rows-spec : {M : Type 1} → statement M
 unfolding queueRows

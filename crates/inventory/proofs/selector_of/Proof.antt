@@ -1,8 +1,8 @@
 -- `inventory::selector_of` meets its contract: its tests are those of the definition, in the same order. Assumes nothing.
-use Rattle·theory.proofs.Ladder.{ladder}
-use Rattle·inventory·specs.specs.Inventory.{selectorOf}
-use Rattle·inventory·proofs.proofs.selector_of.Statement.{statement}
-use Rattle·inventory·proofs.proofs.selector_of.Tie as tie
+use Rattle.theory.proofs.Ladder.{ladder}
+use Rattle.inventory.specs.Inventory.{selectorOf}
+use Rattle.inventory.proofs.selector_of.Statement.{statement}
+use Rattle.inventory.proofs.selector_of.Tie as tie
 
 pub selector-of-spec : {M : Type 1} → statement M
 unfolding selectorOf

@@ -1,13 +1,13 @@
 -- `loads::lend` meets its contract. Assumes nothing.
-use borrow.Author.Needs.{needs}
-use Rattle·events.proofs.EventLaws.{told}
-use Rattle·loads·proofs.proofs.CallLaws.{lent-none, lent-part, bytes-lent}
-use Rattle·loads·proofs.proofs.lend.Statement.{statement}
-use Rattle·loads·proofs.proofs.lend.Tie as tie
+use borrow.Author.Rules.{rules}
+use Rattle.events.proofs.EventLaws.{told}
+use Rattle.loads.proofs.CallLaws.{lent_none, lent-part, bytes-lent}
+use Rattle.loads.proofs.lend.Statement.{statement}
+use Rattle.loads.proofs.lend.Tie as tie
 
-pub lend-spec : {M : Type 1} → statement M
-lend-spec =
+pub lend_spec : {M : Type 1} → statement M
+lend_spec =
     tie.close
-    (tie.spec (λ c κs. search needs) (λ c κs. search needs) (λ c. search needs) (λ c. search needs) (λ c. search needs)
-    (λ c. search (needs, lent-none)) (λ c κs. search told) (λ c κs. search needs) (λ c κs. search (told, bytes-lent))
-    (λ c. search (needs, lent-part)))
+    (tie.spec (λ c κs. search rules) (λ c κs. search rules) (λ c. search rules) (λ c. search rules) (λ c. search rules)
+    (λ c. search (rules, lent_none)) (λ c κs. search told) (λ c κs. search rules) (λ c κs. search (told, bytes-lent))
+    (λ c. search (rules, lent-part)))

@@ -1,11 +1,11 @@
 -- `loads::load_in` meets its contract. Assumes nothing.
-use borrow.Author.Needs.{needs}
-use Rattle·loads·proofs.proofs.PartLaws.{load-none, load-unfit, loaded}
-use Rattle·loads·proofs.proofs.load_in.Statement.{statement}
-use Rattle·loads·proofs.proofs.load_in.Tie as tie
+use borrow.Author.Rules.{rules}
+use Rattle.loads.proofs.PartLaws.{load-none, load-unfit, loaded}
+use Rattle.loads.proofs.load_in.Statement.{statement}
+use Rattle.loads.proofs.load_in.Tie as tie
 
-pub load-in-spec : {M : Type 1} → statement M
-load-in-spec =
+pub load_in_spec : {M : Type 1} → statement M
+load_in_spec =
     tie.close
-    (tie.spec (λ c κs. search needs) (λ c. search (needs, load-none)) (λ c. search (needs, load-unfit)) (λ c κs. search needs)
-    (λ c. search needs) (λ c. search (needs, loaded)))
+    (tie.spec (λ c κs. search rules) (λ c. search (rules, load-none)) (λ c. search (rules, load-unfit)) (λ c κs. search rules)
+    (λ c. search rules) (λ c. search (rules, loaded)))

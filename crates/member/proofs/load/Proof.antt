@@ -1,15 +1,15 @@
 -- `member::load` meets its contract. Assumes nothing.
-use borrow.Author.Needs.{needs}
-use Rattle·member·specs.specs.Record.{memberOf}
-use Rattle·member·proofs.proofs.load.Statement.{statement}
-use Rattle·member·proofs.proofs.load.Tie as tie
+use borrow.Author.Rules.{rules}
+use Rattle.member.specs.Record.{memberOf}
+use Rattle.member.proofs.load.Statement.{statement}
+use Rattle.member.proofs.load.Tie as tie
 
 returns : tie.Need-returns
 unfolding memberOf
 returns c = cc
 
-pub load-spec : {M : Type 1} → statement M
-load-spec =
+pub load_spec : {M : Type 1} → statement M
+load_spec =
     tie.close
-    (tie.spec (λ c. search needs) (λ c κs. search needs) (λ c κs. search needs) (λ c κs. search needs) (λ c κs. search needs)
-    (λ c κs. search needs) (λ c κs. search needs) (λ c κs. search needs) returns)
+    (tie.spec (λ c. search rules) (λ c κs. search rules) (λ c κs. search rules) (λ c κs. search rules) (λ c κs. search rules)
+    (λ c κs. search rules) (λ c κs. search rules) (λ c κs. search rules) returns)

@@ -1,10 +1,10 @@
 -- `member::queues_of` meets its contract. Assumes nothing.
 use mathlib.Core.Path.{refl}
-use borrow.Author.Needs.{needs}
-use Rattle·member·specs.specs.Record.{memberOf}
-use Rattle·member·proofs.proofs.queues_of.Statement.{statement}
-use Rattle·member·proofs.proofs.queues_of.Tie as tie
+use borrow.Author.Rules.{rules}
+use Rattle.member.specs.Record.{memberOf}
+use Rattle.member.proofs.queues_of.Statement.{statement}
+use Rattle.member.proofs.queues_of.Tie as tie
 
 pub queues-of-spec : {M : Type 1} → statement M
 unfolding memberOf
-queues-of-spec = tie.close (tie.spec (λ c. search needs) (λ c. refl))
+queues-of-spec = tie.close (tie.spec (λ c. search rules) (λ c. refl))

@@ -1,9 +1,9 @@
 -- `member::values_of` meets its contract. Assumes nothing.
-use borrow.Author.Needs.{needs}
-use Rattle·member·specs.specs.Record.{memberOf}
-use Rattle·member·proofs.proofs.values_of.Statement.{statement}
-use Rattle·member·proofs.proofs.values_of.Tie as tie
+use borrow.Author.Rules.{rules}
+use Rattle.member.specs.Record.{memberOf}
+use Rattle.member.proofs.values_of.Statement.{statement}
+use Rattle.member.proofs.values_of.Tie as tie
 
 pub values-of-spec : {M : Type 1} → statement M
 unfolding memberOf
-values-of-spec = tie.close (tie.spec (λ c. search needs) (λ c. search needs) (λ c. search needs) (λ c. search needs))
+values-of-spec = tie.close (tie.spec (λ c. search rules) (λ c. search rules) (λ c. search rules) (λ c. search rules))

@@ -1,11 +1,11 @@
 -- `message::read_config` meets its contract. Assumes nothing.
-use borrow.Author.Needs.{needs}
-use Rattle·message·proofs.proofs.Acted.{lent-long, readable-few, read-acted}
-use Rattle·message·proofs.proofs.read_config.Statement.{statement}
-use Rattle·message·proofs.proofs.read_config.Tie as tie
+use Rattle.std.proofs.Common.{rules}
+use Rattle.message.proofs.Acted.{lent-long, readable-few, read-acted}
+use Rattle.message.proofs.read_config.Statement.{statement}
+use Rattle.message.proofs.read_config.Tie as tie
 
 pub read-config-spec : {M : Type 1} → statement M
 read-config-spec =
     tie.close
-    (tie.spec (λ c κs. search needs) (λ c κs. search (needs, lent-long)) (λ c κs. search needs)
-    (λ c κs. (search needs, search (needs, readable-few))) (λ c. search needs) (λ c. search (needs, read-acted)))
+    (tie.spec (λ c κs. search rules) (λ c κs. search (rules, lent-long)) (λ c κs. search rules)
+    (λ c κs. (search rules, search (rules, readable-few))) (λ c. search rules) (λ c. search (rules, read-acted)))

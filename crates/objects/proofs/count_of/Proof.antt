@@ -1,29 +1,29 @@
 -- `objects::count_of` meets its contract. Assumes nothing.
-use borrow.Author.Needs.{needs}
+use borrow.Author.Rules.{rules}
 use native.Mathlib.Omega.{arith}
-use mathlib.Core.Path.{_≡_}
-use Prim.Native.Nat.{_+_, _-_, _≤_}
+use mathlib.Core.Path.{◌≡◌}
+use Prim.Native.Nat.{◌+◌, ◌-◌, ◌≤◌}
 use lib.ListN.{drop}
-use Rattle·objects·specs.specs.Objects.{objectsSize}
-use Rattle·objects·specs.specs.Objects.{count}
-use Rattle·objects·proofs.proofs.Counts.{count-on, counted, adds-at-most-one, all-at}
-use Rattle·objects·proofs.proofs.count_of.Statement.{statement}
-use Rattle·objects·proofs.proofs.count_of.Tie as tie
+use Rattle.objects.specs.Objects.{objectsSize}
+use Rattle.objects.specs.Objects.{count}
+use Rattle.objects.proofs.Counts.{count-on, counted, adds-at-most-one, all-at}
+use Rattle.objects.proofs.count_of.Statement.{statement}
+use Rattle.objects.proofs.count_of.Tie as tie
 
-abbrev Inv-loop : tie.InvT-loop
-Inv-loop v bytes n₀ i₀ n i = (i ≤ objectsSize) × (n ≤ i) × (count v bytes ≡ n + count v (drop i bytes))
+abbrev invariant-loop : tie.invariant-loop
+invariant-loop v bytes n₀ i₀ n i = (i ≤ objectsSize) × (n ≤ i) × (count v bytes ≡ n + count v (drop i bytes))
 
-abbrev μ-loop : tie.MeasureT-loop
-μ-loop v bytes n₀ i₀ n i = objectsSize - i
+abbrev decreases-loop : tie.decreases-loop
+decreases-loop v bytes n₀ i₀ n i = objectsSize - i
 
-add-n : tie.Need-add-n Inv-loop μ-loop
-add-n c = let h : c .indicator-of .result ≤ 1 = search (needs, adds-at-most-one) in omega arith
+add-n : tie.Need-overflow-add-n invariant-loop decreases-loop
+add-n c = let h : c.indicator-of.result ≤ 1 = search (rules, adds-at-most-one) in omega arith
 
-loop-again : tie.Need-loop-again Inv-loop μ-loop
-loop-again c = let h : c .indicator-of .result ≤ 1 = search (needs, adds-at-most-one) in (search needs, omega arith, search (needs, count-on))
+loop-again : tie.Need-loop-preserved invariant-loop decreases-loop
+loop-again c = let h : c.indicator-of.result ≤ 1 = search (rules, adds-at-most-one) in (search rules, omega arith, search (rules, count-on))
 
 pub count-of-spec : {M : Type 1} → statement M
 count-of-spec =
     tie.close
-    (tie.spec Inv-loop μ-loop (λ c. search needs) (λ c. search needs) (λ c κs. (search (needs, all-at), search needs, search needs)) add-n
-    (λ c. search needs) (λ c. search needs) loop-again (λ c. search (needs, counted)))
+    (tie.spec invariant-loop decreases-loop (λ c. search rules) (λ c. search rules) (λ c κs. (search (rules, all-at), search rules, search rules)) add-n
+    (λ c. search rules) (λ c. search rules) loop-again (λ c. search (rules, counted)))

@@ -1,10 +1,10 @@
 -- `objects::is_within_limits` meets its contract. Assumes nothing.
 use native.Mathlib.Omega.{arith}
-use Rattle·theory.proofs.Ladder.{ladder}
-use borrow.Author.Needs.{needs}
-use Rattle·objects·specs.specs.Objects.{withinLimits}
-use Rattle·objects·proofs.proofs.is_within_limits.Statement.{statement}
-use Rattle·objects·proofs.proofs.is_within_limits.Tie as tie
+use Rattle.theory.proofs.Ladder.{ladder}
+use borrow.Author.Rules.{rules}
+use Rattle.objects.specs.Objects.{withinLimits}
+use Rattle.objects.proofs.is_within_limits.Statement.{statement}
+use Rattle.objects.proofs.is_within_limits.Tie as tie
 
 returns : tie.Need-returns
 unfolding withinLimits
@@ -15,4 +15,4 @@ unfolding withinLimits
 returns-2 c = search ladder
 
 pub is-within-limits-spec : {M : Type 1} → statement M
-is-within-limits-spec = tie.close (tie.spec (λ c κs. (search needs, search needs, omega arith, omega arith)) returns (λ c κs. (search needs, search needs, omega arith, omega arith)) returns-2)
+is-within-limits-spec = tie.close (tie.spec (λ c κs. (search rules, search rules, omega arith, omega arith)) returns (λ c κs. (search rules, search rules, omega arith, omega arith)) returns-2)

@@ -1,10 +1,10 @@
 -- `parts::step_at` meets its contract. Each return is a step of the definition. Assumes nothing.
-use borrow.Author.Needs.{needs}
-use Rattle·theory.proofs.Ladder.{ladder}
-use Rattle·parts·specs.specs.List.{stepAt}
-use Rattle·parts·proofs.proofs.Walk.{header-is}
-use Rattle·parts·proofs.proofs.step_at.Statement.{statement}
-use Rattle·parts·proofs.proofs.step_at.Tie as tie
+use borrow.Author.Rules.{rules}
+use Rattle.theory.proofs.Ladder.{ladder}
+use Rattle.parts.specs.List.{stepAt}
+use Rattle.parts.proofs.Walk.{header_is}
+use Rattle.parts.proofs.step_at.Statement.{statement}
+use Rattle.parts.proofs.step_at.Tie as tie
 
 returns : tie.Need-returns
 unfolding stepAt
@@ -20,11 +20,11 @@ returns-3 c = search ladder
 
 returns-4 : tie.Need-returns-4
 unfolding stepAt
-returns-4 c = search (ladder, header-is)
+returns-4 c = search (ladder, header_is)
 
 pub step-at-spec : {M : Type 1} → statement M
 step-at-spec =
     tie.close
-    (tie.spec returns (λ c. search needs) returns-2 (λ c κs. search needs) (λ c. search needs) (λ c. search needs)
-    returns-3 (λ c κs. search needs) (λ c. search needs) (λ c. search needs) (λ c. search needs)
-    (λ c κs. search needs) (λ c κs. search needs) returns-4)
+    (tie.spec returns (λ c. search rules) returns-2 (λ c κs. search rules) (λ c. search rules) (λ c. search rules)
+    returns-3 (λ c κs. search rules) (λ c. search rules) (λ c. search rules) (λ c. search rules)
+    (λ c κs. search rules) (λ c κs. search rules) returns-4)

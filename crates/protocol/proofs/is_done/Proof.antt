@@ -1,7 +1,7 @@
 -- `protocol::is_done` meets its contract. Assumes nothing.
-use borrow.Author.Needs.{needs}
-use Rattle·protocol·proofs.proofs.is_done.Statement.{statement}
-use Rattle·protocol·proofs.proofs.is_done.Tie as tie
+use borrow.Author.Rules.{rules}
+use Rattle.protocol.proofs.is_done.Statement.{statement}
+use Rattle.protocol.proofs.is_done.Tie as tie
 
 pub is-done-spec : {M : Type 1} → statement M
-is-done-spec = tie.close (tie.spec (λ c κs. search needs) (λ c. cc))
+is-done-spec = tie.close (tie.spec (λ c κs. search rules) (λ c. cc))

@@ -1,8 +1,8 @@
 -- `protocol::names_member` meets its contract. Assumes nothing.
-use Rattle·theory.proofs.Ladder.{ladder}
-use Rattle·protocol·specs.specs.Opcodes.{namesMember}
-use Rattle·protocol·proofs.proofs.names_member.Statement.{statement}
-use Rattle·protocol·proofs.proofs.names_member.Tie as tie
+use Rattle.theory.proofs.Ladder.{ladder}
+use Rattle.protocol.specs.Opcodes.{namesMember}
+use Rattle.protocol.proofs.names_member.Statement.{statement}
+use Rattle.protocol.proofs.names_member.Tie as tie
 
 pub names-member-spec : {M : Type 1} → statement M
 unfolding namesMember

@@ -1,8 +1,8 @@
 -- `protocol::supported_only` meets its contract. Assumes nothing.
-use Rattle·theory.proofs.Ladder.{ladder}
-use Rattle·protocol·specs.specs.Opcodes.{supportedOnly}
-use Rattle·protocol·proofs.proofs.supported_only.Statement.{statement}
-use Rattle·protocol·proofs.proofs.supported_only.Tie as tie
+use Rattle.theory.proofs.Ladder.{ladder}
+use Rattle.protocol.specs.Opcodes.{supportedOnly}
+use Rattle.protocol.proofs.supported_only.Statement.{statement}
+use Rattle.protocol.proofs.supported_only.Tie as tie
 
 pub supported-only-spec : {M : Type 1} → statement M
 unfolding supportedOnly

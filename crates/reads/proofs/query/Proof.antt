@@ -1,13 +1,13 @@
 -- `reads::query` meets its contract. Assumes nothing.
-use borrow.Author.Needs.{needs}
-use Rattle·reads·proofs.proofs.Steps.{steps}
-use Rattle·reads·specs.specs.Reads.{queryOf}
-use Rattle·reads·proofs.proofs.query.Statement.{statement}
-use Rattle·reads·proofs.proofs.query.Tie as tie
+use borrow.Author.Rules.{rules}
+use Rattle.reads.proofs.Steps.{steps}
+use Rattle.reads.specs.Reads.{queryOf}
+use Rattle.reads.proofs.query.Statement.{statement}
+use Rattle.reads.proofs.query.Tie as tie
 
 pub query-spec : {M : Type 1} → statement M
 unfolding queryOf
 query-spec =
     tie.close
-    (tie.spec (λ c κs. search needs) (λ c. search needs) (λ c. search needs) (λ c κs. search needs)
-    (λ c. search steps) (λ c κs. search needs) (λ c. search steps))
+    (tie.spec (λ c κs. search rules) (λ c. search rules) (λ c. search rules) (λ c κs. search rules)
+    (λ c. search steps) (λ c κs. search rules) (λ c. search steps))

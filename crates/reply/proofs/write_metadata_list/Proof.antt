@@ -1,12 +1,12 @@
 -- `reply::write_metadata_list` meets its contract. Assumes nothing.
-use borrow.Author.Needs.{needs}
-use Rattle·theory.proofs.Lent.{lent-tail}
-use Rattle·reply·proofs.proofs.Result.{list-written}
-use Rattle·reply·proofs.proofs.write_metadata_list.Statement.{statement}
-use Rattle·reply·proofs.proofs.write_metadata_list.Tie as tie
+use borrow.Author.Rules.{rules}
+use Rattle.theory.proofs.Lent.{lent-tail}
+use Rattle.reply.proofs.Result.{list_written}
+use Rattle.reply.proofs.write_metadata_list.Statement.{statement}
+use Rattle.reply.proofs.write_metadata_list.Tie as tie
 
 pub write-metadata-list-spec : {M : Type 1} → statement M
 write-metadata-list-spec =
     tie.close
-    (tie.spec (λ c κs. search needs) (λ c κs. search needs) (λ c. search needs) (λ c. search needs) (λ c. search needs)
-    (λ c κs. search needs) (λ c. search needs) (λ c. search (list-written, lent-tail)))
+    (tie.spec (λ c κs. search rules) (λ c κs. search rules) (λ c. search rules) (λ c. search rules) (λ c. search rules)
+    (λ c κs. search rules) (λ c. search rules) (λ c. search (list_written, lent-tail)))

@@ -1,9 +1,9 @@
 -- `rules::absent_rank` meets its contract. Assumes nothing.
-use Rattle·theory.proofs.Ladder.{ladder}
-use Rattle·rules·specs.specs.Ranks.{rankOf, absentRank}
-use Rattle·rules·proofs.proofs.absent_rank.Statement.{statement}
-use Rattle·rules·proofs.proofs.absent_rank.Tie as tie
+use Rattle.theory.proofs.Ladder.{ladder}
+use Rattle.rules.specs.Ranks.{rank_of, absentRank}
+use Rattle.rules.proofs.absent_rank.Statement.{statement}
+use Rattle.rules.proofs.absent_rank.Tie as tie
 
 pub absent-rank-spec : {M : Type 1} → statement M
-unfolding rankOf absentRank
+unfolding rank_of absentRank
 absent-rank-spec = tie.close (tie.spec (λ c. search ladder) (λ c. search ladder depth 11) (λ c. search ladder))

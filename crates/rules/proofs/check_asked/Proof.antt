@@ -1,9 +1,9 @@
 -- `rules::check_asked` meets its contract. Assumes nothing.
-use borrow.Author.Needs.{needs}
-use Rattle·theory.proofs.Ladder.{ladder, not-of}
-use Rattle·rules·specs.specs.Rules.{askedIn}
-use Rattle·rules·proofs.proofs.check_asked.Statement.{statement}
-use Rattle·rules·proofs.proofs.check_asked.Tie as tie
+use borrow.Author.Rules.{rules}
+use Rattle.theory.proofs.Ladder.{ladder, not-of}
+use Rattle.rules.specs.Rules.{askedIn}
+use Rattle.rules.proofs.check_asked.Statement.{statement}
+use Rattle.rules.proofs.check_asked.Tie as tie
 
 returns : tie.Need-returns
 unfolding askedIn
@@ -20,4 +20,4 @@ returns-3 c = search (ladder, not-of)
 pub check-asked-spec : {M : Type 1} → statement M
 check-asked-spec =
     tie.close
-    (tie.spec (λ c κs. search needs) returns (λ c κs. search needs) returns-2 (λ c κs. search needs) returns-3)
+    (tie.spec (λ c κs. search rules) returns (λ c κs. search rules) returns-2 (λ c κs. search rules) returns-3)

@@ -1,25 +1,25 @@
 -- `rules::every_known` meets its contract. The loop keeps that the headers that are left answer for the whole list. Assumes nothing.
-use mathlib.Core.Path.{_≡_, refl, sym}
-use Prim.Native.Nat.{_-_}
-use borrow.Author.Needs.{needs}
+use mathlib.Core.Path.{◌≡◌, refl, sym}
+use Prim.Native.Nat.{◌-◌}
+use borrow.Author.Rules.{rules}
 use lib.ListN.{length}
-use Rattle·parts.specs.declared.ListForm.the-variants.{Headers}
-use Rattle·parts.specs.List.{partsOf, partsFrom}
-use Rattle·parts.proofs.Turns.{walk}
-use Rattle·rules·specs.specs.Rules.{every, asksKnown}
-use Rattle·rules·proofs.proofs.Turns.{every-stop, every-on, every-out}
-use Rattle·rules·proofs.proofs.every_known.Statement.{statement}
-use Rattle·rules·proofs.proofs.every_known.Tie as tie
+use Rattle.parts.specs.declared.ListForm.TheVariants.{Headers}
+use Rattle.parts.specs.List.{parts_of, partsFrom}
+use Rattle.parts.proofs.Turns.{walk}
+use Rattle.rules.specs.Rules.{every, asksKnown}
+use Rattle.rules.proofs.Turns.{every-stop, every-on, every-out}
+use Rattle.rules.proofs.every_known.Statement.{statement}
+use Rattle.rules.proofs.every_known.Tie as tie
 
-abbrev Inv-loop : tie.InvT-loop
-Inv-loop list queues at₀ at = every (asksKnown queues) (partsOf Headers list) ≡ every (asksKnown queues) (partsFrom Headers list at)
+abbrev invariant-loop : tie.invariant-loop
+invariant-loop list queues at₀ at = every (asksKnown queues) (parts_of Headers list) ≡ every (asksKnown queues) (partsFrom Headers list at)
 
-abbrev μ-loop : tie.MeasureT-loop
-μ-loop list queues at₀ at = length list - at
+abbrev decreases-loop : tie.decreases-loop
+decreases-loop list queues at₀ at = length list - at
 
 pub every-known-spec : {M : Type 1} → statement M
 unfolding asksKnown
 every-known-spec =
     tie.close
-    (tie.spec Inv-loop μ-loop (λ c. refl) (λ c κs. search needs) (λ c. search needs) (λ c. search (sym, every-stop))
-    (λ c κs. search needs) (λ c. search (sym, every-out)) (λ c. search walk) (λ c. search walk) (λ c. search every-on))
+    (tie.spec invariant-loop decreases-loop (λ c. refl) (λ c κs. search rules) (λ c. search rules) (λ c. search (sym, every-stop))
+    (λ c κs. search rules) (λ c. search (sym, every-out)) (λ c. search walk) (λ c. search walk) (λ c. search every-on))

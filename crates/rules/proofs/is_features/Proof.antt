@@ -1,10 +1,10 @@
 -- `rules::is_features` meets its contract. Assumes nothing.
-use borrow.Author.Needs.{needs}
-use Rattle·theory.proofs.Ladder.{ladder, no-not, yes-not}
-use Rattle·rules·proofs.proofs.is_features.Statement.{statement}
-use Rattle·rules·proofs.proofs.is_features.Tie as tie
+use borrow.Author.Rules.{rules}
+use Rattle.theory.proofs.Ladder.{ladder, no-not, yes-not}
+use Rattle.rules.proofs.is_features.Statement.{statement}
+use Rattle.rules.proofs.is_features.Tie as tie
 
 pub is-features-spec : {M : Type 1} → statement M
 is-features-spec =
     tie.close
-    (tie.spec (λ c. search (ladder, no-not)) (λ c κs. search needs) (λ c. search (ladder, yes-not)))
+    (tie.spec (λ c. search (ladder, no-not)) (λ c κs. search rules) (λ c. search (ladder, yes-not)))

@@ -1,8 +1,8 @@
 -- `rules::least` meets its contract. Assumes nothing.
-use Rattle·theory.proofs.Ladder.{ladder}
-use Rattle·rules·specs.specs.Ranks.{least}
-use Rattle·rules·proofs.proofs.least.Statement.{statement}
-use Rattle·rules·proofs.proofs.least.Tie as tie
+use Rattle.theory.proofs.Ladder.{ladder}
+use Rattle.rules.specs.Ranks.{least}
+use Rattle.rules.proofs.least.Statement.{statement}
+use Rattle.rules.proofs.least.Tie as tie
 
 pub least-spec : {M : Type 1} → statement M
 unfolding least

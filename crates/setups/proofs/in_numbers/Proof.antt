@@ -1,13 +1,13 @@
 -- `setups::in_numbers` meets its contract: each return is a step of `inNumbers`. Assumes nothing.
-use borrow.Author.Needs.{needs}
-use Rattle·theory.proofs.Ladder.{ladder}
-use Rattle·setups·specs.specs.Setup.{inNumbers}
-use Rattle·setups·proofs.proofs.in_numbers.Statement.{statement}
-use Rattle·setups·proofs.proofs.in_numbers.Tie as tie
+use borrow.Author.Rules.{rules}
+use Rattle.theory.proofs.Ladder.{ladder}
+use Rattle.setups.specs.Setup.{inNumbers}
+use Rattle.setups.proofs.in_numbers.Statement.{statement}
+use Rattle.setups.proofs.in_numbers.Tie as tie
 
 pub in-numbers-spec : {M : Type 1} → statement M
 unfolding inNumbers
 in-numbers-spec =
     tie.close
-    (tie.spec (λ c κs. search needs) (λ c. search ladder) (λ c. search ladder) (λ c κs. search needs)
+    (tie.spec (λ c κs. search rules) (λ c. search ladder) (λ c. search ladder) (λ c κs. search rules)
     (λ c. search ladder))

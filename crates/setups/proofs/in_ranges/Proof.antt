@@ -1,8 +1,8 @@
 -- `setups::in_ranges` meets its contract: each return is a step of `inRanges`. Assumes nothing.
-use Rattle·theory.proofs.Ladder.{ladder}
-use Rattle·setups·specs.specs.Setup.{inRanges}
-use Rattle·setups·proofs.proofs.in_ranges.Statement.{statement}
-use Rattle·setups·proofs.proofs.in_ranges.Tie as tie
+use Rattle.theory.proofs.Ladder.{ladder}
+use Rattle.setups.specs.Setup.{inRanges}
+use Rattle.setups.proofs.in_ranges.Statement.{statement}
+use Rattle.setups.proofs.in_ranges.Tie as tie
 
 pub in-ranges-spec : {M : Type 1} → statement M
 unfolding inRanges

@@ -1,8 +1,8 @@
 -- `setups::no_member` meets its contract. Assumes nothing.
 use mathlib.Core.Path.{refl}
-use Rattle·setups·specs.specs.Member.{noMember}
-use Rattle·setups·proofs.proofs.no_member.Statement.{statement}
-use Rattle·setups·proofs.proofs.no_member.Tie as tie
+use Rattle.setups.specs.Member.{noMember}
+use Rattle.setups.proofs.no_member.Statement.{statement}
+use Rattle.setups.proofs.no_member.Tie as tie
 
 pub no-member-spec : {M : Type 1} → statement M
 unfolding noMember

@@ -1,11 +1,11 @@
 -- `sheet::name_end` meets its contract. Assumes nothing.
-use borrow.Author.Needs.{needs}
-use Rattle·sheet·proofs.proofs.Names.{size-fits, end-fits, end-is}
-use Rattle·sheet·proofs.proofs.name_end.Statement.{statement}
-use Rattle·sheet·proofs.proofs.name_end.Tie as tie
+use borrow.Author.Rules.{rules}
+use Rattle.sheet.proofs.Names.{size_fits, end_fits, end_is}
+use Rattle.sheet.proofs.name_end.Statement.{statement}
+use Rattle.sheet.proofs.name_end.Tie as tie
 
 pub name-end-spec : {M : Type 1} → statement M
 name-end-spec =
     tie.close
-    (tie.spec (λ c. search needs) (λ c. search needs) (λ c. search (needs, size-fits)) (λ c. search (needs, end-fits))
-    (λ c. search (needs, end-is)))
+    (tie.spec (λ c. search rules) (λ c. search rules) (λ c. search (rules, size_fits)) (λ c. search (rules, end_fits))
+    (λ c. search (rules, end_is)))

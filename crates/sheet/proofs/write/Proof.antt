@@ -1,10 +1,10 @@
 -- `sheet::write` meets its contract. Assumes nothing.
-use borrow.Author.Needs.{needs}
-use Rattle·sheet·proofs.proofs.Lines.{numbers-fit, end-room, end-put, end-next}
-use Rattle·sheet·proofs.proofs.write.Statement.{statement}
-use Rattle·sheet·proofs.proofs.write.Tie as tie
+use borrow.Author.Rules.{rules}
+use Rattle.sheet.proofs.Lines.{numbers_fit, end-room, end-put, end-next}
+use Rattle.sheet.proofs.write.Statement.{statement}
+use Rattle.sheet.proofs.write.Tie as tie
 
-pub write-spec : {M : Type 1} → statement M
-write-spec =
+pub write_spec : {M : Type 1} → statement M
+write_spec =
     tie.close
-    (tie.spec (λ c κs. search numbers-fit) (λ c κs. search end-room) (λ c. search needs) (λ c. (search end-put, search end-next)))
+    (tie.spec (λ c κs. search numbers_fit) (λ c κs. search end-room) (λ c. search rules) (λ c. (search end-put, search end-next)))

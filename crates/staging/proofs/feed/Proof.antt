@@ -1,20 +1,20 @@
 -- `staging::feed` meets its contract. Assumes nothing.
-use borrow.Author.Needs.{needs}
-use Rattle·staging·specs.specs.Staging.{feedOf}
-use Rattle·staging·proofs.proofs.Refusals.{open-refused, open-record}
-use Rattle·staging·proofs.proofs.Returns.{held-some, held-room, held-fits, fed-over, fed-in}
-use Rattle·staging·proofs.proofs.feed.Statement.{statement}
-use Rattle·staging·proofs.proofs.feed.Tie as tie
+use borrow.Author.Rules.{rules}
+use Rattle.staging.specs.Staging.{feedOf}
+use Rattle.staging.proofs.Refusals.{open-refused, open-record}
+use Rattle.staging.proofs.Returns.{held-some, held-room, held_fits, fed-over, fed-in}
+use Rattle.staging.proofs.feed.Statement.{statement}
+use Rattle.staging.proofs.feed.Tie as tie
 
 returns : tie.Need-returns
 unfolding feedOf
-returns c = search (needs, open-refused)
+returns c = search (rules, open-refused)
 
 pub feed-spec : {M : Type 1} → statement M
 feed-spec =
     tie.close
-    (tie.spec (λ c κs. search needs) (λ c. search needs) returns (λ c κs. search (needs, open-record)) (λ c. search needs)
-    (λ c. search (needs, held-some)) (λ c. search (needs, held-room)) (λ c κs. search (needs, open-record)) (λ c κs. search needs)
-    (λ c. search needs) (λ c. search (needs, fed-over)) (λ c. search needs) (λ c. search needs) (λ c κs. search needs)
-    (λ c κs. (search (needs, open-record), search (needs, held-fits))) (λ c. search needs)
-    (λ c. search (needs, fed-in)))
+    (tie.spec (λ c κs. search rules) (λ c. search rules) returns (λ c κs. search (rules, open-record)) (λ c. search rules)
+    (λ c. search (rules, held-some)) (λ c. search (rules, held-room)) (λ c κs. search (rules, open-record)) (λ c κs. search rules)
+    (λ c. search rules) (λ c. search (rules, fed-over)) (λ c. search rules) (λ c. search rules) (λ c κs. search rules)
+    (λ c κs. (search (rules, open-record), search (rules, held_fits))) (λ c. search rules)
+    (λ c. search (rules, fed-in)))

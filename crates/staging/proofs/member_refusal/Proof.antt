@@ -1,15 +1,15 @@
 -- `staging::member_refusal` meets its contract: each return is a step of `memberRefusal`. Assumes nothing.
-use borrow.Author.Needs.{needs}
-use Rattle·theory.proofs.Ladder.{ladder, no-not, yes-not}
-use Rattle·staging·specs.specs.Staging.{memberRefusal}
-use Rattle·staging·proofs.proofs.Refusals.{told-long, told-whole}
-use Rattle·staging·proofs.proofs.member_refusal.Statement.{statement}
-use Rattle·staging·proofs.proofs.member_refusal.Tie as tie
+use borrow.Author.Rules.{rules}
+use Rattle.theory.proofs.Ladder.{ladder, no-not, yes-not}
+use Rattle.staging.specs.Staging.{memberRefusal}
+use Rattle.staging.proofs.Refusals.{told-long, told-whole}
+use Rattle.staging.proofs.member_refusal.Statement.{statement}
+use Rattle.staging.proofs.member_refusal.Tie as tie
 
 pub member-refusal-spec : {M : Type 1} → statement M
 unfolding memberRefusal
 member-refusal-spec =
     tie.close
-    (tie.spec (λ c κs. search needs) (λ c. search ladder) (λ c κs. search (needs, told-long)) (λ c κs. search needs)
-    (λ c. search ladder) (λ c κs. search (needs, told-whole)) (λ c κs. search needs)
+    (tie.spec (λ c κs. search rules) (λ c. search ladder) (λ c κs. search (rules, told-long)) (λ c κs. search rules)
+    (λ c. search ladder) (λ c κs. search (rules, told-whole)) (λ c κs. search rules)
     (λ c. search (ladder, no-not, yes-not)) (λ c. search (ladder, no-not, yes-not)))

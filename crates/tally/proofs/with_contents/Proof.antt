@@ -1,10 +1,10 @@
 -- `tally::with_contents` meets its contract. Assumes nothing.
-use borrow.Author.Needs.{needs}
-use Rattle·tally·proofs.proofs.Captures.{bytes-fit, contents-counted}
-use Rattle·tally·proofs.proofs.with_contents.Statement.{statement}
-use Rattle·tally·proofs.proofs.with_contents.Tie as tie
+use borrow.Author.Rules.{rules}
+use Rattle.tally.proofs.Captures.{bytes_fit, contents-counted}
+use Rattle.tally.proofs.with_contents.Statement.{statement}
+use Rattle.tally.proofs.with_contents.Tie as tie
 
 pub with-contents-spec : {M : Type 1} → statement M
 with-contents-spec =
     tie.close
-    (tie.spec (λ c κs. search needs) (λ c. search needs) (λ c. search bytes-fit) (λ c. search needs) (λ c. search contents-counted))
+    (tie.spec (λ c κs. search rules) (λ c. search rules) (λ c. search bytes_fit) (λ c. search rules) (λ c. search contents-counted))

@@ -1,17 +1,17 @@
 -- `transcript::print_address` meets its contract. Assumes nothing.
-use borrow.Author.Needs.{needs}
-use Prim.Native.Nat.{_≤_}
-use Rattle·transcript·proofs.proofs.print_address.Statement.{statement}
-use Rattle·transcript·proofs.proofs.print_address.Tie as tie
+use borrow.Author.Rules.{rules}
+use Prim.Native.Nat.{◌≤◌}
+use Rattle.transcript.proofs.print_address.Statement.{statement}
+use Rattle.transcript.proofs.print_address.Tie as tie
 
-abbrev Inv-loop : tie.InvT-loop
-Inv-loop n text₀ rest₀ i₀ text rest i = i ≤ 16
+abbrev invariant-loop : tie.invariant-loop
+invariant-loop n text₀ rest₀ i₀ text rest i = i ≤ 16
 
-abbrev μ-loop : tie.MeasureT-loop
-μ-loop n text₀ rest₀ i₀ text rest i = i
+abbrev decreases-loop : tie.decreases-loop
+decreases-loop n text₀ rest₀ i₀ text rest i = i
 
 pub print-address-spec : {M : Type 1} → statement M
 print-address-spec =
     tie.close
-    (tie.spec Inv-loop μ-loop (λ c. search needs) (λ c. search needs) (λ c. search needs) (λ c κs. search needs)
-    (λ c. search needs) (λ c. search needs) (λ c. search needs) (λ c κs. search needs) (λ c. search needs))
+    (tie.spec invariant-loop decreases-loop (λ c. search rules) (λ c. search rules) (λ c. search rules) (λ c κs. search rules)
+    (λ c. search rules) (λ c. search rules) (λ c. search rules) (λ c κs. search rules) (λ c. search rules))

@@ -1,24 +1,24 @@
 -- `wire::read` meets its contract. The invariant: the bytes from i on are in r. Assumes nothing.
 use native.Mathlib.Omega.{arith}
-use borrow.Author.Needs.{needs}
-use Rattle·wire·proofs.proofs.Loops.{Reading, reading-start, reading-fits, reading-on, reading-end}
-use Rattle·wire·proofs.proofs.read.Statement.{statement}
-use Rattle·wire·proofs.proofs.read.Tie as tie
+use borrow.Author.Rules.{rules}
+use Rattle.wire.proofs.Loops.{Reading, reading-start, reading-fits, reading-on, reading-end}
+use Rattle.wire.proofs.read.Statement.{statement}
+use Rattle.wire.proofs.read.Tie as tie
 
-abbrev Inv-loop : tie.InvT-loop
-Inv-loop s at n r₀ i₀ r i = Reading s at n r i
+abbrev invariant-loop : tie.invariant-loop
+invariant-loop s at n r₀ i₀ r i = Reading s at n r i
 
-abbrev μ-loop : tie.MeasureT-loop
-μ-loop s at n r₀ i₀ r i = i
+abbrev decreases-loop : tie.decreases-loop
+decreases-loop s at n r₀ i₀ r i = i
 
-mul-r : tie.Need-mul-r Inv-loop μ-loop
-mul-r c = omega (arith, reading-fits _ _ _ _ _ (c .before .loop .inv) (omega arith) (omega arith))
+mul-r : tie.Need-overflow-mul-r invariant-loop decreases-loop
+mul-r c = omega (arith, reading-fits _ _ _ _ _ c.before.loop.invariant (omega arith) (omega arith))
 
-add-r : tie.Need-add-r Inv-loop μ-loop
-add-r c = omega (arith, reading-fits _ _ _ _ _ (c .before .before .loop .inv) (omega arith) (omega arith))
+add_r : tie.Need-overflow-add-r invariant-loop decreases-loop
+add_r c = omega (arith, reading-fits _ _ _ _ _ c.before.before.loop.invariant (omega arith) (omega arith))
 
-pub read-spec : {M : Type 1} → statement M
-read-spec =
+pub read_spec : {M : Type 1} → statement M
+read_spec =
     tie.close
-    (tie.spec Inv-loop μ-loop (λ c. search reading-start) (λ c. search needs) mul-r (λ c. search needs) (λ c κs. search needs)
-    add-r (λ c. search needs) (λ c. search (needs, reading-on)) (λ c. reading-end _ _ _ _ _ (c .before .loop .inv) (omega arith)))
+    (tie.spec invariant-loop decreases-loop (λ c. search reading-start) (λ c. search rules) mul-r (λ c. search rules) (λ c κs. search rules)
+    add_r (λ c. search rules) (λ c. search (rules, reading-on)) (λ c. reading-end _ _ _ _ _ c.before.loop.invariant (omega arith)))

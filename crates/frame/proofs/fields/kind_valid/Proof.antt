@@ -1,13 +1,13 @@
 -- `frame::fields::kind_valid` meets its contract. Assumes nothing.
-use borrow.Author.Needs.{needs}
-use Rattle·theory.proofs.Ladder.{ladder}
-use Rattle·frame·specs.specs.Fields.{kindValid}
-use Rattle·frame·proofs.proofs.fields.kind_valid.Statement.{statement}
-use Rattle·frame·proofs.proofs.fields.kind_valid.Tie as tie
+use borrow.Author.Rules.{rules}
+use Rattle.theory.proofs.Ladder.{ladder}
+use Rattle.frame.specs.Fields.{kindValid}
+use Rattle.frame.proofs.fields.kind_valid.Statement.{statement}
+use Rattle.frame.proofs.fields.kind_valid.Tie as tie
 
 pub kind-valid-spec : {M : Type 1} → statement M
 unfolding kindValid
 kind-valid-spec =
     tie.close
-    (tie.spec (λ c κs. search needs) (λ c. search ladder) (λ c κs. search needs) (λ c. search ladder)
-    (λ c. search needs) (λ c. search ladder))
+    (tie.spec (λ c κs. search rules) (λ c. search ladder) (λ c κs. search rules) (λ c. search ladder)
+    (λ c. search rules) (λ c. search ladder))

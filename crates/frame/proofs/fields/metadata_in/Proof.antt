@@ -1,13 +1,13 @@
 -- `frame::fields::metadata_in` meets its contract. Assumes nothing.
-use borrow.Author.Needs.{needs}
-use Rattle·theory.proofs.Ladder.{ladder}
-use Rattle·frame·specs.specs.Fields.{metadataIn}
-use Rattle·frame·proofs.proofs.fields.metadata_in.Statement.{statement}
-use Rattle·frame·proofs.proofs.fields.metadata_in.Tie as tie
+use borrow.Author.Rules.{rules}
+use Rattle.theory.proofs.Ladder.{ladder}
+use Rattle.frame.specs.Fields.{metadataIn}
+use Rattle.frame.proofs.fields.metadata_in.Statement.{statement}
+use Rattle.frame.proofs.fields.metadata_in.Tie as tie
 
 pub metadata-in-spec : {M : Type 1} → statement M
 unfolding metadataIn
 metadata-in-spec =
     tie.close
-    (tie.spec (λ c κs. search needs) (λ c. search ladder) (λ c. search needs) (λ c. search ladder)
-    (λ c κs. search needs) (λ c. search needs) (λ c κs. search needs) (λ c. search ladder))
+    (tie.spec (λ c κs. search rules) (λ c. search ladder) (λ c. search rules) (λ c. search ladder)
+    (λ c κs. search rules) (λ c. search rules) (λ c κs. search rules) (λ c. search ladder))

@@ -1,11 +1,11 @@
 -- `member::Member::has_room` meets its contract. Assumes nothing.
-use borrow.Author.Needs.{needs}
-use Rattle·objects.proofs.Objects.{bytes-low}
-use Rattle·member·proofs.proofs.Member.has_room.Statement.{statement}
-use Rattle·member·proofs.proofs.Member.has_room.Tie as tie
+use borrow.Author.Rules.{rules}
+use Rattle.objects.proofs.Objects.{bytes_low}
+use Rattle.member.proofs.Member.has_room.Statement.{statement}
+use Rattle.member.proofs.Member.has_room.Tie as tie
 
 returns : tie.Need-returns
 returns c = cc
 
 pub has-room-spec : {M : Type 1} → statement M
-has-room-spec = tie.close (tie.spec (λ c κs. search needs) (λ c. search needs) (λ c κs. (search needs, search (needs, bytes-low))) returns)
+has-room-spec = tie.close (tie.spec (λ c κs. search rules) (λ c. search rules) (λ c κs. (search rules, search (rules, bytes_low))) returns)

@@ -1,23 +1,23 @@
 -- `salvage_file::input::number` meets its contract. Assumes nothing.
-use mathlib.Core.Path.{_≡_}
-use Prim.Native.Nat.{_≤_, _-_}
-use borrow.Author.Needs.{needs}
+use mathlib.Core.Path.{◌≡◌}
+use Prim.Native.Nat.{◌≤◌, ◌-◌}
+use borrow.Author.Rules.{rules}
 use lib.ListN.{length, drop}
-use Rattle·salvage_file·specs.specs.Number.{numberFrom, numberOf}
-use Rattle·salvage_file·proofs.proofs.Number.{number-below, number-above, number-large, number-on, number-end}
-use Rattle·salvage_file·proofs.proofs.input.number.Statement.{statement}
-use Rattle·salvage_file·proofs.proofs.input.number.Tie as tie
+use Rattle.salvage_file.specs.Number.{numberFrom, number_of}
+use Rattle.salvage_file.proofs.Number.{number-below, number-above, number-large, number-on, number-end}
+use Rattle.salvage_file.proofs.input.number.Statement.{statement}
+use Rattle.salvage_file.proofs.input.number.Tie as tie
 
-abbrev Inv-loop : tie.InvT-loop
-Inv-loop text n₀ i₀ n i = (n ≤ 999) × (numberOf text ≡ numberFrom n (drop i text))
+abbrev invariant-loop : tie.invariant-loop
+invariant-loop text n₀ i₀ n i = (n ≤ 999) × (number_of text ≡ numberFrom n (drop i text))
 
-abbrev μ-loop : tie.MeasureT-loop
-μ-loop text n₀ i₀ n i = length text - i
+abbrev decreases-loop : tie.decreases-loop
+decreases-loop text n₀ i₀ n i = length text - i
 
 pub number-spec : {M : Type 1} → statement M
 number-spec =
     tie.close
-    (tie.spec Inv-loop μ-loop (λ c. search needs) (λ c. search needs) (λ c. search (needs, number-below))
-    (λ c. search (needs, number-above)) (λ c. search (needs, number-large)) (λ c. search needs) (λ c. search needs)
-    (λ c. search needs) (λ c. search needs) (λ c. search needs) (λ c. search (needs, number-on))
-    (λ c. search (needs, number-end)))
+    (tie.spec invariant-loop decreases-loop (λ c. search rules) (λ c. search rules) (λ c. search (rules, number-below))
+    (λ c. search (rules, number-above)) (λ c. search (rules, number-large)) (λ c. search rules) (λ c. search rules)
+    (λ c. search rules) (λ c. search rules) (λ c. search rules) (λ c. search (rules, number-on))
+    (λ c. search (rules, number-end)))

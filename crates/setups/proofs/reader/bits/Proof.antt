@@ -1,23 +1,23 @@
 -- `setups::reader::bits` meets its contract. The invariant: r holds the first i bits. Assumes nothing.
-use mathlib.Core.Path.{_≡_}
-use Prim.Native.Nat.{_-_, _≤_}
-use borrow.Author.Needs.{needs}
-use Rattle·setups·specs.specs.Bits.{bitsAt}
-use Rattle·setups·proofs.proofs.Fields.{bits-start, bits-twice, bits-more, bits-on, bits-end, bits-small}
-use Rattle·setups·proofs.proofs.reader.bits.Statement.{statement}
-use Rattle·setups·proofs.proofs.reader.bits.Tie as tie
+use mathlib.Core.Path.{◌≡◌}
+use Prim.Native.Nat.{◌-◌, ◌≤◌}
+use borrow.Author.Rules.{rules}
+use Rattle.setups.specs.Bits.{bits_at}
+use Rattle.setups.proofs.Fields.{bits-start, bits-twice, bits-more, bits-on, bits-end, bits_small}
+use Rattle.setups.proofs.reader.bits.Statement.{statement}
+use Rattle.setups.proofs.reader.bits.Tie as tie
 
-abbrev Inv-loop : tie.InvT-loop
-Inv-loop s at n r₀ i₀ r i = (i ≤ n) × (r ≡ bitsAt at i s)
+abbrev invariant-loop : tie.invariant-loop
+invariant-loop s at n r₀ i₀ r i = (i ≤ n) × (r ≡ bits_at at i s)
 
-abbrev μ-loop : tie.MeasureT-loop
-μ-loop s at n r₀ i₀ r i = n - i
+abbrev decreases-loop : tie.decreases-loop
+decreases-loop s at n r₀ i₀ r i = n - i
 
-returns : tie.Need-returns Inv-loop μ-loop
-returns c = (search (needs, bits-end), search (needs, bits-small))
+returns : tie.Need-returns invariant-loop decreases-loop
+returns c = (search (rules, bits-end), search (rules, bits_small))
 
 pub bits-spec : {M : Type 1} → statement M
 bits-spec =
     tie.close
-    (tie.spec Inv-loop μ-loop (λ c. search (needs, bits-start)) (λ c. search (needs, bits-twice)) (λ c. search needs) (λ c κs. search needs) (λ c. search (needs, bits-more))
-    (λ c. search needs) (λ c. search needs) (λ c. search (needs, bits-on)) returns)
+    (tie.spec invariant-loop decreases-loop (λ c. search (rules, bits-start)) (λ c. search (rules, bits-twice)) (λ c. search rules) (λ c κs. search rules) (λ c. search (rules, bits-more))
+    (λ c. search rules) (λ c. search rules) (λ c. search (rules, bits-on)) returns)

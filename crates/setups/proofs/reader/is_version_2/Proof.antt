@@ -1,14 +1,14 @@
 -- `setups::reader::is_version_2` meets its contract: each return is a step of `isVersion2`. Assumes nothing.
-use borrow.Author.Needs.{needs}
-use Rattle·theory.proofs.Ladder.{ladder}
-use Rattle·setups·specs.specs.Reading.{isVersion2}
-use Rattle·setups·proofs.proofs.reader.is_version_2.Statement.{statement}
-use Rattle·setups·proofs.proofs.reader.is_version_2.Tie as tie
+use borrow.Author.Rules.{rules}
+use Rattle.theory.proofs.Ladder.{ladder}
+use Rattle.setups.specs.Reading.{isVersion2}
+use Rattle.setups.proofs.reader.is_version_2.Statement.{statement}
+use Rattle.setups.proofs.reader.is_version_2.Tie as tie
 
 pub is-version-2-spec : {M : Type 1} → statement M
 unfolding isVersion2
 is-version-2-spec =
     tie.close
-    (tie.spec (λ c. search needs) (λ c. search needs) (λ c. search needs) (λ c. search ladder) (λ c κs. search needs)
-    (λ c. search ladder) (λ c κs. search needs) (λ c. search ladder) (λ c. search needs) (λ c. search needs) (λ c. search needs)
-    (λ c. search needs) (λ c. search needs) (λ c κs. search needs) (λ c. search ladder))
+    (tie.spec (λ c. search rules) (λ c. search rules) (λ c. search rules) (λ c. search ladder) (λ c κs. search rules)
+    (λ c. search ladder) (λ c κs. search rules) (λ c. search ladder) (λ c. search rules) (λ c. search rules) (λ c. search rules)
+    (λ c. search rules) (λ c. search rules) (λ c κs. search rules) (λ c. search ladder))

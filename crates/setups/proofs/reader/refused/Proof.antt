@@ -1,9 +1,9 @@
 -- `setups::reader::refused` meets its contract. Assumes nothing.
 use mathlib.Core.Path.{refl}
-use Rattle·setups·specs.specs.Setup.{noCounts}
-use Rattle·setups·specs.specs.Reading.{noSetup}
-use Rattle·setups·proofs.proofs.reader.refused.Statement.{statement}
-use Rattle·setups·proofs.proofs.reader.refused.Tie as tie
+use Rattle.setups.specs.Setup.{noCounts}
+use Rattle.setups.specs.Reading.{noSetup}
+use Rattle.setups.proofs.reader.refused.Statement.{statement}
+use Rattle.setups.proofs.reader.refused.Tie as tie
 
 pub refused-spec : {M : Type 1} → statement M
 unfolding noSetup noCounts

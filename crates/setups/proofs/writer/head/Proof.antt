@@ -1,14 +1,14 @@
 -- `setups::writer::head` meets its contract. Assumes nothing.
 use native.Mathlib.Omega.{arith}
-use borrow.Author.Needs.{needs}
-use Rattle·setups·specs.specs.Bits.{joined}
-use Rattle·setups·proofs.proofs.writer.head.Statement.{statement}
-use Rattle·setups·proofs.proofs.writer.head.Tie as tie
+use borrow.Author.Rules.{rules}
+use Rattle.setups.specs.Bits.{joined}
+use Rattle.setups.proofs.writer.head.Statement.{statement}
+use Rattle.setups.proofs.writer.head.Tie as tie
 
-pub head-spec : {M : Type 1} → statement M
+pub head_spec : {M : Type 1} → statement M
 unfolding joined
-head-spec =
+head_spec =
     tie.close
-    (tie.spec (λ c. search needs) (λ c. search needs) (λ c. search needs) (λ c. search needs) (λ c. search needs)
-    (λ c. search needs) (λ c. search needs) (λ c. search needs) (λ c. search needs) (λ c. search needs)
+    (tie.spec (λ c. search rules) (λ c. search rules) (λ c. search rules) (λ c. search rules) (λ c. search rules)
+    (λ c. search rules) (λ c. search rules) (λ c. search rules) (λ c. search rules) (λ c. search rules)
     (λ c. (omega arith, omega arith)))
