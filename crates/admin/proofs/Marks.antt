@@ -6,7 +6,7 @@ use mathlib.Core.List.{List}
 use Prim.Native.Nat.{ℕ}
 use Rattle.theory.proofs.Tests.{inside}
 use Rattle.changes.proofs.Kept.{change-marked}
-use Rattle.card.specs.Layout.{setupOf, isMember, memberIn, isMarked}
+use Rattle.card.specs.Layout.{setup_of, is_member, member_in, is_marked}
 use Rattle.card.proofs.MarkLaws.{marked-is, mark-with-use, mark-with-member}
 use Rattle.card.proofs.SoundLaws.{Sound, sound-of, sound-has}
 use Rattle.frame.specs.declared.Ask.{Ask}
@@ -15,13 +15,13 @@ use Rattle.admin.specs.Command.{perform, respond}
 use Rattle.admin.proofs.Respond.{NamedIn, FactsIn, asked_of, card-cases}
 
 -- r names m
-pub named_here : (c r : List ℕ) (m : ℕ) → NamedIn c r m → isMember c m ≡ true
+pub named_here : (c r : List ℕ) (m : ℕ) → NamedIn c r m → is_member c m ≡ true
 named_here c r m n = inside 1 _ m n.low n.high
 
-pub named-unmarked : (c r : List ℕ) (m : ℕ) → NamedIn c r m → (memberIn c m).marked ≡ false
-named-unmarked c r m n = sym (marked-is c m (named_here c r m n)) ∙ ap (isMarked c) (sym n.target) ∙ n.unmarked
+pub named-unmarked : (c r : List ℕ) (m : ℕ) → NamedIn c r m → (member_in c m).marked ≡ false
+named-unmarked c r m n = sym (marked-is c m (named_here c r m n)) ∙ ap (is_marked c) (sym n.target) ∙ n.unmarked
 
-perform-mark : (c : List ℕ) → Sound c → (r : List ℕ) (k : ℕ) (a : Ask) → FactsIn c r a → isMarked (perform c r a).card k ≡ isMarked c k
+perform-mark : (c : List ℕ) → Sound c → (r : List ℕ) (k : ℕ) (a : Ask) → FactsIn c r a → is_marked (perform c r a).card k ≡ is_marked c k
 unfolding perform
 perform-mark c s r k (Refused a) f = refl
 perform-mark c s r k QueryList f = refl
@@ -29,8 +29,8 @@ perform-mark c s r k (UseList mask) f = mark-with-use c mask k
 perform-mark c s r k (Read m op) f = refl
 perform-mark c s r k (Change m op) f =
     mark-with-member c m _ (sound-has c s m (named_here c r m f.0))
-    (change-marked (setupOf c).gets (setupOf c).sets _ op (memberIn c m)) k
+    (change-marked (setup_of c).gets (setup_of c).sets _ op (member_in c m)) k
 
-pub respond-mark : (c r : List ℕ) (room k : ℕ) → isMarked (respond c r room).0 k ≡ isMarked c k
+pub respond-mark : (c r : List ℕ) (room k : ℕ) → is_marked (respond c r room).0 k ≡ is_marked c k
 respond-mark c r room k =
-    card-cases c r room (λ d. isMarked d k ≡ isMarked c k) refl (λ s. perform-mark c (sound-of c s) r k _ (asked_of c r))
+    card-cases c r room (λ d. is_marked d k ≡ is_marked c k) refl (λ s. perform-mark c (sound-of c s) r k _ (asked_of c r))

@@ -9,51 +9,51 @@ use borrow.Author.Tests.{leb-true, le-leb}
 use Rattle.theory.specs.Logic.{if◌then◌else◌, unless◌answer◌then◌, ◌and◌}
 use Rattle.theory.proofs.Tests.{both, if-cases, unless-cases}
 use Rattle.protocol.specs.declared.Answer.{Answer}
-use Rattle.protocol.specs.Answers.{isDone}
-use Rattle.card.specs.Layout.{setupOf, inUseOf, isMarked}
-use Rattle.card.specs.Sound.{isSound}
+use Rattle.protocol.specs.Answers.{is_done}
+use Rattle.card.specs.Layout.{setup_of, in_use_of, is_marked}
+use Rattle.card.specs.Sound.{is_sound}
 use Rattle.frame.specs.declared.Ask.{Ask}
 use Rattle.frame.specs.Frame.{target_of}
 use Rattle.frame.proofs.Asked.{Named, Facts, asked}
-use Rattle.reply.specs.Reply.{finalOf, replyOf, replied}
-use Rattle.admin.specs.Command.{askIn, Effect, perform, conclude, respond}
+use Rattle.reply.specs.Reply.{final_of, reply_of, replied}
+use Rattle.admin.specs.Command.{ask_in, Effect, perform, conclude, respond}
 
 -- what is known of a request by what it asks of a card
 abbrev pub NamedIn : List ℕ → List ℕ → ℕ → Type 0
-NamedIn c r m = Named (setupOf c).members (isMarked c (target_of r)) r m
+NamedIn c r m = Named (setup_of c).members (is_marked c (target_of r)) r m
 
 abbrev pub FactsIn : List ℕ → List ℕ → Ask → Type 0
-FactsIn c r a = Facts (setupOf c).members ((setupOf c).gets + (setupOf c).sets) (isMarked c (target_of r)) r a
+FactsIn c r a = Facts (setup_of c).members ((setup_of c).gets + (setup_of c).sets) (is_marked c (target_of r)) r a
 
-pub asked_of : (c r : List ℕ) → FactsIn c r (askIn c r)
-unfolding askIn
-asked_of c r = asked _ _ _ r (inUseOf c) _ refl
+pub asked_of : (c r : List ℕ) → FactsIn c r (ask_in c r)
+unfolding ask_in
+asked_of c r = asked _ _ _ r (in_use_of c) _ refl
 
 -- steps 11 and 12: the answer in the end, the card after and the reply
-abbrev pub lastAnswer : ℕ → Effect → Answer
-lastAnswer room e = finalOf e.outcome (length e.result) room
+abbrev pub last_answer : ℕ → Effect → Answer
+last_answer room e = final_of e.outcome (length e.result) room
 
 abbrev pub ended : List ℕ → ℕ → Effect → List ℕ × List ℕ
-ended c room e = (if isDone (lastAnswer room e) then e.card else c, replyOf (lastAnswer room e) e.result)
+ended c room e = (if is_done (last_answer room e) then e.card else c, reply_of (last_answer room e) e.result)
 
 module _ (c r : List ℕ) (room : ℕ) where
   -- step 1
-  pub respond-none : leb 8 room and isSound c ≡ false → respond c r room ≡ (c, [])
+  pub respond-none : leb 8 room and is_sound c ≡ false → respond c r room ≡ (c, [])
   unfolding respond unless◌answer◌then◌
   respond-none t = rw t
 
-  pub respond-is : 8 ≤ room → isSound c ≡ true → respond c r room ≡ ended c room (perform c r (askIn c r))
+  pub respond-is : 8 ≤ room → is_sound c ≡ true → respond c r room ≡ ended c room (perform c r (ask_in c r))
   unfolding respond conclude replied unless◌answer◌then◌ ◌and◌
   respond-is h s = rw (le-leb 8 room h, s)
 
   pub respond-cases : (P : List ℕ × List ℕ → Type 0) → P (c, [])
-      → (8 ≤ room → isSound c ≡ true → P (ended c room (perform c r (askIn c r)))) → P (respond c r room)
+      → (8 ≤ room → is_sound c ≡ true → P (ended c room (perform c r (ask_in c r)))) → P (respond c r room)
   unfolding respond conclude replied
   respond-cases P f g = unless-cases P _ _ _ (λ t. f) (λ t. g (leb-true 8 room (both _ _ t).0) (both _ _ t).1)
 
   -- the card after it
-  pub card-cases : (P : List ℕ → Type 0) → P c → (isSound c ≡ true → P (perform c r (askIn c r)).card) → P (respond c r room).0
+  pub card-cases : (P : List ℕ → Type 0) → P c → (is_sound c ≡ true → P (perform c r (ask_in c r)).card) → P (respond c r room).0
   card-cases P f g =
-      let e = perform c r (askIn c r) in
+      let e = perform c r (ask_in c r) in
       respond-cases (λ (y : List ℕ × List ℕ). P y.0) f
-      (λ h s. if-cases P (isDone (lastAnswer room e)) e.card c (λ t. g s) (λ t. f))
+      (λ h s. if-cases P (is_done (last_answer room e)) e.card c (λ t. g s) (λ t. f))

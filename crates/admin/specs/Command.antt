@@ -4,26 +4,26 @@ use Rattle.theory.specs.Logic.{if◌then◌else◌, unless◌answer◌then◌, �
 use Rattle.wire.specs.Le.{bytes}
 use Rattle.protocol.specs.declared.Answer.{Answer}
 use Rattle.protocol.specs.declared.Answer.TheVariants.{Done}
-use Rattle.protocol.specs.Answers.{isDone}
-use Rattle.protocol.specs.Opcodes.{supportedMask}
+use Rattle.protocol.specs.Answers.{is_done}
+use Rattle.protocol.specs.Opcodes.{supported_mask}
 use Rattle.member.specs.declared.Member.{Member}
 use Rattle.reads.specs.declared.Reading.{Reading}
 use Rattle.changes.specs.declared.Changed.{Changed}
-use Rattle.changes.specs.Changes.{changeOf}
+use Rattle.changes.specs.Changes.{change_of}
 use Rattle.reads.specs.Reads.{read_of}
-use Rattle.card.specs.Layout.{setupOf, inUseOf, withInUse, memberIn, withMember, isMarked}
-use Rattle.card.specs.Sound.{isSound}
+use Rattle.card.specs.Layout.{setup_of, in_use_of, with_in_use, member_in, with_member, is_marked}
+use Rattle.card.specs.Sound.{is_sound}
 use Rattle.frame.specs.declared.Ask.{Ask}
 use Rattle.frame.specs.declared.Ask.TheVariants.{Refused, QueryList, UseList, Read, Change}
-use Rattle.frame.specs.Frame.{target_of, askedList, givenList}
-use Rattle.frame.specs.Ask.{askOf}
+use Rattle.frame.specs.Frame.{target_of, asked_list, given_list}
+use Rattle.frame.specs.Ask.{ask_of}
 use Rattle.reply.specs.Result.{result_of}
-use Rattle.reply.specs.Reply.{headSize, finalOf, replied, written}
+use Rattle.reply.specs.Reply.{head_size, final_of, replied, written}
 
 -- steps 2 to 7: what a request asks of this card
-unfoldable pub askIn : List ℕ → List ℕ → Ask
-askIn c r =
-    askOf (setupOf c).members ((setupOf c).gets + (setupOf c).sets) (inUseOf c) (isMarked c (target_of r)) r
+unfoldable pub ask_in : List ℕ → List ℕ → Ask
+ask_in c r =
+    ask_of (setup_of c).members ((setup_of c).gets + (setup_of c).sets) (in_use_of c) (is_marked c (target_of r)) r
 
 -- what a command comes to before its reply is known to fit: its answer, the card if it stands, the result
 pub record Effect : Type 0 where
@@ -38,32 +38,32 @@ abbrev pub reading : List ℕ → List ℕ → Member → Reading → Effect
 reading c list m x = effect x.answer c (result_of m.queues list m.values x.body)
 
 abbrev pub changing : List ℕ → ℕ → Changed → Effect
-changing c m x = effect x.answer (withMember c m x.member) []
+changing c m x = effect x.answer (with_member c m x.member) []
 
 -- steps 8 to 10
 unfoldable pub perform : List ℕ → List ℕ → Ask → Effect
 perform c r (Refused a) = effect a c []
-perform c r QueryList = effect Done c (bytes 8 supportedMask)
-perform c r (UseList mask) = effect Done (withInUse c mask) []
+perform c r QueryList = effect Done c (bytes 8 supported_mask)
+perform c r (UseList mask) = effect Done (with_in_use c mask) []
 perform c r (Read m op) =
-    reading c (askedList r) (memberIn c m) (read_of (askedList r) op (memberIn c m))
+    reading c (asked_list r) (member_in c m) (read_of (asked_list r) op (member_in c m))
 perform c r (Change m op) =
-    changing c m (changeOf (setupOf c).gets (setupOf c).sets (givenList r) op (memberIn c m))
+    changing c m (change_of (setup_of c).gets (setup_of c).sets (given_list r) op (member_in c m))
 
 -- steps 11 and 12: the card after, which a refusal leaves as it was, and the reply
 unfoldable pub conclude : List ℕ → ℕ → Effect → List ℕ × List ℕ
 conclude c room e =
-    (if isDone (finalOf e.outcome (length e.result) room) then e.card else c, replied e.outcome e.result room)
+    (if is_done (final_of e.outcome (length e.result) room) then e.card else c, replied e.outcome e.result room)
 
 -- a command on a card, with room for so many bytes of reply: the card after it and the reply
 unfoldable pub respond : List ℕ → List ℕ → ℕ → List ℕ × List ℕ
 respond c r room =
-    unless leb headSize room and isSound c answer (c, []) then  -- 1
-    conclude c room (perform c r (askIn c r))
+    unless leb head_size room and is_sound c answer (c, []) then  -- 1
+    conclude c room (perform c r (ask_in c r))
 
 -- the same as a call leaves it: the bytes written, the card, and the buffer
 unfoldable pub delivered : List ℕ × List ℕ → List ℕ → ℕ × (List ℕ × List ℕ)
 delivered x buffer = ((written x.1 buffer).0, (x.0, (written x.1 buffer).1))
 
-unfoldable pub commandOf : List ℕ → List ℕ → List ℕ → ℕ × (List ℕ × List ℕ)
-commandOf c r buffer = delivered (respond c r (length buffer)) buffer
+unfoldable pub command_of : List ℕ → List ℕ → List ℕ → ℕ × (List ℕ × List ℕ)
+command_of c r buffer = delivered (respond c r (length buffer)) buffer

@@ -1,17 +1,17 @@
 // A command, whole: SPEC 6.1.
 ghost use Rattle.std.specs.Prelude.{◌≡◌, true, ◌≤◌, length, drop};
-ghost use Rattle.card.specs.Layout.{isMember};
-ghost use Rattle.card.specs.Sound.{isSound};
-ghost use Rattle.reply.specs.Reply.{headSize};
-ghost use Rattle.admin.specs.Command.{askIn, perform, conclude, delivered, commandOf};
+ghost use Rattle.card.specs.Layout.{is_member};
+ghost use Rattle.card.specs.Sound.{is_sound};
+ghost use Rattle.reply.specs.Reply.{head_size};
+ghost use Rattle.admin.specs.Command.{ask_in, perform, conclude, delivered, command_of};
 
 use frame::Ask;
 use protocol::{Answer, ChangeOp, ReadOp};
 
 // Steps 2 to 7: what a request asks of this card.
 fn asked(card: &[u8], request: &[u8]) -> Ask
-    requires { isSound card.now ≡ true }
-    ensures { result ≡ askIn card.now request.now }
+    requires { is_sound card.now ≡ true }
+    ensures { result ≡ ask_in card.now request.now }
 {
     let s = card::setup_of(card);
     let ids = s.gets + s.sets;
@@ -32,7 +32,7 @@ fn from(request: &[u8], at: usize) -> &[u8]
 
 // Steps 8 to 12 of a command that reads a member.
 fn read_member(card: &[u8], m: u64, op: ReadOp, request: &[u8], reply: &mut [u8]) -> usize
-    requires { (isSound card.now ≡ true) × (isMember card.now m ≡ true) × (headSize ≤ length reply.old) }
+    requires { (is_sound card.now ≡ true) × (is_member card.now m ≡ true) × (head_size ≤ length reply.old) }
     ensures { (result, (card.now, reply.new)) ≡ delivered (conclude card.now (length reply.old) (perform card.now request.now (Ask.Read m op))) reply.old }
 {
     let bytes = card::member_bytes(card, m);
@@ -47,7 +47,7 @@ fn read_member(card: &[u8], m: u64, op: ReadOp, request: &[u8], reply: &mut [u8]
 
 // Steps 8 to 12 of a command that changes a member.
 fn change_member(card: &mut [u8], m: u64, op: ChangeOp, request: &[u8], reply: &mut [u8]) -> usize
-    requires { (isSound card.old ≡ true) × (isMember card.old m ≡ true) × (headSize ≤ length reply.old) }
+    requires { (is_sound card.old ≡ true) × (is_member card.old m ≡ true) × (head_size ≤ length reply.old) }
     ensures { (result, (card.new, reply.new)) ≡ delivered (conclude card.old (length reply.old) (perform card.old request.now (Ask.Change m op))) reply.old }
 {
     let s = card::setup_of(card);
@@ -65,7 +65,7 @@ fn change_member(card: &mut [u8], m: u64, op: ChangeOp, request: &[u8], reply: &
 
 // List use: always a success, since its reply is 8 bytes.
 fn use_list(card: &mut [u8], mask: u64, request: &[u8], reply: &mut [u8]) -> usize
-    requires { (isSound card.old ≡ true) × (headSize ≤ length reply.old) }
+    requires { (is_sound card.old ≡ true) × (head_size ≤ length reply.old) }
     ensures { (result, (card.new, reply.new)) ≡ delivered (conclude card.old (length reply.old) (perform card.old request.now (Ask.UseList mask))) reply.old }
 {
     card::set_in_use(card, mask);
@@ -74,7 +74,7 @@ fn use_list(card: &mut [u8], mask: u64, request: &[u8], reply: &mut [u8]) -> usi
 
 // One command, whole.
 pub fn command(card: &mut [u8], request: &[u8], reply: &mut [u8]) -> usize
-    ensures { (result, (card.new, reply.new)) ≡ commandOf card.old request.now reply.old }
+    ensures { (result, (card.new, reply.new)) ≡ command_of card.old request.now reply.old }
 {
     if reply.len() < reply::HEAD_SIZE {
         return 0;

@@ -2,10 +2,10 @@
 ghost use Rattle.std.specs.Prelude.{◌≡◌, List, ◌++◌, ℕ, ◌+◌, ◌*◌, ◌≤◌, ◌<◌, length};
 ghost use Rattle.theory.specs.Logic.{if◌then◌else◌};
 ghost use Rattle.theory.specs.Bytes.{bytes_at, put};
-ghost use Rattle.inventory.specs.Inventory.{row, valuesSize};
-ghost use Rattle.inventory.specs.Header.{headerSize, headerOf};
-ghost use Rattle.capture.specs.Capture.{Asked, headersOf, asks, partsWritten, captureOf, CaptureFits};
-ghost use Rattle.capture.specs.Runs.{largestValue, RunStarts, run_at, RunFits, run_of, Wrote};
+ghost use Rattle.inventory.specs.Inventory.{row, values_size};
+ghost use Rattle.inventory.specs.Header.{header_size, header_of};
+ghost use Rattle.capture.specs.Capture.{Asked, headers_of, asks, parts_written, capture_of, CaptureFits};
+ghost use Rattle.capture.specs.Runs.{largest_value, RunStarts, run_at, RunFits, run_of, Wrote};
 
 use inventory::{HEADER_SIZE, OFFSETS, ROWS, SELECTORS, SIZES, TYPES};
 use parts::ListForm;
@@ -17,8 +17,8 @@ const LARGEST_VALUE: usize = 32;
 
 // The headers of a member's parts, at the front of what is lent.
 pub fn write_headers(out: &mut [u8], queues: u8)
-    requires { length (headersOf queues) ≤ length out.old }
-    ensures { out.new ≡ put 0 (headersOf queues) out.old }
+    requires { length (headers_of queues) ≤ length out.old }
+    ensures { out.new ≡ put 0 (headers_of queues) out.old }
 {
     let types = TYPES;
     let selectors = SELECTORS;
@@ -38,7 +38,7 @@ pub fn write_headers(out: &mut [u8], queues: u8)
 
 pub fn headers_bytes(queues: u8) -> usize
     requires { queues < 5 }
-    ensures { result ≡ length (headersOf queues) }
+    ensures { result ≡ length (headers_of queues) }
 {
     HEADER_SIZE * (inventory::part_count(queues) as usize)
 }
@@ -56,8 +56,8 @@ fn write_part(
     size: u8,
     offset: u8,
 ) -> usize
-    requires { (size ≤ largestValue) × (offset + size ≤ length values.now) × (at + (headerSize + size) ≤ length out.old) }
-    ensures { Wrote (headerOf (row row_type row_selector size) ++ bytes_at offset size values.now) at out.old out.new result }
+    requires { (size ≤ largest_value) × (offset + size ≤ length values.now) × (at + (header_size + size) ≤ length out.old) }
+    ensures { Wrote (header_of (row row_type row_selector size) ++ bytes_at offset size values.now) at out.old out.new result }
 {
     let from = offset as usize;
     let len = size as usize;
@@ -126,7 +126,7 @@ fn write_run(
 // and the tables say the rest.
 pub fn write_all(out: &mut [u8], values: &[u8], queues: u8)
     requires { CaptureFits queues values.now out.old }
-    ensures { out.new ≡ put 0 (captureOf queues values.now) out.old }
+    ensures { out.new ≡ put 0 (capture_of queues values.now) out.old }
 {
     let n = queues as usize;
     let mut at = write_run(out, 0, values, 0, 1, run_at(0));
@@ -152,8 +152,8 @@ fn is_asked(queues: u8, asked: &[u8], row_type: u16, row_selector: u8) -> bool
 
 // Those parts in the order of the table, at the front of what is lent.
 pub fn write_asked(out: &mut [u8], values: &[u8], queues: u8, asked: &[u8])
-    requires { (length values.now ≡ valuesSize) × (length (partsWritten Asked queues asked.now values.now) ≤ length out.old) }
-    ensures { out.new ≡ put 0 (partsWritten Asked queues asked.now values.now) out.old }
+    requires { (length values.now ≡ values_size) × (length (parts_written Asked queues asked.now values.now) ≤ length out.old) }
+    ensures { out.new ≡ put 0 (parts_written Asked queues asked.now values.now) out.old }
 {
     let types = TYPES;
     let selectors = SELECTORS;
@@ -181,7 +181,7 @@ pub fn write_asked(out: &mut [u8], values: &[u8], queues: u8, asked: &[u8])
 
 // The bytes of this row's part, if it is asked for.
 fn asked_size(queues: u8, asked: &[u8], row_type: u16, row_selector: u8, size: u8) -> usize
-    ensures { result ≡ (if asks Asked queues asked.now (row row_type row_selector 0) then headerSize + size else 0) }
+    ensures { result ≡ (if asks Asked queues asked.now (row row_type row_selector 0) then header_size + size else 0) }
 {
     if !is_asked(queues, asked, row_type, row_selector) {
         return 0;
@@ -191,7 +191,7 @@ fn asked_size(queues: u8, asked: &[u8], row_type: u16, row_selector: u8, size: u
 
 // The bytes of the parts that a list asks for, whatever the values are.
 pub fn asked_bytes(queues: u8, asked: &[u8]) -> usize
-    ensures { (values : List ℕ) → length values ≡ valuesSize → result ≡ length (partsWritten Asked queues asked.now values) }
+    ensures { (values : List ℕ) → length values ≡ values_size → result ≡ length (parts_written Asked queues asked.now values) }
 {
     let types = TYPES;
     let selectors = SELECTORS;

@@ -8,113 +8,113 @@ use native.Mathlib.Omega.{arith}
 use lib.ListN.{length, take, drop, replicate, length-append, length-replicate}
 use lib.Seq.{take_all, take-take, take_at, drop_at}
 use Rattle.theory.specs.Bytes.{bytes_at, put}
-use Rattle.theory.proofs.Bytes.{length-put, put_all, put-append, put-within, length-bytesAt, bytesAt-bytesAt}
+use Rattle.theory.proofs.Bytes.{length-put, put_all, put-append, put-within, length-bytes_at, bytes_at-bytes_at}
 use Rattle.wire.specs.Le.{le, bytes, number}
 use Rattle.wire.proofs.Le.{length-bytes, le_bytes}
-use Rattle.member.specs.Record.{holdingSize, memberOf}
-use Rattle.card.specs.Layout.{configurationAt, configurationSize, generationAt, generationSize, holdingAt, recordSize, setupOf, inUseOf, recordAt, HasRecord, recordBytes, withRecordBytes, memberBytesIn, memberIn, configurationIn, generationIn, withConfiguration, noConfiguration, holdingIn}
+use Rattle.member.specs.Record.{holding_size, member_of}
+use Rattle.card.specs.Layout.{configuration_at, configuration_size, generation_at, generation_size, holding_at, record_size, setup_of, in_use_of, record_at, HasRecord, record_bytes, with_record_bytes, member_bytes_in, member_in, configuration_in, generation_in, with_configuration, no_configuration, holding_in}
 use Rattle.card.proofs.RecordBytesLaws.{length-with-bytes, setup-with-bytes, use-with-bytes, bytes_same, bytes_after, bytes-behind, bytes-other, bytes-long}
 
 -- the two together
-abbrev bothSize : ℕ
-bothSize = configurationSize + generationSize
+abbrev both_size : ℕ
+both_size = configuration_size + generation_size
 
-both_long : (x : List ℕ) (g : ℕ) → length x ≡ configurationSize → length (x ++ bytes generationSize g) ≡ bothSize
-both_long x g e = rw (length-append, e, length-bytes generationSize g)
+both_long : (x : List ℕ) (g : ℕ) → length x ≡ configuration_size → length (x ++ bytes generation_size g) ≡ both_size
+both_long x g e = rw (length-append, e, length-bytes generation_size g)
 
 module _ (c : List ℕ) (m : ℕ) (x : List ℕ) (g : ℕ) where
-  pub length-with-configuration : length (withConfiguration c m x g) ≡ length c
-  unfolding withConfiguration
-  length-with-configuration = length-with-bytes c m configurationAt bothSize _
+  pub length-with-configuration : length (with_configuration c m x g) ≡ length c
+  unfolding with_configuration
+  length-with-configuration = length-with-bytes c m configuration_at both_size _
 
-  pub setup-with-configuration : setupOf (withConfiguration c m x g) ≡ setupOf c
-  unfolding withConfiguration
-  setup-with-configuration = setup-with-bytes c m configurationAt bothSize _
+  pub setup-with-configuration : setup_of (with_configuration c m x g) ≡ setup_of c
+  unfolding with_configuration
+  setup-with-configuration = setup-with-bytes c m configuration_at both_size _
 
-  pub use-with-configuration : inUseOf (withConfiguration c m x g) ≡ inUseOf c
-  unfolding withConfiguration
-  use-with-configuration = use-with-bytes c m configurationAt bothSize _
+  pub use-with-configuration : in_use_of (with_configuration c m x g) ≡ in_use_of c
+  unfolding with_configuration
+  use-with-configuration = use-with-bytes c m configuration_at both_size _
 
   -- no member is touched, and no holding place
-  pub bytes-with-configuration : (k : ℕ) → 1 ≤ m → 1 ≤ k → memberBytesIn (withConfiguration c m x g) k ≡ memberBytesIn c k
-  unfolding withConfiguration
-  bytes-with-configuration k l h = bytes-behind c m configurationAt bothSize _ (omega arith) l (omega arith) k h
+  pub bytes-with-configuration : (k : ℕ) → 1 ≤ m → 1 ≤ k → member_bytes_in (with_configuration c m x g) k ≡ member_bytes_in c k
+  unfolding with_configuration
+  bytes-with-configuration k l h = bytes-behind c m configuration_at both_size _ (omega arith) l (omega arith) k h
 
-  pub member-with-configuration : (k : ℕ) → 1 ≤ m → 1 ≤ k → memberIn (withConfiguration c m x g) k ≡ memberIn c k
-  unfolding memberIn
-  member-with-configuration k l h = ap memberOf (bytes-with-configuration k l h)
+  pub member-with-configuration : (k : ℕ) → 1 ≤ m → 1 ≤ k → member_in (with_configuration c m x g) k ≡ member_in c k
+  unfolding member_in
+  member-with-configuration k l h = ap member_of (bytes-with-configuration k l h)
 
-  pub holding-with-configuration : holdingIn (withConfiguration c m x g) m ≡ holdingIn c m
-  unfolding withConfiguration holdingIn
-  holding-with-configuration = bytes_after c m configurationAt bothSize _ holdingAt holdingSize (omega arith)
+  pub holding-with-configuration : holding_in (with_configuration c m x g) m ≡ holding_in c m
+  unfolding with_configuration holding_in
+  holding-with-configuration = bytes_after c m configuration_at both_size _ holding_at holding_size (omega arith)
 
   -- both are there
-  module _ (h : HasRecord c m) (e : length x ≡ configurationSize) where
-    both-there : recordBytes (withConfiguration c m x g) m configurationAt bothSize ≡ x ++ bytes generationSize g
-    unfolding withConfiguration
-    both-there = bytes_same c m configurationAt bothSize _ h (omega arith) (both_long x g e)
+  module _ (h : HasRecord c m) (e : length x ≡ configuration_size) where
+    both-there : record_bytes (with_configuration c m x g) m configuration_at both_size ≡ x ++ bytes generation_size g
+    unfolding with_configuration
+    both-there = bytes_same c m configuration_at both_size _ h (omega arith) (both_long x g e)
 
-    pub configuration-same : configurationIn (withConfiguration c m x g) m ≡ x
-    unfolding configurationIn recordBytes
+    pub configuration-same : configuration_in (with_configuration c m x g) m ≡ x
+    unfolding configuration_in record_bytes
     configuration-same =
-        sym (take-take configurationSize bothSize (drop (recordAt m + configurationAt) (withConfiguration c m x g)) (omega arith))
-        ∙ ap (take configurationSize) both-there ∙ take_at x (bytes generationSize g) configurationSize e
+        sym (take-take configuration_size both_size (drop (record_at m + configuration_at) (with_configuration c m x g)) (omega arith))
+        ∙ ap (take configuration_size) both-there ∙ take_at x (bytes generation_size g) configuration_size e
 
-    pub generation-same : g < 256 ^ 4 → generationIn (withConfiguration c m x g) m ≡ g
-    unfolding generationIn recordBytes
+    pub generation-same : g < 256 ^ 4 → generation_in (with_configuration c m x g) m ≡ g
+    unfolding generation_in record_bytes
     generation-same l =
-        let k : recordAt m + configurationAt + configurationSize ≡ recordAt m + generationAt = omega arith in
-        let w = bytesAt-bytesAt configurationSize generationSize (recordAt m + configurationAt) bothSize (withConfiguration c m x g) (omega arith) in
-        ap le (sym (rw k at w) ∙ ap (bytes_at configurationSize generationSize) both-there
-        ∙ rw (drop_at x (bytes generationSize g) configurationSize e) (take_all generationSize (bytes generationSize g) (omega (arith, length-bytes generationSize g))))
-        ∙ le_bytes generationSize g l
+        let k : record_at m + configuration_at + configuration_size ≡ record_at m + generation_at = omega arith in
+        let w = bytes_at-bytes_at configuration_size generation_size (record_at m + configuration_at) both_size (with_configuration c m x g) (omega arith) in
+        ap le (sym (rw k at w) ∙ ap (bytes_at configuration_size generation_size) both-there
+        ∙ rw (drop_at x (bytes generation_size g) configuration_size e) (take_all generation_size (bytes generation_size g) (omega (arith, length-bytes generation_size g))))
+        ∙ le_bytes generation_size g l
 
   -- any bytes of another record
-  pub configuration-apart : (k at n : ℕ) → at + n ≤ recordSize → 1 ≤ m → 1 ≤ k → k ≢ m → recordBytes (withConfiguration c m x g) k at n ≡ recordBytes c k at n
-  unfolding withConfiguration
-  configuration-apart k at n i l h e = bytes-other c m configurationAt bothSize _ (omega arith) l k at n i h e
+  pub configuration-apart : (k at n : ℕ) → at + n ≤ record_size → 1 ≤ m → 1 ≤ k → k ≢ m → record_bytes (with_configuration c m x g) k at n ≡ record_bytes c k at n
+  unfolding with_configuration
+  configuration-apart k at n i l h e = bytes-other c m configuration_at both_size _ (omega arith) l k at n i h e
 
 -- ---- as code reads and writes them, from the place of the record ----
 
 module _ (c : List ℕ) (m : ℕ) where
-  pub configuration-long : HasRecord c m → length (configurationIn c m) ≡ configurationSize
-  unfolding configurationIn
-  configuration-long h = bytes-long c m configurationAt configurationSize h (omega arith)
+  pub configuration-long : HasRecord c m → length (configuration_in c m) ≡ configuration_size
+  unfolding configuration_in
+  configuration-long h = bytes-long c m configuration_at configuration_size h (omega arith)
 
-  module _ (p : ℕ) (d : p ≡ recordAt m) where
-    pub generation-read : (r : ℕ) → r ≡ number (p + generationAt) generationSize c → r ≡ generationIn c m
-    unfolding generationIn recordBytes number
+  module _ (p : ℕ) (d : p ≡ record_at m) where
+    pub generation-read : (r : ℕ) → r ≡ number (p + generation_at) generation_size c → r ≡ generation_in c m
+    unfolding generation_in record_bytes number
     generation-read r q = q ∙ rw d
 
-    module _ (at : ℕ) (e : at ≡ p + configurationAt) where
-      place : at ≡ recordAt m + configurationAt
+    module _ (at : ℕ) (e : at ≡ p + configuration_at) where
+      place : at ≡ record_at m + configuration_at
       place = rw (e, d)
 
-      pub configuration-lent : bytes_at at (at + configurationSize - at) c ≡ configurationIn c m
-      unfolding configurationIn recordBytes
-      configuration-lent = rw (add-sub_cancel_left at configurationSize, place)
+      pub configuration-lent : bytes_at at (at + configuration_size - at) c ≡ configuration_in c m
+      unfolding configuration_in record_bytes
+      configuration-lent = rw (add-sub_cancel_left at configuration_size, place)
 
       -- bytes were written from a place in it on, and then the generation
-      pub configuration-written : (from : ℕ) (x q r : List ℕ) (g : ℕ) → from + length x ≤ configurationSize → HasRecord c m → q ≡ put (at + from) x c
-          → r ≡ put (at + configurationSize) (bytes generationSize g) q → r ≡ withConfiguration c m (put from x (configurationIn c m)) g
-      unfolding withConfiguration configurationIn withRecordBytes recordBytes
+      pub configuration-written : (from : ℕ) (x q r : List ℕ) (g : ℕ) → from + length x ≤ configuration_size → HasRecord c m → q ≡ put (at + from) x c
+          → r ≡ put (at + configuration_size) (bytes generation_size g) q → r ≡ with_configuration c m (put from x (configuration_in c m)) g
+      unfolding with_configuration configuration_in with_record_bytes record_bytes
       configuration-written from x q r g i h a b =
-          let l = recordAt m + configurationAt in
-          let y = put from x (bytes_at l configurationSize c) in
-          let n : length y ≡ configurationSize = rw length-put (length-bytesAt l configurationSize c (omega (arith, h.high))) in
-          let k : l + length y ≡ l + configurationSize = ap (l +◌) n in
+          let l = record_at m + configuration_at in
+          let y = put from x (bytes_at l configuration_size c) in
+          let n : length y ≡ configuration_size = rw length-put (length-bytes_at l configuration_size c (omega (arith, h.high))) in
+          let k : l + length y ≡ l + configuration_size = ap (l +◌) n in
           b ∙ rw (
             a,
             place,
-            take_all bothSize (y ++ bytes generationSize g) (omega (arith, both_long y g n)),
-            put-append l y (bytes generationSize g) c,
+            take_all both_size (y ++ bytes generation_size g) (omega (arith, both_long y g n)),
+            put-append l y (bytes generation_size g) c,
             k,
-            put-within l configurationSize from x c i (omega (arith, h.high)),
+            put-within l configuration_size from x c i (omega (arith, h.high)),
           )
 
 -- zeros were written over all of it
 pub configuration-zeroed : (c d : List ℕ) (m g : ℕ) → HasRecord c m
-    → d ≡ withConfiguration c m (put 0 (replicate configurationSize 0) (configurationIn c m)) g → d ≡ withConfiguration c m noConfiguration g
-unfolding noConfiguration
+    → d ≡ with_configuration c m (put 0 (replicate configuration_size 0) (configuration_in c m)) g → d ≡ with_configuration c m no_configuration g
+unfolding no_configuration
 configuration-zeroed c d m g h q =
-    q ∙ rw (put_all (replicate configurationSize 0) (configurationIn c m) (length-replicate {A = ℕ} configurationSize 0 ∙ sym (configuration-long c m h)))
+    q ∙ rw (put_all (replicate configuration_size 0) (configuration_in c m) (length-replicate {A = ℕ} configuration_size 0 ∙ sym (configuration-long c m h)))

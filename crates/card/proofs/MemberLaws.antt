@@ -7,90 +7,90 @@ use native.Mathlib.Omega.{arith}
 use lib.ListN.{length, get_or, take, length-take}
 use lib.Seq.{get_or-take}
 use Rattle.theory.specs.Bytes.{put}
-use Rattle.theory.proofs.Bytes.{bytesAt-put, getD-bytesAt}
+use Rattle.theory.proofs.Bytes.{bytes_at-put, get_or-bytes_at}
 use Rattle.member.specs.declared.Member.{Member}
-use Rattle.member.specs.Record.{memberSize, holdingSize, memberOf, memberBytes}
+use Rattle.member.specs.Record.{member_size, holding_size, member_of, member_bytes}
 use Rattle.member.proofs.Record.{Shaped, length-member, member_back}
-use Rattle.card.specs.Layout.{memberBytesAt, holdingAt, setupOf, inUseOf, HasRecord, memberBytesIn, memberIn, withMember, holdingIn, withHolding, recordAt, recordBytes, withRecordBytes}
+use Rattle.card.specs.Layout.{member_bytes_at, holding_at, setup_of, in_use_of, HasRecord, member_bytes_in, member_in, with_member, holding_in, with_holding, record_at, record_bytes, with_record_bytes}
 use Rattle.card.proofs.RecordBytesLaws.{length-with-bytes, setup-with-bytes, use-with-bytes, bytes_same, bytes-over, bytes_after, bytes_apart, bytes-other, bytes-behind}
 
 -- ---- a member ----
 
 module _ (c : List ℕ) (m : ℕ) (x : Member) where
-  pub length-with-member : length (withMember c m x) ≡ length c
-  unfolding withMember
-  length-with-member = length-with-bytes c m memberBytesAt memberSize (memberBytes x)
+  pub length-with-member : length (with_member c m x) ≡ length c
+  unfolding with_member
+  length-with-member = length-with-bytes c m member_bytes_at member_size (member_bytes x)
 
-  pub setup-with-member : setupOf (withMember c m x) ≡ setupOf c
-  unfolding withMember
-  setup-with-member = setup-with-bytes c m memberBytesAt memberSize (memberBytes x)
+  pub setup-with-member : setup_of (with_member c m x) ≡ setup_of c
+  unfolding with_member
+  setup-with-member = setup-with-bytes c m member_bytes_at member_size (member_bytes x)
 
-  pub use-with-member : inUseOf (withMember c m x) ≡ inUseOf c
-  unfolding withMember
-  use-with-member = use-with-bytes c m memberBytesAt memberSize (memberBytes x)
+  pub use-with-member : in_use_of (with_member c m x) ≡ in_use_of c
+  unfolding with_member
+  use-with-member = use-with-bytes c m member_bytes_at member_size (member_bytes x)
 
-  pub member-same : HasRecord c m → Shaped x → memberIn (withMember c m x) m ≡ x
-  unfolding withMember memberIn
-  member-same h s = ap memberOf (bytes_same c m memberBytesAt memberSize (memberBytes x) h (omega arith) (length-member x s)) ∙ member_back x s
+  pub member-same : HasRecord c m → Shaped x → member_in (with_member c m x) m ≡ x
+  unfolding with_member member_in
+  member-same h s = ap member_of (bytes_same c m member_bytes_at member_size (member_bytes x) h (omega arith) (length-member x s)) ∙ member_back x s
 
-  pub member-other : (k : ℕ) → 1 ≤ m → 1 ≤ k → k ≢ m → memberIn (withMember c m x) k ≡ memberIn c k
-  unfolding withMember memberIn
-  member-other k l h e = ap memberOf (bytes-other c m memberBytesAt memberSize (memberBytes x) (omega arith) l k memberBytesAt memberSize (omega arith) h e)
+  pub member-other : (k : ℕ) → 1 ≤ m → 1 ≤ k → k ≢ m → member_in (with_member c m x) k ≡ member_in c k
+  unfolding with_member member_in
+  member-other k l h e = ap member_of (bytes-other c m member_bytes_at member_size (member_bytes x) (omega arith) l k member_bytes_at member_size (omega arith) h e)
 
   -- a byte of it, of any member
-  pub member-byte : (i : ℕ) → HasRecord c m → i < memberSize → i < length (memberBytes x)
-      → get_or (memberBytesIn (withMember c m x) m) i 0 ≡ get_or (memberBytes x) i 0
-  unfolding withMember recordBytes withRecordBytes
+  pub member-byte : (i : ℕ) → HasRecord c m → i < member_size → i < length (member_bytes x)
+      → get_or (member_bytes_in (with_member c m x) m) i 0 ≡ get_or (member_bytes x) i 0
+  unfolding with_member record_bytes with_record_bytes
   member-byte i h j l =
-      let a = recordAt m + memberBytesAt in
-      let y = take memberSize (memberBytes x) in
-      let n = length-take memberSize (memberBytes x) in
-      getD-bytesAt a memberSize i (put a y c) j ∙ sym (getD-bytesAt a (length y) i (put a y c) (omega arith))
-      ∙ ap (λ z. get_or z i 0) (bytesAt-put a y c (omega (arith, h.high)))
-      ∙ get_or-take memberSize (memberBytes x) i 0 j
+      let a = record_at m + member_bytes_at in
+      let y = take member_size (member_bytes x) in
+      let n = length-take member_size (member_bytes x) in
+      get_or-bytes_at a member_size i (put a y c) j ∙ sym (get_or-bytes_at a (length y) i (put a y c) (omega arith))
+      ∙ ap (λ z. get_or z i 0) (bytes_at-put a y c (omega (arith, h.high)))
+      ∙ get_or-take member_size (member_bytes x) i 0 j
 
   -- the member that is put last stands
-  pub member-over : (y : Member) → Shaped y → withMember (withMember c m x) m y ≡ withMember c m y
-  unfolding withMember
-  member-over y s = bytes-over c m memberBytesAt memberSize (memberBytes x) memberBytesAt memberSize (memberBytes y) (omega arith) (omega arith) (length-member y s)
+  pub member-over : (y : Member) → Shaped y → with_member (with_member c m x) m y ≡ with_member c m y
+  unfolding with_member
+  member-over y s = bytes-over c m member_bytes_at member_size (member_bytes x) member_bytes_at member_size (member_bytes y) (omega arith) (omega arith) (length-member y s)
 
 -- ---- the bytes of a holding place ----
 
-pub holding-with-member : (c : List ℕ) (m : ℕ) (x : Member) → holdingIn (withMember c m x) m ≡ holdingIn c m
-unfolding withMember holdingIn
-holding-with-member c m x = bytes_after c m memberBytesAt memberSize (memberBytes x) holdingAt holdingSize (omega arith)
+pub holding-with-member : (c : List ℕ) (m : ℕ) (x : Member) → holding_in (with_member c m x) m ≡ holding_in c m
+unfolding with_member holding_in
+holding-with-member c m x = bytes_after c m member_bytes_at member_size (member_bytes x) holding_at holding_size (omega arith)
 
 module _ (c : List ℕ) (m : ℕ) (x : List ℕ) where
-  pub length-with-holding : length (withHolding c m x) ≡ length c
-  unfolding withHolding
-  length-with-holding = length-with-bytes c m holdingAt holdingSize x
+  pub length-with-holding : length (with_holding c m x) ≡ length c
+  unfolding with_holding
+  length-with-holding = length-with-bytes c m holding_at holding_size x
 
-  pub setup-with-holding : setupOf (withHolding c m x) ≡ setupOf c
-  unfolding withHolding
-  setup-with-holding = setup-with-bytes c m holdingAt holdingSize x
+  pub setup-with-holding : setup_of (with_holding c m x) ≡ setup_of c
+  unfolding with_holding
+  setup-with-holding = setup-with-bytes c m holding_at holding_size x
 
-  pub use-with-holding : inUseOf (withHolding c m x) ≡ inUseOf c
-  unfolding withHolding
-  use-with-holding = use-with-bytes c m holdingAt holdingSize x
+  pub use-with-holding : in_use_of (with_holding c m x) ≡ in_use_of c
+  unfolding with_holding
+  use-with-holding = use-with-bytes c m holding_at holding_size x
 
   -- no member is touched
-  pub bytes-with-holding : (k : ℕ) → 1 ≤ m → 1 ≤ k → memberBytesIn (withHolding c m x) k ≡ memberBytesIn c k
-  unfolding withHolding
-  bytes-with-holding k l h = bytes-behind c m holdingAt holdingSize x (omega arith) l (omega arith) k h
+  pub bytes-with-holding : (k : ℕ) → 1 ≤ m → 1 ≤ k → member_bytes_in (with_holding c m x) k ≡ member_bytes_in c k
+  unfolding with_holding
+  bytes-with-holding k l h = bytes-behind c m holding_at holding_size x (omega arith) l (omega arith) k h
 
-  pub member-with-holding : (k : ℕ) → 1 ≤ m → 1 ≤ k → memberIn (withHolding c m x) k ≡ memberIn c k
-  unfolding memberIn
-  member-with-holding k l h = ap memberOf (bytes-with-holding k l h)
+  pub member-with-holding : (k : ℕ) → 1 ≤ m → 1 ≤ k → member_in (with_holding c m x) k ≡ member_in c k
+  unfolding member_in
+  member-with-holding k l h = ap member_of (bytes-with-holding k l h)
 
-  pub holding-same : HasRecord c m → length x ≡ holdingSize → holdingIn (withHolding c m x) m ≡ x
-  unfolding withHolding holdingIn
-  holding-same h e = bytes_same c m holdingAt holdingSize x h (omega arith) e
+  pub holding-same : HasRecord c m → length x ≡ holding_size → holding_in (with_holding c m x) m ≡ x
+  unfolding with_holding holding_in
+  holding-same h e = bytes_same c m holding_at holding_size x h (omega arith) e
 
-  pub holding-over : (y : List ℕ) → length y ≡ holdingSize → withHolding (withHolding c m x) m y ≡ withHolding c m y
-  unfolding withHolding
-  holding-over y e = bytes-over c m holdingAt holdingSize x holdingAt holdingSize y (omega arith) (omega arith) e
+  pub holding-over : (y : List ℕ) → length y ≡ holding_size → with_holding (with_holding c m x) m y ≡ with_holding c m y
+  unfolding with_holding
+  holding-over y e = bytes-over c m holding_at holding_size x holding_at holding_size y (omega arith) (omega arith) e
 
   -- a member is put before or after
-  pub holding-swap : (y : Member) → withMember (withHolding c m x) m y ≡ withHolding (withMember c m y) m x
-  unfolding withHolding withMember
-  holding-swap y = bytes_apart c m memberBytesAt memberSize (memberBytes y) holdingAt holdingSize x (omega arith)
+  pub holding-swap : (y : Member) → with_member (with_holding c m x) m y ≡ with_holding (with_member c m y) m x
+  unfolding with_holding with_member
+  holding-swap y = bytes_apart c m member_bytes_at member_size (member_bytes y) holding_at holding_size x (omega arith)

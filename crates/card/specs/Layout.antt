@@ -4,9 +4,9 @@ use Rattle.std.specs.Prelude.{Bool, List, [], ◌∷◌, ◌++◌, ℕ, zero, su
 use Rattle.theory.specs.Logic.{if◌then◌else◌, ◌and◌, within}
 use Rattle.theory.specs.Bytes.{bytes_at, put}
 use Rattle.wire.specs.Le.{le, bytes, number}
-use Rattle.protocol.specs.Opcodes.{freshMask}
+use Rattle.protocol.specs.Opcodes.{fresh_mask}
 use Rattle.member.specs.declared.Member.{Member}
-use Rattle.member.specs.Record.{memberSize, holdingSize, memberOf, memberBytes}
+use Rattle.member.specs.Record.{member_size, holding_size, member_of, member_bytes}
 use Rattle.member.specs.Member.{fresh_of}
 use Rattle.card.specs.declared.Setup.{Setup}
 
@@ -15,144 +15,144 @@ abbrev pub version : ℕ
 version = 5
 
 -- header: N, G, S 1 byte each, device features 16, list in use 8
-abbrev pub featuresAt : ℕ
-featuresAt = 3
+abbrev pub features_at : ℕ
+features_at = 3
 
-abbrev pub inUseAt : ℕ
-inUseAt = 19
+abbrev pub in_use_at : ℕ
+in_use_at = 19
 
-abbrev pub cardHeaderSize : ℕ
-cardHeaderSize = 27
+abbrev pub card_header_size : ℕ
+card_header_size = 27
 
 -- a record: the bytes of its member, its configuration and generation (02, request 3), the bytes of its holding place
-abbrev pub memberBytesAt : ℕ
-memberBytesAt = 0
+abbrev pub member_bytes_at : ℕ
+member_bytes_at = 0
 
-abbrev pub configurationAt : ℕ
-configurationAt = memberBytesAt + memberSize
+abbrev pub configuration_at : ℕ
+configuration_at = member_bytes_at + member_size
 
-abbrev pub configurationSize : ℕ
-configurationSize = 12
+abbrev pub configuration_size : ℕ
+configuration_size = 12
 
-abbrev pub generationAt : ℕ
-generationAt = configurationAt + configurationSize
+abbrev pub generation_at : ℕ
+generation_at = configuration_at + configuration_size
 
-abbrev pub generationSize : ℕ
-generationSize = 4
+abbrev pub generation_size : ℕ
+generation_size = 4
 
-abbrev pub holdingAt : ℕ
-holdingAt = generationAt + generationSize
+abbrev pub holding_at : ℕ
+holding_at = generation_at + generation_size
 
-abbrev pub recordSize : ℕ
-recordSize = holdingAt + holdingSize
+abbrev pub record_size : ℕ
+record_size = holding_at + holding_size
 
-abbrev pub cardSize : ℕ → ℕ
-cardSize members = cardHeaderSize + recordSize * members
+abbrev pub card_size : ℕ → ℕ
+card_size members = card_header_size + record_size * members
 
 -- the exact length of a card's buffer; 0 where there is no such card
-unfoldable pub cardBytes : ℕ → ℕ
-cardBytes members = if within 1 16 members then cardSize members else 0
+unfoldable pub card_bytes : ℕ → ℕ
+card_bytes members = if within 1 16 members then card_size members else 0
 
-unfoldable pub setupIn : List ℕ → Setup
-setupIn h =
-    record { members = get_or h 0 0; gets = get_or h 1 0; sets = get_or h 2 0; features = drop featuresAt h }
+unfoldable pub setup_in : List ℕ → Setup
+setup_in h =
+    record { members = get_or h 0 0; gets = get_or h 1 0; sets = get_or h 2 0; features = drop features_at h }
 
-unfoldable pub setupOf : List ℕ → Setup
-setupOf c = setupIn (bytes_at 0 inUseAt c)
+unfoldable pub setup_of : List ℕ → Setup
+setup_of c = setup_in (bytes_at 0 in_use_at c)
 
 -- the list of commands in use
-unfoldable pub inUseOf : List ℕ → ℕ
-inUseOf c = number inUseAt 8 c
+unfoldable pub in_use_of : List ℕ → ℕ
+in_use_of c = number in_use_at 8 c
 
-unfoldable pub withInUse : List ℕ → ℕ → List ℕ
-withInUse c mask = put inUseAt (bytes 8 mask) c
+unfoldable pub with_in_use : List ℕ → ℕ → List ℕ
+with_in_use c mask = put in_use_at (bytes 8 mask) c
 
 -- members are identified 1 to N
-abbrev pub isMember : List ℕ → ℕ → Bool
-isMember c m = within 1 (setupOf c).members m
+abbrev pub is_member : List ℕ → ℕ → Bool
+is_member c m = within 1 (setup_of c).members m
 
-abbrev pub recordAt : ℕ → ℕ
-recordAt m = cardHeaderSize + recordSize * (m - 1)
+abbrev pub record_at : ℕ → ℕ
+record_at m = card_header_size + record_size * (m - 1)
 
 -- the bytes of member m's record are all there
 pub record HasRecord (c : List ℕ) (m : ℕ) : Type 0 where
   pub low : 1 ≤ m
-  pub high : recordAt m + recordSize ≤ length c
+  pub high : record_at m + record_size ≤ length c
 
 -- n bytes of member m's record, from an offset; what is put there is cut to their number
-unfoldable pub recordBytes : List ℕ → ℕ → ℕ → ℕ → List ℕ
-recordBytes c m at n = bytes_at (recordAt m + at) n c
+unfoldable pub record_bytes : List ℕ → ℕ → ℕ → ℕ → List ℕ
+record_bytes c m at n = bytes_at (record_at m + at) n c
 
-unfoldable pub withRecordBytes : List ℕ → ℕ → ℕ → ℕ → List ℕ → List ℕ
-withRecordBytes c m at n x = put (recordAt m + at) (take n x) c
+unfoldable pub with_record_bytes : List ℕ → ℕ → ℕ → ℕ → List ℕ → List ℕ
+with_record_bytes c m at n x = put (record_at m + at) (take n x) c
 
 -- member m
-abbrev pub memberBytesIn : List ℕ → ℕ → List ℕ
-memberBytesIn c m = recordBytes c m memberBytesAt memberSize
+abbrev pub member_bytes_in : List ℕ → ℕ → List ℕ
+member_bytes_in c m = record_bytes c m member_bytes_at member_size
 
-unfoldable pub memberIn : List ℕ → ℕ → Member
-memberIn c m = memberOf (memberBytesIn c m)
+unfoldable pub member_in : List ℕ → ℕ → Member
+member_in c m = member_of (member_bytes_in c m)
 
-unfoldable pub withMember : List ℕ → ℕ → Member → List ℕ
-withMember c m x = withRecordBytes c m memberBytesAt memberSize (memberBytes x)
+unfoldable pub with_member : List ℕ → ℕ → Member → List ℕ
+with_member c m x = with_record_bytes c m member_bytes_at member_size (member_bytes x)
 
 -- the queue counts of n members from m on, and of all members (02, request 9)
-unfoldable pub countsFrom : List ℕ → ℕ → ℕ → List ℕ
-countsFrom c m zero = []
-countsFrom c m (suc n) = (memberIn c m).queues ∷ countsFrom c (suc m) n
+unfoldable pub counts_from : List ℕ → ℕ → ℕ → List ℕ
+counts_from c m zero = []
+counts_from c m (suc n) = (member_in c m).queues ∷ counts_from c (suc m) n
 
-unfoldable pub countsOf : List ℕ → List ℕ
-countsOf c = countsFrom c 1 (setupOf c).members
+unfoldable pub counts_of : List ℕ → List ℕ
+counts_of c = counts_from c 1 (setup_of c).members
 
 -- member m is marked (02's term, request 10): it is handed back and not yet wiped
-unfoldable pub isMarked : List ℕ → ℕ → Bool
-isMarked c m = isMember c m and (memberIn c m).marked
+unfoldable pub is_marked : List ℕ → ℕ → Bool
+is_marked c m = is_member c m and (member_in c m).marked
 
 -- the configuration of member m, and how often it was written (02, request 3); a message writes both
-unfoldable pub configurationIn : List ℕ → ℕ → List ℕ
-configurationIn c m = recordBytes c m configurationAt configurationSize
+unfoldable pub configuration_in : List ℕ → ℕ → List ℕ
+configuration_in c m = record_bytes c m configuration_at configuration_size
 
-unfoldable pub generationIn : List ℕ → ℕ → ℕ
-generationIn c m = le (recordBytes c m generationAt generationSize)
+unfoldable pub generation_in : List ℕ → ℕ → ℕ
+generation_in c m = le (record_bytes c m generation_at generation_size)
 
-unfoldable pub withConfiguration : List ℕ → ℕ → List ℕ → ℕ → List ℕ
-withConfiguration c m x generation =
-    withRecordBytes c m configurationAt (configurationSize + generationSize) (x ++ bytes generationSize generation)
+unfoldable pub with_configuration : List ℕ → ℕ → List ℕ → ℕ → List ℕ
+with_configuration c m x generation =
+    with_record_bytes c m configuration_at (configuration_size + generation_size) (x ++ bytes generation_size generation)
 
-unfoldable pub noConfiguration : List ℕ
-noConfiguration = replicate configurationSize 0
+unfoldable pub no_configuration : List ℕ
+no_configuration = replicate configuration_size 0
 
 -- the bytes of member m's holding place; those of none are all zero
-unfoldable pub holdingIn : List ℕ → ℕ → List ℕ
-holdingIn c m = recordBytes c m holdingAt holdingSize
+unfoldable pub holding_in : List ℕ → ℕ → List ℕ
+holding_in c m = record_bytes c m holding_at holding_size
 
-unfoldable pub withHolding : List ℕ → ℕ → List ℕ → List ℕ
-withHolding c m x = withRecordBytes c m holdingAt holdingSize x
+unfoldable pub with_holding : List ℕ → ℕ → List ℕ → List ℕ
+with_holding c m x = with_record_bytes c m holding_at holding_size x
 
-unfoldable pub noBytes : List ℕ
-noBytes = replicate holdingSize 0
+unfoldable pub no_bytes : List ℕ
+no_bytes = replicate holding_size 0
 
 -- the record of member x with a generation that is given, and zeros in the rest
-unfoldable pub recordOf : Member → ℕ → List ℕ
-recordOf x generation = memberBytes x ++ (noConfiguration ++ (bytes generationSize generation ++ noBytes))
+unfoldable pub record_of : Member → ℕ → List ℕ
+record_of x generation = member_bytes x ++ (no_configuration ++ (bytes generation_size generation ++ no_bytes))
 
-unfoldable pub withRecord : List ℕ → ℕ → Member → ℕ → List ℕ
-withRecord c m x generation = withRecordBytes c m 0 recordSize (recordOf x generation)
+unfoldable pub with_record : List ℕ → ℕ → Member → ℕ → List ℕ
+with_record c m x generation = with_record_bytes c m 0 record_size (record_of x generation)
 
 -- that of a fresh member; no reset changes a queue count (02, request 9)
-abbrev pub freshRecord : ℕ → List ℕ → ℕ → List ℕ
-freshRecord queues features generation = recordOf (fresh_of queues features) generation
+abbrev pub fresh_record : ℕ → List ℕ → ℕ → List ℕ
+fresh_record queues features generation = record_of (fresh_of queues features) generation
 
-abbrev pub withFresh : List ℕ → ℕ → List ℕ → ℕ → List ℕ
-withFresh c m features generation = withRecord c m (fresh_of (memberIn c m).queues features) generation
+abbrev pub with_fresh : List ℕ → ℕ → List ℕ → ℕ → List ℕ
+with_fresh c m features generation = with_record c m (fresh_of (member_in c m).queues features) generation
 
 -- fresh (01's term), SPEC 2.5: opcodes 0x00 and 0x01 are in use, and every member is fresh, with its own queue count
-unfoldable pub freshHeader : Setup → List ℕ
-freshHeader s = (s.members ∷ s.gets ∷ s.sets ∷ s.features) ++ bytes 8 freshMask
+unfoldable pub fresh_header : Setup → List ℕ
+fresh_header s = (s.members ∷ s.gets ∷ s.sets ∷ s.features) ++ bytes 8 fresh_mask
 
-unfoldable pub freshRecords : List ℕ → ℕ → List ℕ → List ℕ
-freshRecords features generation [] = []
-freshRecords features generation (q ∷ counts) = freshRecord q features generation ++ freshRecords features generation counts
+unfoldable pub fresh_records : List ℕ → ℕ → List ℕ → List ℕ
+fresh_records features generation [] = []
+fresh_records features generation (q ∷ counts) = fresh_record q features generation ++ fresh_records features generation counts
 
-unfoldable pub freshCard : Setup → List ℕ → ℕ → List ℕ
-freshCard s counts generation = freshHeader s ++ freshRecords s.features generation counts
+unfoldable pub fresh_card : Setup → List ℕ → ℕ → List ℕ
+fresh_card s counts generation = fresh_header s ++ fresh_records s.features generation counts

@@ -3,9 +3,9 @@ mod sound;
 
 ghost use Rattle.std.specs.Prelude.{◌≡◌, ◌+◌, ◌^◌, ◌≤◌, ◌<◌, length};
 ghost use Rattle.theory.specs.Bytes.{put};
-ghost use Rattle.member.specs.Record.{holdingSize};
-ghost use Rattle.card.specs.Layout.{cardHeaderSize, cardSize, cardBytes, setupOf, inUseOf, withInUse, isMember, recordAt, HasRecord, memberBytesIn, memberIn, withMember, isMarked, configurationSize, configurationIn, generationIn, withConfiguration, noConfiguration, holdingIn, withHolding, noBytes, withRecord, withFresh};
-ghost use Rattle.card.specs.Sound.{isSound};
+ghost use Rattle.member.specs.Record.{holding_size};
+ghost use Rattle.card.specs.Layout.{card_header_size, card_size, card_bytes, setup_of, in_use_of, with_in_use, is_member, record_at, HasRecord, member_bytes_in, member_in, with_member, is_marked, configuration_size, configuration_in, generation_in, with_configuration, no_configuration, holding_in, with_holding, no_bytes, with_record, with_fresh};
+ghost use Rattle.card.specs.Sound.{is_sound};
 
 use member::{FEATURES_SIZE, HOLDING_SIZE, MEMBER_SIZE, Member};
 
@@ -60,7 +60,7 @@ fn wide(b: u8) -> u64
 
 // The exact length of a card in bytes, 0 if there is none with so many members.
 pub fn card_bytes(members: u64) -> usize
-    ensures { result ≡ cardBytes members }
+    ensures { result ≡ card_bytes members }
 {
     if members < 1 {
         return 0;
@@ -73,8 +73,8 @@ pub fn card_bytes(members: u64) -> usize
 
 // The setup that a card's header holds.
 pub fn setup_of(card: &[u8]) -> Setup
-    requires { cardHeaderSize ≤ length card.now }
-    ensures { result ≡ setupOf card.now }
+    requires { card_header_size ≤ length card.now }
+    ensures { result ≡ setup_of card.now }
 {
     let mut features = [0u8; FEATURES_SIZE];
     wire::copy(&mut features, 0, &card[FEATURES_AT..IN_USE_AT]);
@@ -88,23 +88,23 @@ pub fn setup_of(card: &[u8]) -> Setup
 
 // The list of commands in use.
 pub fn in_use(card: &[u8]) -> u64
-    requires { cardHeaderSize ≤ length card.now }
-    ensures { result ≡ inUseOf card.now }
+    requires { card_header_size ≤ length card.now }
+    ensures { result ≡ in_use_of card.now }
 {
     wire::read_u64(card, IN_USE_AT)
 }
 
 pub fn set_in_use(card: &mut [u8], mask: u64)
-    requires { cardHeaderSize ≤ length card.old }
-    ensures { card.new ≡ withInUse card.old mask }
+    requires { card_header_size ≤ length card.old }
+    ensures { card.new ≡ with_in_use card.old mask }
 {
     wire::write(card, IN_USE_AT, 8, mask);
 }
 
 // Members are identified 1 to N.
 pub fn is_member(card: &[u8], m: u64) -> bool
-    requires { cardHeaderSize ≤ length card.now }
-    ensures { result ≡ isMember card.now m }
+    requires { card_header_size ≤ length card.now }
+    ensures { result ≡ is_member card.now m }
 {
     if m < 1 {
         return false;
@@ -114,8 +114,8 @@ pub fn is_member(card: &[u8], m: u64) -> bool
 
 // The place of member m's record.
 fn record_at(m: u64) -> usize
-    requires { (1 ≤ m) × (recordAt m < 2 ^ 64) }
-    ensures { result ≡ recordAt m }
+    requires { (1 ≤ m) × (record_at m < 2 ^ 64) }
+    ensures { result ≡ record_at m }
 {
     CARD_HEADER_SIZE + RECORD_SIZE * (m as usize - 1)
 }
@@ -123,7 +123,7 @@ fn record_at(m: u64) -> usize
 // The bytes of member m, where they stand.
 pub fn member_bytes(card: &[u8], m: u64) -> &[u8]
     requires { HasRecord card.now m }
-    ensures { result.now ≡ memberBytesIn card.now m }
+    ensures { result.now ≡ member_bytes_in card.now m }
 {
     let at = record_at(m);
     &card[at..at + MEMBER_SIZE]
@@ -132,14 +132,14 @@ pub fn member_bytes(card: &[u8], m: u64) -> &[u8]
 // Member m by value, and the card with another member m.
 pub fn load_member(card: &[u8], m: u64) -> Member
     requires { HasRecord card.now m }
-    ensures { result ≡ memberIn card.now m }
+    ensures { result ≡ member_in card.now m }
 {
     member::load(member_bytes(card, m))
 }
 
 pub fn save_member(card: &mut [u8], m: u64, x: Member)
     requires { HasRecord card.old m }
-    ensures { card.new ≡ withMember card.old m x }
+    ensures { card.new ≡ with_member card.old m x }
 {
     let at = record_at(m);
     member::save(x, &mut card[at..at + MEMBER_SIZE]);
@@ -147,8 +147,8 @@ pub fn save_member(card: &mut [u8], m: u64, x: Member)
 
 // Whether m is a member that is marked: handed back and not yet wiped.
 pub fn is_marked(card: &[u8], m: u64) -> bool
-    requires { length card.now ≡ cardSize (setupOf card.now).members }
-    ensures { result ≡ isMarked card.now m }
+    requires { length card.now ≡ card_size (setup_of card.now).members }
+    ensures { result ≡ is_marked card.now m }
 {
     if !is_member(card, m) {
         return false;
@@ -159,7 +159,7 @@ pub fn is_marked(card: &[u8], m: u64) -> bool
 // The record of member m becomes x's, with this generation and zeros in the rest.
 pub fn write_record(card: &mut [u8], m: u64, x: Member, generation: u32)
     requires { HasRecord card.old m }
-    ensures { card.new ≡ withRecord card.old m x generation }
+    ensures { card.new ≡ with_record card.old m x generation }
 {
     save_member(card, m, x);
     reset_configuration(card, m, generation);
@@ -169,7 +169,7 @@ pub fn write_record(card: &mut [u8], m: u64, x: Member, generation: u32)
 // It becomes a fresh member's, with the queue count that it has, whatever else it holds.
 pub fn reset_record(card: &mut [u8], m: u64, features: [u8; FEATURES_SIZE], generation: u32)
     requires { HasRecord card.old m }
-    ensures { card.new ≡ withFresh card.old m features generation }
+    ensures { card.new ≡ with_fresh card.old m features generation }
 {
     let x = load_member(card, m).wiped(features);
     write_record(card, m, x, generation);
@@ -178,7 +178,7 @@ pub fn reset_record(card: &mut [u8], m: u64, features: [u8; FEATURES_SIZE], gene
 // The configuration bytes of member m, where they stand.
 pub fn configuration(card: &[u8], m: u64) -> &[u8]
     requires { HasRecord card.now m }
-    ensures { result.now ≡ configurationIn card.now m }
+    ensures { result.now ≡ configuration_in card.now m }
 {
     let at = record_at(m) + CONFIGURATION_AT;
     &card[at..at + CONFIGURATION_SIZE]
@@ -186,15 +186,15 @@ pub fn configuration(card: &[u8], m: u64) -> &[u8]
 
 pub fn generation(card: &[u8], m: u64) -> u32
     requires { HasRecord card.now m }
-    ensures { result ≡ generationIn card.now m }
+    ensures { result ≡ generation_in card.now m }
 {
     wire::read_u32(card, record_at(m) + GENERATION_AT)
 }
 
 // Bytes are written into its configuration from an offset on, and this becomes its generation.
 pub fn write_configuration(card: &mut [u8], m: u64, offset: usize, bytes: &[u8], generation: u32)
-    requires { HasRecord card.old m × (offset + length bytes.now ≤ configurationSize) }
-    ensures { card.new ≡ withConfiguration card.old m (put offset bytes.now (configurationIn card.old m)) generation }
+    requires { HasRecord card.old m × (offset + length bytes.now ≤ configuration_size) }
+    ensures { card.new ≡ with_configuration card.old m (put offset bytes.now (configuration_in card.old m)) generation }
 {
     let at = record_at(m) + CONFIGURATION_AT;
     wire::copy(card, at + offset, bytes);
@@ -209,7 +209,7 @@ pub fn write_configuration(card: &mut [u8], m: u64, offset: usize, bytes: &[u8],
 // All of its configuration becomes zero.
 fn reset_configuration(card: &mut [u8], m: u64, generation: u32)
     requires { HasRecord card.old m }
-    ensures { card.new ≡ withConfiguration card.old m noConfiguration generation }
+    ensures { card.new ≡ with_configuration card.old m no_configuration generation }
 {
     let none = [0u8; CONFIGURATION_SIZE];
     write_configuration(card, m, 0, &none, generation);
@@ -218,7 +218,7 @@ fn reset_configuration(card: &mut [u8], m: u64, generation: u32)
 // The bytes of member m's holding place, where they stand.
 pub fn holding(card: &[u8], m: u64) -> &[u8]
     requires { HasRecord card.now m }
-    ensures { result.now ≡ holdingIn card.now m }
+    ensures { result.now ≡ holding_in card.now m }
 {
     let at = record_at(m) + HOLDING_AT;
     &card[at..at + HOLDING_SIZE]
@@ -226,8 +226,8 @@ pub fn holding(card: &[u8], m: u64) -> &[u8]
 
 // Bytes are written into it from a place on.
 pub fn write_holding(card: &mut [u8], m: u64, from: usize, bytes: &[u8])
-    requires { HasRecord card.old m × (from + length bytes.now ≤ holdingSize) }
-    ensures { card.new ≡ withHolding card.old m (put from bytes.now (holdingIn card.old m)) }
+    requires { HasRecord card.old m × (from + length bytes.now ≤ holding_size) }
+    ensures { card.new ≡ with_holding card.old m (put from bytes.now (holding_in card.old m)) }
 {
     let at = record_at(m) + HOLDING_AT;
     wire::copy(card, at + from, bytes);
@@ -236,7 +236,7 @@ pub fn write_holding(card: &mut [u8], m: u64, from: usize, bytes: &[u8])
 // All of them become zero.
 pub fn zero_holding(card: &mut [u8], m: u64)
     requires { HasRecord card.old m }
-    ensures { card.new ≡ withHolding card.old m noBytes }
+    ensures { card.new ≡ with_holding card.old m no_bytes }
 {
     let at = record_at(m) + HOLDING_AT;
     wire::zero(&mut card[at..at + HOLDING_SIZE]);
@@ -246,7 +246,7 @@ pub fn zero_holding(card: &mut [u8], m: u64)
 
 // Whether the card is sound: tried at each command, the cheap tests first.
 pub fn is_sound(card: &[u8]) -> bool
-    ensures { result ≡ isSound card.now }
+    ensures { result ≡ is_sound card.now }
 {
     if !sound::is_length_right(card) {
         return false;

@@ -1,18 +1,18 @@
 // When a card is sound: SPEC 2.4. It is tested at each call, the cheap tests first.
 ghost use Rattle.std.specs.Prelude.{◌≡◌, true, ◌+◌, ◌≤◌, ◌<◌, eqb, length};
 ghost use Rattle.theory.specs.Bytes.{bytes_at};
-ghost use Rattle.protocol.specs.Opcodes.{supportedOnly};
-ghost use Rattle.member.specs.Record.{memberSize};
-ghost use Rattle.card.specs.Layout.{cardHeaderSize, cardSize, setupOf, inUseOf};
-ghost use Rattle.card.specs.Sound.{soundSetup, IsMost, soundFor, soundUpTo};
+ghost use Rattle.protocol.specs.Opcodes.{supported_only};
+ghost use Rattle.member.specs.Record.{member_size};
+ghost use Rattle.card.specs.Layout.{card_header_size, card_size, setup_of, in_use_of};
+ghost use Rattle.card.specs.Sound.{sound_setup, IsMost, sound_for, sound_up_to};
 
 use super::{CARD_HEADER_SIZE, FEATURES_AT, GETS_AT, IN_USE_AT, MEMBERS_AT, RECORD_SIZE, SETS_AT};
 use member::MEMBER_SIZE;
 use objects::IDS;
 
 pub fn is_setup_sound(card: &[u8]) -> bool
-    requires { cardHeaderSize ≤ length card.now }
-    ensures { result ≡ soundSetup (setupOf card.now) }
+    requires { card_header_size ≤ length card.now }
+    ensures { result ≡ sound_setup (setup_of card.now) }
 {
     setups::in_ranges(
         super::wide(card[MEMBERS_AT]),
@@ -23,8 +23,8 @@ pub fn is_setup_sound(card: &[u8]) -> bool
 
 // Whether the member whose bytes stand at a place is sound. Most holds what each object byte may be at most.
 fn is_sound_at(card: &[u8], at: usize, most: &[u8]) -> bool
-    requires { (cardHeaderSize ≤ length card.now) × (at + memberSize ≤ length card.now) × IsMost (setupOf card.now) most.now }
-    ensures { result ≡ soundFor (setupOf card.now) (bytes_at at memberSize card.now) }
+    requires { (card_header_size ≤ length card.now) × (at + member_size ≤ length card.now) × IsMost (setup_of card.now) most.now }
+    ensures { result ≡ sound_for (setup_of card.now) (bytes_at at member_size card.now) }
 {
     member::is_sound_record(
         &card[at..at + MEMBER_SIZE],
@@ -38,8 +38,8 @@ fn is_sound_at(card: &[u8], at: usize, most: &[u8]) -> bool
 // One pass over the members, the last one first: it steps from record to record, which is cheaper than to work out the
 // place of each.
 fn is_each_sound(card: &[u8], most: &[u8]) -> bool
-    requires { (length card.now ≡ cardSize (setupOf card.now).members) × IsMost (setupOf card.now) most.now }
-    ensures { result ≡ soundUpTo (setupOf card.now) card.now (setupOf card.now).members }
+    requires { (length card.now ≡ card_size (setup_of card.now).members) × IsMost (setup_of card.now) most.now }
+    ensures { result ≡ sound_up_to (setup_of card.now) card.now (setup_of card.now).members }
 {
     let mut m = super::wide(card[MEMBERS_AT]);
     let mut at = card.len();
@@ -55,8 +55,8 @@ fn is_each_sound(card: &[u8], most: &[u8]) -> bool
 
 // What each object byte may be at most is the same for all members.
 pub fn are_members_sound(card: &[u8]) -> bool
-    requires { (length card.now ≡ cardSize (setupOf card.now).members) × (soundSetup (setupOf card.now) ≡ true) }
-    ensures { result ≡ soundUpTo (setupOf card.now) card.now (setupOf card.now).members }
+    requires { (length card.now ≡ card_size (setup_of card.now).members) × (sound_setup (setup_of card.now) ≡ true) }
+    ensures { result ≡ sound_up_to (setup_of card.now) card.now (setup_of card.now).members }
 {
     let table = objects::MOST;
     let ids = super::wide(card[GETS_AT]) + super::wide(card[SETS_AT]);
@@ -65,7 +65,7 @@ pub fn are_members_sound(card: &[u8]) -> bool
 }
 
 pub fn is_length_right(card: &[u8]) -> bool
-    ensures { result ≡ eqb (length card.now) (cardSize (setupOf card.now).members) }
+    ensures { result ≡ eqb (length card.now) (card_size (setup_of card.now).members) }
 {
     if card.len() < CARD_HEADER_SIZE {
         return false;
@@ -74,8 +74,8 @@ pub fn is_length_right(card: &[u8]) -> bool
 }
 
 pub fn is_use_supported(card: &[u8]) -> bool
-    requires { cardHeaderSize ≤ length card.now }
-    ensures { result ≡ supportedOnly (inUseOf card.now) }
+    requires { card_header_size ≤ length card.now }
+    ensures { result ≡ supported_only (in_use_of card.now) }
 {
     protocol::supported_only(super::in_use(card))
 }

@@ -10,24 +10,24 @@ use Rattle.protocol.specs.declared.Mode.{Mode}
 use Rattle.protocol.specs.declared.ObjectKind.{ObjectKind}
 use Rattle.protocol.specs.declared.ChangeOp.{ChangeOp}
 use Rattle.protocol.specs.declared.ChangeOp.TheVariants.{Create, Modify, Destroy, SetParts, SetMode}
-use Rattle.protocol.specs.Answers.{isDone}
+use Rattle.protocol.specs.Answers.{is_done}
 use Rattle.protocol.proofs.Operations.{IdBelow}
 use Rattle.parts.specs.declared.ListForm.TheVariants.{Parts}
 use Rattle.parts.specs.List.{parts_of}
-use Rattle.rules.specs.Rules.{causeOf, isAccepted}
+use Rattle.rules.specs.Rules.{cause_of, is_accepted}
 use Rattle.values.specs.Apply.{applied}
 use Rattle.objects.specs.declared.Slot.{Slot}
 use Rattle.objects.specs.declared.Slot.TheVariants.{Free}
 use Rattle.objects.specs.declared.Found.{Found}
 use Rattle.objects.specs.declared.Found.TheVariants.{Live, Nothing}
-use Rattle.objects.specs.Objects.{slotFor, onFound}
+use Rattle.objects.specs.Objects.{slot_for, on_found}
 use Rattle.member.specs.declared.Member.{Member}
-use Rattle.member.specs.Objects.{lookupOf, withObject, roomIn}
-use Rattle.member.specs.Member.{featuresIn, withMode, withValues}
+use Rattle.member.specs.Objects.{lookup_of, with_object, room_in}
+use Rattle.member.specs.Member.{features_in, with_mode, with_values}
 use Rattle.member.proofs.Sound.{SoundMember, sound-mode, sound-object, sound-free, sound-applied}
 use Rattle.changes.specs.declared.Changed.{Changed}
 use Rattle.changes.proofs.Allowed.{accepted-allowed}
-use Rattle.changes.specs.Changes.{refuse, done, limited, createOf, modifyOf, destroyOf, setPartsOf, changeOf}
+use Rattle.changes.specs.Changes.{refuse, done, limited, create_of, modify_of, destroy_of, set_parts_of, change_of}
 
 -- the commands that put an object, and its id
 pub data Puts : ChangeOp → ℕ → Type 0 where
@@ -38,30 +38,30 @@ put-below : (ids : ℕ) {op : ChangeOp} {id : ℕ} → IdBelow ids op → Puts o
 put-below ids h creates = h
 put-below ids h modifies = h
 
-found-cases : {A : Type 0} (P : A → Type 0) (x : Found) (f : ObjectKind → A) (a : A) → ((k : ObjectKind) → P (f k)) → P a → P (onFound x f a)
+found-cases : {A : Type 0} (P : A → Type 0) (x : Found) (f : ObjectKind → A) (a : A) → ((k : ObjectKind) → P (f k)) → P a → P (on_found x f a)
 found-cases P (Live k) f a h n = h k
 found-cases P Nothing f a h n = n
 
 -- what holds of a refusal and of each thing that can be done holds of every change
-module _ (gets sets : ℕ) (m : Member) (P : Changed → Type 0) (refused : (a : Answer) → isDone a ≡ false → P (refuse m a)) where
-  if-room : (n : Member) → (roomIn gets sets n ≡ true → P (done n)) → P (limited gets sets m n)
+module _ (gets sets : ℕ) (m : Member) (P : Changed → Type 0) (refused : (a : Answer) → is_done a ≡ false → P (refuse m a)) where
+  if-room : (n : Member) → (room_in gets sets n ≡ true → P (done n)) → P (limited gets sets m n)
   unfolding limited
   if-room n f = unless-cases P _ _ _ (λ t. refused _ refl) f
 
   pub change-cases : (list : List ℕ) (op : ChangeOp)
-      → ((id : ℕ) (slot : Slot) → Puts op id → roomIn gets sets (withObject m id slot) ≡ true → P (done (withObject m id slot)))
-      → ((id : ℕ) → P (done (withObject m id Free)))
-      → ((mode : Mode) → P (done (withMode m mode)))
-      → (isAccepted (causeOf m.queues (featuresIn m) list) ≡ true → P (done (withValues m (applied m.queues (parts_of Parts list) m.values))))
-      → P (changeOf gets sets list op m)
-  unfolding createOf modifyOf destroyOf setPartsOf
+      → ((id : ℕ) (slot : Slot) → Puts op id → room_in gets sets (with_object m id slot) ≡ true → P (done (with_object m id slot)))
+      → ((id : ℕ) → P (done (with_object m id Free)))
+      → ((mode : Mode) → P (done (with_mode m mode)))
+      → (is_accepted (cause_of m.queues (features_in m) list) ≡ true → P (done (with_values m (applied m.queues (parts_of Parts list) m.values))))
+      → P (change_of gets sets list op m)
+  unfolding create_of modify_of destroy_of set_parts_of
   change-cases list (Create id kind) put free mode set =
-      found-cases P (lookupOf m id) _ _ (λ k. refused _ refl) (if-room _ (put id (slotFor kind) creates))
+      found-cases P (lookup_of m id) _ _ (λ k. refused _ refl) (if-room _ (put id (slot_for kind) creates))
   change-cases list (Modify id kind) put free mode set =
-      found-cases P (lookupOf m id) _ _ (λ k. if-room _ (put id (slotFor kind) modifies)) (refused _ refl)
-  change-cases list (Destroy id) put free mode set = found-cases P (lookupOf m id) _ _ (λ k. free id) (refused _ refl)
+      found-cases P (lookup_of m id) _ _ (λ k. if-room _ (put id (slot_for kind) modifies)) (refused _ refl)
+  change-cases list (Destroy id) put free mode set = found-cases P (lookup_of m id) _ _ (λ k. free id) (refused _ refl)
   change-cases list (SetParts id) put free mode set =
-      found-cases P (lookupOf m id) _ _
+      found-cases P (lookup_of m id) _ _
       (λ k.
       unless-cases P _ _ _ (λ t. refused _ refl) (λ t.
       unless-cases P _ _ _ (λ t. refused _ refl) (λ t.
@@ -71,30 +71,30 @@ module _ (gets sets : ℕ) (m : Member) (P : Changed → Type 0) (refused : (a :
 
 module _ (gets sets : ℕ) (list : List ℕ) (op : ChangeOp) (m : Member) where
   -- a refusal leaves the member as it was
-  pub change-refused : isDone (changeOf gets sets list op m).answer ≡ false → (changeOf gets sets list op m).member ≡ m
+  pub change-refused : is_done (change_of gets sets list op m).answer ≡ false → (change_of gets sets list op m).member ≡ m
   change-refused =
-      change-cases gets sets m (λ x. isDone x.answer ≡ false → x.member ≡ m) (λ a e f. refl) list op
+      change-cases gets sets m (λ x. is_done x.answer ≡ false → x.member ≡ m) (λ a e f. refl) list op
       (λ id slot p e f. cc) (λ id f. cc) (λ mode f. cc) (λ e f. cc)
 
   -- no change marks a member
-  pub change-marked : (changeOf gets sets list op m).member.marked ≡ m.marked
-  unfolding withObject
+  pub change-marked : (change_of gets sets list op m).member.marked ≡ m.marked
+  unfolding with_object
   change-marked =
       change-cases gets sets m (λ x. x.member.marked ≡ m.marked) (λ a e. refl) list op
       (λ id slot p e. refl) (λ id. refl) (λ mode. refl) (λ e. refl)
 
   -- nor changes its queue count
-  pub change-queues : (changeOf gets sets list op m).member.queues ≡ m.queues
-  unfolding withObject
+  pub change-queues : (change_of gets sets list op m).member.queues ≡ m.queues
+  unfolding with_object
   change-queues =
       change-cases gets sets m (λ x. x.member.queues ≡ m.queues) (λ a e. refl) list op
       (λ id slot p e. refl) (λ id. refl) (λ mode. refl) (λ e. refl)
 
   -- a member that is not marked
   pub change-sound : (features : List ℕ) → IdBelow (gets + sets) op → m.marked ≡ false → SoundMember gets sets features m
-      → SoundMember gets sets features (changeOf gets sets list op m).member
+      → SoundMember gets sets features (change_of gets sets list op m).member
   change-sound f h u s =
       change-cases gets sets m (λ x. SoundMember gets sets f x.member) (λ a e. s) list op
       (λ id slot p e. sound-object gets sets f m s u id slot (put-below (gets + sets) h p) e) (λ id. sound-free gets sets f m s u id)
       (λ mode. sound-mode gets sets f m s u mode)
-      (λ e. sound-applied gets sets f m s (parts_of Parts list) (accepted-allowed m.queues (featuresIn m) _ m.values e s.shaped.long s.allowed))
+      (λ e. sound-applied gets sets f m s (parts_of Parts list) (accepted-allowed m.queues (features_in m) _ m.values e s.shaped.long s.allowed))

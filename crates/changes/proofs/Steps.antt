@@ -6,7 +6,7 @@ use Rattle.theory.proofs.Ladder.{ladder}
 use Rattle.protocol.proofs.Operations.{kind-set, kind-not-set, mode-stops, mode-runs}
 use Rattle.objects.specs.declared.Slot.{Slot}
 use Rattle.member.specs.declared.Member.{Member}
-use Rattle.member.specs.Objects.{withObject}
+use Rattle.member.specs.Objects.{with_object}
 use Rattle.member.proofs.Objects.{on-live, on-nothing}
 use Rattle.changes.specs.declared.Changed.{Changed}
 use Rattle.changes.specs.Changes.{done, limited}
@@ -15,8 +15,8 @@ use Rattle.changes.specs.Changes.{done, limited}
 pub changed-to : (n p : Member) (o : Changed) → n ≡ p → o ≡ done n → o ≡ done p
 changed-to n p o e h = h ∙ rw e
 
-pub limited-to : (gets sets : ℕ) (m n : Member) (id : ℕ) (s t : Slot) (o : Changed) → s ≡ t → n ≡ withObject m id s
-    → o ≡ limited gets sets m n → o ≡ limited gets sets m (withObject m id t)
+pub limited-to : (gets sets : ℕ) (m n : Member) (id : ℕ) (s t : Slot) (o : Changed) → s ≡ t → n ≡ with_object m id s
+    → o ≡ limited gets sets m n → o ≡ limited gets sets m (with_object m id t)
 limited-to gets sets m n id s t o q e h = h ∙ rw (e, q)
 
 pub ruleset steps = (ladder, on-live, on-nothing, kind-set, kind-not-set, mode-stops, mode-runs, changed-to, limited-to)

@@ -6,16 +6,16 @@ use Rattle.protocol.specs.declared.Answer.TheVariants.{Done, Exists, NotLive, No
 use Rattle.protocol.specs.declared.ObjectKind.{ObjectKind}
 use Rattle.protocol.specs.declared.ChangeOp.{ChangeOp}
 use Rattle.protocol.specs.declared.ChangeOp.TheVariants.{Create, Modify, Destroy, SetParts, SetMode}
-use Rattle.protocol.specs.Answers.{isStopped, is_set}
+use Rattle.protocol.specs.Answers.{is_stopped, is_set}
 use Rattle.parts.specs.declared.ListForm.TheVariants.{Parts}
 use Rattle.parts.specs.List.{parts_of}
-use Rattle.rules.specs.Rules.{causeOf, isAccepted}
+use Rattle.rules.specs.Rules.{cause_of, is_accepted}
 use Rattle.values.specs.Apply.{applied}
 use Rattle.objects.specs.declared.Slot.TheVariants.{Free}
-use Rattle.objects.specs.Objects.{slotFor, onFound}
+use Rattle.objects.specs.Objects.{slot_for, on_found}
 use Rattle.member.specs.declared.Member.{Member}
-use Rattle.member.specs.Objects.{lookupOf, withObject, roomIn}
-use Rattle.member.specs.Member.{featuresIn, withMode, withValues}
+use Rattle.member.specs.Objects.{lookup_of, with_object, room_in}
+use Rattle.member.specs.Member.{features_in, with_mode, with_values}
 use Rattle.changes.specs.declared.Changed.{Changed}
 
 abbrev pub refuse : Member → Answer → Changed
@@ -26,42 +26,42 @@ done m = record { answer = Done; member = m }
 
 -- step 8c of create and modify: n, the member after it, has at most G get and S set objects
 unfoldable pub limited : ℕ → ℕ → Member → Member → Changed
-limited gets sets m n = unless roomIn gets sets n answer refuse m NoRoom then done n
+limited gets sets m n = unless room_in gets sets n answer refuse m NoRoom then done n
 
 -- step 8a: a live id is not created again
-unfoldable pub createOf : ℕ → ℕ → ℕ → ObjectKind → Member → Changed
-createOf gets sets id kind m =
-    onFound (lookupOf m id)
+unfoldable pub create_of : ℕ → ℕ → ℕ → ObjectKind → Member → Changed
+create_of gets sets id kind m =
+    on_found (lookup_of m id)
     (λ k. refuse m Exists)
-    (limited gets sets m (withObject m id (slotFor kind)))
+    (limited gets sets m (with_object m id (slot_for kind)))
 
 -- step 8b, here and below: the id is live
-unfoldable pub modifyOf : ℕ → ℕ → ℕ → ObjectKind → Member → Changed
-modifyOf gets sets id kind m =
-    onFound (lookupOf m id)
-    (λ k. limited gets sets m (withObject m id (slotFor kind)))
+unfoldable pub modify_of : ℕ → ℕ → ℕ → ObjectKind → Member → Changed
+modify_of gets sets id kind m =
+    on_found (lookup_of m id)
+    (λ k. limited gets sets m (with_object m id (slot_for kind)))
     (refuse m NotLive)
 
 -- the object is gone: its id can be created again, and no longer counts against G or S
-unfoldable pub destroyOf : ℕ → Member → Changed
-destroyOf id m = onFound (lookupOf m id) (λ k. done (withObject m id Free)) (refuse m NotLive)
+unfoldable pub destroy_of : ℕ → Member → Changed
+destroy_of id m = on_found (lookup_of m id) (λ k. done (with_object m id Free)) (refuse m NotLive)
 
 -- parts set needs a live set object, a stopped member and a list that is good for its queue count (02, request 9), and sets all
 -- parts of the list or none
-unfoldable pub setPartsOf : ℕ → List ℕ → Member → Changed
-setPartsOf id list m =
-    onFound (lookupOf m id)
+unfoldable pub set_parts_of : ℕ → List ℕ → Member → Changed
+set_parts_of id list m =
+    on_found (lookup_of m id)
     (λ k.
     unless is_set k answer refuse m WrongKind then  -- 8
-    unless isStopped m.mode answer refuse m Running then  -- 9
-    unless isAccepted (causeOf m.queues (featuresIn m) list) answer refuse m BadList then  -- 10
-    done (withValues m (applied m.queues (parts_of Parts list) m.values)))
+    unless is_stopped m.mode answer refuse m Running then  -- 9
+    unless is_accepted (cause_of m.queues (features_in m) list) answer refuse m BadList then  -- 10
+    done (with_values m (applied m.queues (parts_of Parts list) m.values)))
     (refuse m NotLive)
 
 -- by command; a mode set to the mode that the member has succeeds too
-abbrev pub changeOf : ℕ → ℕ → List ℕ → ChangeOp → Member → Changed
-changeOf gets sets list (Create id kind) m = createOf gets sets id kind m
-changeOf gets sets list (Modify id kind) m = modifyOf gets sets id kind m
-changeOf gets sets list (Destroy id) m = destroyOf id m
-changeOf gets sets list (SetParts id) m = setPartsOf id list m
-changeOf gets sets list (SetMode mode) m = done (withMode m mode)
+abbrev pub change_of : ℕ → ℕ → List ℕ → ChangeOp → Member → Changed
+change_of gets sets list (Create id kind) m = create_of gets sets id kind m
+change_of gets sets list (Modify id kind) m = modify_of gets sets id kind m
+change_of gets sets list (Destroy id) m = destroy_of id m
+change_of gets sets list (SetParts id) m = set_parts_of id list m
+change_of gets sets list (SetMode mode) m = done (with_mode m mode)

@@ -1,8 +1,8 @@
 // The commands that change a member, SPEC 4.4, 4.5, 4.7, 4.10 and 4.11: steps 8 to 10 of SPEC 6.1.
 ghost use Rattle.std.specs.Prelude.{◌≡◌};
-ghost use Rattle.member.specs.Member.{featuresIn, withMode};
-ghost use Rattle.rules.specs.Rules.{causeOf, isAccepted};
-ghost use Rattle.changes.specs.Changes.{limited, createOf, modifyOf, destroyOf, setPartsOf, changeOf};
+ghost use Rattle.member.specs.Member.{features_in, with_mode};
+ghost use Rattle.rules.specs.Rules.{cause_of, is_accepted};
+ghost use Rattle.changes.specs.Changes.{limited, create_of, modify_of, destroy_of, set_parts_of, change_of};
 ghost use Rattle.changes.specs.Changes.{refuse as refused, done as accepted};
 
 use member::{FEATURES_SIZE, Member};
@@ -42,7 +42,7 @@ fn if_room(m: Member, n: Member, gets: u8, sets: u8) -> Changed
 }
 
 fn create(m: Member, id: usize, kind: ObjectKind, gets: u8, sets: u8) -> Changed
-    ensures { result ≡ createOf gets sets id kind m }
+    ensures { result ≡ create_of gets sets id kind m }
 {
     let Found::Nothing = m.lookup(id) else {
         return refuse(m, Answer::Exists);
@@ -52,7 +52,7 @@ fn create(m: Member, id: usize, kind: ObjectKind, gets: u8, sets: u8) -> Changed
 }
 
 fn modify(m: Member, id: usize, kind: ObjectKind, gets: u8, sets: u8) -> Changed
-    ensures { result ≡ modifyOf gets sets id kind m }
+    ensures { result ≡ modify_of gets sets id kind m }
 {
     let Found::Live(_) = m.lookup(id) else {
         return refuse(m, Answer::NotLive);
@@ -62,7 +62,7 @@ fn modify(m: Member, id: usize, kind: ObjectKind, gets: u8, sets: u8) -> Changed
 }
 
 fn destroy(m: Member, id: usize) -> Changed
-    ensures { result ≡ destroyOf id m }
+    ensures { result ≡ destroy_of id m }
 {
     let Found::Live(_) = m.lookup(id) else {
         return refuse(m, Answer::NotLive);
@@ -71,7 +71,7 @@ fn destroy(m: Member, id: usize) -> Changed
 }
 
 fn set_mode(m: Member, mode: Mode) -> Changed
-    ensures { result ≡ accepted (withMode m mode) }
+    ensures { result ≡ accepted (with_mode m mode) }
 {
     match mode {
         Mode::Running => done(m.resume()),
@@ -81,7 +81,7 @@ fn set_mode(m: Member, mode: Mode) -> Changed
 
 // Whether the member accepts this list.
 fn accepts(m: Member, list: &[u8]) -> bool
-    ensures { result ≡ isAccepted (causeOf m.queues (featuresIn m) list.now) }
+    ensures { result ≡ is_accepted (cause_of m.queues (features_in m) list.now) }
 {
     let values = m.values;
     let cause = rules::check_list(m.queues, &values[0..FEATURES_SIZE], list);
@@ -90,7 +90,7 @@ fn accepts(m: Member, list: &[u8]) -> bool
 
 // Steps 8, 9 and 10 of parts set; all or nothing.
 fn set_parts(m: Member, id: usize, list: &[u8]) -> Changed
-    ensures { result ≡ setPartsOf id list.now m }
+    ensures { result ≡ set_parts_of id list.now m }
 {
     let Found::Live(kind) = m.lookup(id) else {
         return refuse(m, Answer::NotLive);
@@ -110,7 +110,7 @@ fn set_parts(m: Member, id: usize, list: &[u8]) -> Changed
 
 // A command that changes the member; list holds the parts given.
 pub fn change(m: Member, op: ChangeOp, gets: u8, sets: u8, list: &[u8]) -> Changed
-    ensures { result ≡ changeOf gets sets list.now op m }
+    ensures { result ≡ change_of gets sets list.now op m }
 {
     match op {
         ChangeOp::Create(id, kind) => create(m, id, kind, gets, sets),

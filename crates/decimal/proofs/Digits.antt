@@ -13,7 +13,7 @@ use Rattle.theory.specs.Logic.{if◌then◌else◌}
 use Rattle.theory.specs.Bytes.{put}
 use Rattle.theory.proofs.Bytes.{put-cons, put-append, length-put, put_one}
 use Rattle.theory.proofs.Tests.{by_cases}
-use Rattle.decimal.specs.Decimal.{lastDigit, digits, decimal, line}
+use Rattle.decimal.specs.Decimal.{last_digit, digits, decimal, line}
 
 -- with a bound that is large enough, one more changes nothing
 one_more : (f n : ℕ) → n ≤ f → digits (suc f) n ≡ digits f n
@@ -31,11 +31,11 @@ large-enough (suc f) n h =
     (λ q. let l : f < n = leb-false n f q in let e : suc f ≡ n = omega arith in rw e)
 
 -- one digit, and the digits of the tenth part with one more
-pub decimal-one : (n : ℕ) → n < 10 → decimal n ≡ lastDigit n ∷ []
+pub decimal-one : (n : ℕ) → n < 10 → decimal n ≡ last_digit n ∷ []
 unfolding decimal digits if◌then◌else◌
 decimal-one n h = sym (one_more n n (le_refl n)) ∙ rw (lt-ltb n 10 h)
 
-pub decimal-more : (n : ℕ) → 10 ≤ n → decimal n ≡ decimal (n / 10) ++ (lastDigit n ∷ [])
+pub decimal-more : (n : ℕ) → 10 ≤ n → decimal n ≡ decimal (n / 10) ++ (last_digit n ∷ [])
 unfolding digits if◌then◌else◌
 decimal-more n h =
     sym (large-enough (suc n) n (omega arith)) ∙ rw (le-ltb n 10 h, large-enough n (n / 10) (omega arith))
@@ -73,8 +73,8 @@ module _ (at n : ℕ) (out : List ℕ) (h : at + length (decimal n) ≤ length o
     pub one_end : at + 1 ≡ at + length (decimal n)
     one_end = omega (arith, length-one n small)
 
-    pub one-put : (d : ℕ) → d ≡ lastDigit n → set out at d ≡ put at (decimal n) out
-    one-put d e = rw (decimal-one n small, e) (sym (put_one at (lastDigit n) out))
+    pub one-put : (d : ℕ) → d ≡ last_digit n → set out at d ≡ put at (decimal n) out
+    one-put d e = rw (decimal-one n small, e) (sym (put_one at (last_digit n) out))
 
   module _ (large : 10 ≤ n) where
     pub tens-less : n / 10 < n
@@ -94,10 +94,10 @@ module _ (at n : ℕ) (out : List ℕ) (h : at + length (decimal n) ≤ length o
       pub last_end : next + 1 ≡ at + length (decimal n)
       last_end = omega (arith, length_more n large)
 
-      pub last-put : (d : ℕ) → d ≡ lastDigit n → set tens next d ≡ put at (decimal n) out
+      pub last-put : (d : ℕ) → d ≡ last_digit n → set tens next d ≡ put at (decimal n) out
       last-put d g =
           rw (decimal-more n large, put-append, e, f, g)
-          (sym (put_one (at + length (decimal (n / 10))) (lastDigit n) (put at (decimal (n / 10)) out)))
+          (sym (put_one (at + length (decimal (n / 10))) (last_digit n) (put at (decimal (n / 10)) out)))
 
 -- a line: the name is put, then a space, the number, a line feed
 pub line-name : (at n : ℕ) (name out : List ℕ) → at + length (line name n) ≤ length out → at + length name ≤ length out

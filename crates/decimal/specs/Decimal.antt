@@ -3,13 +3,13 @@ use Rattle.std.specs.Prelude.{List, [], ◌∷◌, ◌++◌, ℕ, zero, suc, ◌
 use Rattle.theory.specs.Logic.{if◌then◌else◌}
 
 -- the last digit, as a character
-abbrev pub lastDigit : ℕ → ℕ
-lastDigit n = 48 + n % 10
+abbrev pub last_digit : ℕ → ℕ
+last_digit n = 48 + n % 10
 
 -- the digits without leading zeros: those of the tenth part, and the last one. At most f + 1 of them
 unfoldable pub digits : ℕ → ℕ → List ℕ
-digits zero n = lastDigit n ∷ []
-digits (suc f) n = if ltb n 10 then lastDigit n ∷ [] else digits f (n / 10) ++ (lastDigit n ∷ [])
+digits zero n = last_digit n ∷ []
+digits (suc f) n = if ltb n 10 then last_digit n ∷ [] else digits f (n / 10) ++ (last_digit n ∷ [])
 
 -- no number has more digits than it is, but 0, which has one
 unfoldable pub decimal : ℕ → List ℕ

@@ -1,7 +1,7 @@
 // Numbers as decimal text, and a line of a name and a number: 02, request 11.
 ghost use Rattle.std.specs.Prelude.{◌≡◌, ◌+◌, ◌≤◌, length};
 ghost use Rattle.theory.specs.Bytes.{put};
-ghost use Rattle.decimal.specs.Decimal.{lastDigit, decimal, line};
+ghost use Rattle.decimal.specs.Decimal.{last_digit, decimal, line};
 
 const DIGIT_ZERO: u8 = 48;
 
@@ -10,7 +10,7 @@ const SPACE: u8 = 32;
 const LINE_FEED: u8 = 10;
 
 fn last_digit(n: u64) -> u8
-    ensures { result ≡ lastDigit n }
+    ensures { result ≡ last_digit n }
 {
     DIGIT_ZERO + (n % 10) as u8
 }

@@ -1,7 +1,7 @@
 -- Every claim of specs/Claims.antt is proved. Assumes nothing.
 use Rattle.demands.specs.Claims.{Claims}
 use Rattle.demands.proofs.Sound.{stays-sound}
-use Rattle.demands.proofs.Demand1.{not_written, delivers, sets-up}
+use Rattle.demands.proofs.Demand1.{not-written, delivers, sets-up}
 use Rattle.demands.proofs.Refusals.{refusals-change-nothing, unsound-refused}
 use Rattle.demands.proofs.Exports.{exports-step}
 use Rattle.demands.proofs.Fresh.{setups-done, resets-done}
@@ -14,12 +14,12 @@ use Rattle.demands.proofs.Numbers.{numbers-hold}
 use Rattle.demands.proofs.LengthExamples.{length-examples-hold}
 use Rattle.demands.proofs.QueueSizes.{rings-only, queue-examples-hold}
 use Rattle.demands.proofs.Taken.{taken}
-use Rattle.demands.proofs.ReadBack.{read_back}
+use Rattle.demands.proofs.ReadBack.{read-back}
 use Rattle.demands.proofs.AnyLength.{missing-is-zero, rest-is-ignored}
 use Rattle.demands.proofs.InUse.{nothing-in-use}
 use Rattle.demands.proofs.Places.{places-found}
 use Rattle.demands.proofs.WrongPrograms.{wrong-programs-rejected}
-use Rattle.demands.proofs.RoundTrip.{round_trip}
+use Rattle.demands.proofs.RoundTrip.{round-trip}
 use Rattle.demands.proofs.Lists.{members-known, merged-sets, found-captured, salvaged-accepted}
 use Rattle.demands.proofs.Isolation.{isolation}
 use Rattle.demands.proofs.Integrity.{integrity}
@@ -32,7 +32,7 @@ use Rattle.demands.proofs.ConfigurationKept.{configuration-kept}
 use Rattle.demands.proofs.Answered.{messages-answered}
 use Rattle.demands.proofs.Messages.{responded, nothing-applied, only-configuration, message-examples-hold}
 use Rattle.demands.proofs.Halves.{two-halves, halves-examples-hold}
-use Rattle.demands.proofs.Between.{marked_refused, marked-idle, stores-work}
+use Rattle.demands.proofs.Between.{marked-refused, marked-idle, stores-work}
 use Rattle.demands.proofs.QueuesKept.{set-up-from-packed, queues-kept, counts-in-range}
 use Rattle.demands.proofs.QueueCounts.{count-examples-hold}
 use Rattle.host.proofs.Examples.{requests-built, replies-read}
@@ -53,82 +53,82 @@ use Rattle.demands.proofs.LoadExamples.{load-examples-hold}
 
 pub claims : Claims
 claims = record {
-  staysSound = stays-sound;
-  notWritten = not_written;
-  unsoundRefused = unsound-refused;
+  stays_sound = stays-sound;
+  not_written = not-written;
+  unsound_refused = unsound-refused;
   delivered = delivers;
   exported = exports-step;
   refusals = refusals-change-nothing;
-  setsUp = sets-up;
-  setupsDone = setups-done;
-  resetsDone = resets-done;
-  storesDone = stores-done;
+  sets_up = sets-up;
+  setups_done = setups-done;
+  resets_done = resets-done;
+  stores_done = stores-done;
   statuses = statuses;
-  reservedIgnored = reserved-ignored;
-  headersNotRead = headers-not-read;
+  reserved_ignored = reserved-ignored;
+  headers_not_read = headers-not-read;
   examples = examples-hold;
-  wrongPrograms = wrong-programs-rejected;
+  wrong_programs = wrong-programs-rejected;
   numbers = numbers-hold;
-  roundTrip = round_trip;
+  round_trip = round-trip;
   isolation = isolation;
   integrity = integrity;
   taken = taken;
-  readBack = read_back;
-  requestsBuilt = requests-built;
-  repliesRead = replies-read;
-  missingIsZero = missing-is-zero;
-  restIsIgnored = rest-is-ignored;
-  nothingInUse = nothing-in-use;
-  lengthExamples = length-examples-hold;
-  messagesAnswered = messages-answered;
+  read_back = read-back;
+  requests_built = requests-built;
+  replies_read = replies-read;
+  missing_is_zero = missing-is-zero;
+  rest_is_ignored = rest-is-ignored;
+  nothing_in_use = nothing-in-use;
+  length_examples = length-examples-hold;
+  messages_answered = messages-answered;
   responded = responded;
-  nothingApplied = nothing-applied;
-  onlyConfiguration = only-configuration;
-  configurationKept = configuration-kept;
-  messageExamples = message-examples-hold;
-  placesFound = places-found;
-  ringsOnly = rings-only;
-  queueExamples = queue-examples-hold;
-  finishIsPartsSet = finish-is-parts-set;
-  holdsJoined = holds-joined;
-  cutAnywhere = cut-anywhere;
-  onlyHolding = only-holding;
-  holdingKept = holding-kept;
-  holdingEnded = holding-ended;
-  restoreExamples = restore-examples-hold;
-  membersKnown = members-known;
-  mergedLists = difference.claims;
-  mergedSets = merged-sets;
-  foundCaptured = found-captured;
-  salvagedLists = salvage.claims;
-  salvagedAccepted = salvaged-accepted;
-  packedSetups = packed.claims;
-  setupsWritten = setups-written;
-  setupsRead = setups-read;
-  membersAsked = members-asked;
-  setUpFromPacked = set-up-from-packed;
-  queuesKept = queues-kept;
-  countsInRange = counts-in-range;
-  countExamples = count-examples-hold;
-  twoHalves = two-halves;
-  markedRefused = marked_refused;
-  storesWork = stores-work;
-  markedIdle = marked-idle;
-  halvesExamples = halves-examples-hold;
-  howeverCut = however-cut;
-  addsUp = adds-up;
-  exactNumbers = exact-numbers;
+  nothing_applied = nothing-applied;
+  only_configuration = only-configuration;
+  configuration_kept = configuration-kept;
+  message_examples = message-examples-hold;
+  places_found = places-found;
+  rings_only = rings-only;
+  queue_examples = queue-examples-hold;
+  finish_is_parts_set = finish-is-parts-set;
+  holds_joined = holds-joined;
+  cut_anywhere = cut-anywhere;
+  only_holding = only-holding;
+  holding_kept = holding-kept;
+  holding_ended = holding-ended;
+  restore_examples = restore-examples-hold;
+  members_known = members-known;
+  merged_lists = difference.claims;
+  merged_sets = merged-sets;
+  found_captured = found-captured;
+  salvaged_lists = salvage.claims;
+  salvaged_accepted = salvaged-accepted;
+  packed_setups = packed.claims;
+  setups_written = setups-written;
+  setups_read = setups-read;
+  members_asked = members-asked;
+  set_up_from_packed = set-up-from-packed;
+  queues_kept = queues-kept;
+  counts_in_range = counts-in-range;
+  count_examples = count-examples-hold;
+  two_halves = two-halves;
+  marked_refused = marked-refused;
+  stores_work = stores-work;
+  marked_idle = marked-idle;
+  halves_examples = halves-examples-hold;
+  however_cut = however-cut;
+  adds_up = adds-up;
+  exact_numbers = exact-numbers;
   sheets = sheets;
-  sheetOfCaptures = sheet-of-captures;
+  sheet_of_captures = sheet-of-captures;
   commutation = commutation;
-  commandsCommute = commands-commute;
-  answeredExactly = answered-exactly;
-  refusedUnwritten = refused-unwritten;
-  loadIsLent = load-is-lent;
-  loadStored = load_stored;
-  loadSet = load_set;
-  loadWiped = load-wiped;
-  setupAgain = setup-again;
-  loadsIsolated = loads-isolated;
-  loadExamples = load-examples-hold;
+  commands_commute = commands-commute;
+  answered_exactly = answered-exactly;
+  refused_unwritten = refused-unwritten;
+  load_is_lent = load-is-lent;
+  load_stored = load_stored;
+  load_set = load_set;
+  load_wiped = load-wiped;
+  setup_again = setup-again;
+  loads_isolated = loads-isolated;
+  load_examples = load-examples-hold;
 }

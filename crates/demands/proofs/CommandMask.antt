@@ -9,15 +9,15 @@ use lib.ListN.{length}
 use borrow.Author.Tests.{eqb-false, leb-true}
 use Rattle.theory.specs.Logic.{if◌then◌else◌, ◌and◌}
 use Rattle.theory.proofs.Tests.{by_cases, and-true}
-use Rattle.protocol.specs.Answers.{isDone}
-use Rattle.card.specs.Layout.{cardSize, setupOf, memberIn}
-use Rattle.card.specs.Sound.{isSound}
+use Rattle.protocol.specs.Answers.{is_done}
+use Rattle.card.specs.Layout.{card_size, setup_of, member_in}
+use Rattle.card.specs.Sound.{is_sound}
 use Rattle.card.proofs.RecordLaws.{setup-with-record, record-other}
 use Rattle.frame.specs.declared.Ask.{Ask}
 use Rattle.frame.specs.declared.Ask.TheVariants.{Refused, QueryList, UseList, Read, Change}
 use Rattle.admin.specs.Command.{Effect, perform, respond}
 use Rattle.demands.specs.Calls.{command, names}
-use Rattle.admin.proofs.Respond.{NamedIn, FactsIn, asked_of, lastAnswer, ended, respond-none, respond-is}
+use Rattle.admin.proofs.Respond.{NamedIn, FactsIn, asked_of, last_answer, ended, respond-none, respond-is}
 use Rattle.demands.proofs.Named.{names-is}
 use Rattle.demands.proofs.Mask.{mask, mask-mask, mask-member, mask-use, is_whole, masked-sound, masked-ask}
 
@@ -27,8 +27,8 @@ record Alike (m : ℕ) (e f : Effect) : Type 0 where
   results : e.result ≡ f.result
   cards : mask m e.card ≡ mask m f.card
 
-module _ (m : ℕ) (low : 1 ≤ m) (c : List ℕ) (s : isSound c ≡ true) (r : List ℕ) (room : ℕ) where
-  abbrev whole : length c ≡ cardSize (setupOf c).members
+module _ (m : ℕ) (low : 1 ≤ m) (c : List ℕ) (s : is_sound c ≡ true) (r : List ℕ) (room : ℕ) where
+  abbrev whole : length c ≡ card_size (setup_of c).members
   whole = is_whole m low c s
 
   module _ (n : names m (command r room) ≡ false) where
@@ -37,7 +37,7 @@ module _ (m : ℕ) (low : 1 ≤ m) (c : List ℕ) (s : isSound c ≡ true) (r : 
       another : k ≢ m
       another = eqb-false k m (sym (names-is m r room _ _ k f) ∙ n)
 
-      unmasked : memberIn (mask m c) k ≡ memberIn c k
+      unmasked : member_in (mask m c) k ≡ member_in c k
       unmasked = record-other c m _ 0 k low f.low another
 
     perform-alike : (a : Ask) → FactsIn c r a → Alike m (perform (mask m c) r a) (perform c r a)
@@ -57,7 +57,7 @@ module _ (m : ℕ) (low : 1 ≤ m) (c : List ℕ) (s : isSound c ≡ true) (r : 
   unfolding if◌then◌else◌
   ended-alike e f h =
       rw (h.outcomes, h.results)
-      (refl, by_cases (isDone (lastAnswer room f)) (λ t. rw t h.cards) (λ t. rw t (mask-mask m low c whole)))
+      (refl, by_cases (is_done (last_answer room f)) (λ t. rw t h.cards) (λ t. rw t (mask-mask m low c whole)))
 
   pub respond-answers : names m (command r room) ≡ false
       → ((respond (mask m c) r room).1 ≡ (respond c r room).1) × (mask m (respond (mask m c) r room).0 ≡ mask m (respond c r room).0)
@@ -69,6 +69,6 @@ module _ (m : ℕ) (low : 1 ≤ m) (c : List ℕ) (s : isSound c ≡ true) (r : 
       rw (respond-is (mask m c) r room h z, respond-is c r room h s, masked-ask m low c s r)
       (ended-alike _ _ (perform-alike n _ (asked_of c r))))
       (λ t.
-      let g : leb 8 room and isSound (mask m c) ≡ false = rw (z, and-true) t in
-      let f : leb 8 room and isSound c ≡ false = rw (s, and-true) t in
+      let g : leb 8 room and is_sound (mask m c) ≡ false = rw (z, and-true) t in
+      let f : leb 8 room and is_sound c ≡ false = rw (s, and-true) t in
       rw (respond-none (mask m c) r room g, respond-none c r room f) (refl, mask-mask m low c whole))

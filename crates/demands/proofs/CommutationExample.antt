@@ -7,11 +7,11 @@ use Prim.Native.Nat.{ℕ, ◌+◌}
 use native.Mathlib.Omega.{arith}
 use lib.ListN.{get_or}
 use Rattle.theory.specs.Machine.{replies, Swappable}
-use Rattle.member.specs.Record.{objectsAt}
-use Rattle.card.specs.Layout.{recordAt}
+use Rattle.member.specs.Record.{objects_at}
+use Rattle.card.specs.Layout.{record_at}
 use Rattle.demands.specs.Calls.{Call, step, names}
-use Rattle.host.specs.Request.{getAll}
-use Rattle.demands.specs.Examples.{exampleCard, send, useList, create, setMode, succeeds, gives, nineParts}
+use Rattle.host.specs.Request.{get_all}
+use Rattle.demands.specs.Examples.{example_card, send, use_list, create, set_mode, succeeds, gives, nine_parts}
 use Rattle.demands.proofs.Model.{model}
 use Rattle.demands.proofs.Commutation.{commutation}
 
@@ -20,13 +20,13 @@ abbrev first : Call
 first = create 0 0
 
 abbrev second : Call
-second = setMode 2 1
+second = set_mode 2 1
 
 abbrev before : List Call
-before = useList 0x3fc03 ∷ []
+before = use_list 0x3fc03 ∷ []
 
 abbrev later : List Call
-later = send (getAll 1 0) ∷ []
+later = send (get_all 1 0) ∷ []
 
 -- ---- each hypothesis ----
 
@@ -44,19 +44,19 @@ names-second = refl
 -- ---- both change the card, and the claim at them ----
 
 abbrev used : List ℕ
-used = (step exampleCard (useList 0x3fc03)).0
+used = (step example_card (use_list 0x3fc03)).0
 
-first-changes : get_or (step used first).0 (recordAt 1 + objectsAt) 0 ≢ get_or used (recordAt 1 + objectsAt) 0
+first-changes : get_or (step used first).0 (record_at 1 + objects_at) 0 ≢ get_or used (record_at 1 + objects_at) 0
 unfolding model
 first-changes = omega arith
 
-second-changes : get_or (step used second).0 (recordAt 2) 0 ≢ get_or used (recordAt 2) 0
+second-changes : get_or (step used second).0 (record_at 2) 0 ≢ get_or used (record_at 2) 0
 unfolding model
 second-changes = omega arith
 
-change-places : Swappable step exampleCard before first second later
-change-places = commutation exampleCard 1 2 apart first second names-first names-second before later
+change-places : Swappable step example_card before first second later
+change-places = commutation example_card 1 2 apart first second names-first names-second before later
 
-all-replies : replies step exampleCard (before ++ first ∷ second ∷ later) ≡ succeeds ∷ succeeds ∷ succeeds ∷ gives nineParts ∷ []
+all-replies : replies step example_card (before ++ first ∷ second ∷ later) ≡ succeeds ∷ succeeds ∷ succeeds ∷ gives nine_parts ∷ []
 unfolding model
 all-replies = refl

@@ -10,28 +10,28 @@ use Rattle.theory.proofs.Tests.{by_cases, unless-cases, within_low}
 use Rattle.wire.specs.Le.{le}
 use Rattle.protocol.specs.declared.EventAnswer.{EventAnswer}
 use Rattle.member.specs.declared.Member.{Member}
-use Rattle.member.specs.Record.{memberSize, holdingSize, memberBytes}
-use Rattle.card.specs.Layout.{memberBytesAt, configurationAt, configurationSize, generationAt, generationSize, holdingAt, isMember, recordBytes, withInUse, withMember, configurationIn, generationIn, withHolding, noBytes}
+use Rattle.member.specs.Record.{member_size, holding_size, member_bytes}
+use Rattle.card.specs.Layout.{member_bytes_at, configuration_at, configuration_size, generation_at, generation_size, holding_at, is_member, record_bytes, with_in_use, with_member, configuration_in, generation_in, with_holding, no_bytes}
 use Rattle.card.proofs.RecordBytesLaws.{bytes-before, bytes_after, bytes-other}
 use Rattle.card.proofs.HeaderLaws.{bytes-with-use}
-use Rattle.events.specs.Events.{withHandedBack, handBack as handBackOf, storeIn, store}
+use Rattle.events.specs.Events.{with_handed_back, hand_back as hand_back_of, store_in, store}
 use Rattle.events.proofs.Cases.{if-done-cases, on-member-cases}
 use Rattle.frame.specs.declared.Ask.{Ask}
 use Rattle.frame.specs.declared.Ask.TheVariants.{Refused, QueryList, UseList, Read, Change}
 use Rattle.admin.specs.Command.{perform, respond}
 use Rattle.admin.proofs.Respond.{FactsIn, asked_of, card-cases}
-use Rattle.staging.specs.Staging.{withHeldBytes, withoutHeld, beginOf, feedOf, finishOf, dropOf}
+use Rattle.staging.specs.Staging.{with_held_bytes, without_held, begin_of, feed_of, finish_of, drop_of}
 use Rattle.staging.proofs.Refusals.{on-member-cases as restore-cases, on-open-cases}
 use Rattle.demands.specs.Calls.{step}
 use Rattle.demands.specs.Messages.{SameConfiguration, ConfigurationKept}
 
 -- the same bytes between the member's and those of its holding place
-pub same_bytes : (c d : List ℕ) (m : ℕ) → ((at n : ℕ) → configurationAt ≤ at → at + n ≤ holdingAt → recordBytes d m at n ≡ recordBytes c m at n)
+pub same_bytes : (c d : List ℕ) (m : ℕ) → ((at n : ℕ) → configuration_at ≤ at → at + n ≤ holding_at → record_bytes d m at n ≡ record_bytes c m at n)
     → SameConfiguration c d m
-unfolding configurationIn generationIn
+unfolding configuration_in generation_in
 same_bytes c d m f = record {
-  configuration = f configurationAt configurationSize (omega arith) (omega arith);
-  generation = ap le (f generationAt generationSize (omega arith) (omega arith));
+  configuration = f configuration_at configuration_size (omega arith) (omega arith);
+  generation = ap le (f generation_at generation_size (omega arith) (omega arith));
 }
 
 pub kept : (c : List ℕ) (m : ℕ) → SameConfiguration c c m
@@ -43,36 +43,36 @@ then-kept c d e m f g = record { configuration = g.configuration ∙ f.configura
 -- ---- what is put at a member k; m is any ----
 
 module _ (c : List ℕ) (m : ℕ) (low : 1 ≤ m) where
-  use_kept : (mask : ℕ) → SameConfiguration c (withInUse c mask) m
+  use_kept : (mask : ℕ) → SameConfiguration c (with_in_use c mask) m
   use_kept mask = same_bytes c _ m (λ at n a b. bytes-with-use c mask m at n)
 
   module _ (k : ℕ) (l : 1 ≤ k) where
-    member-kept : (x : Member) → SameConfiguration c (withMember c k x) m
-    unfolding withMember
+    member-kept : (x : Member) → SameConfiguration c (with_member c k x) m
+    unfolding with_member
     member-kept x = same_bytes c _ m λ at n a b.
         by_cases (eqb m k)
-        (λ t. rw (eqb-true m k t) (bytes_after c k memberBytesAt memberSize (memberBytes x) at n (omega arith)))
-        (λ t. bytes-other c k memberBytesAt memberSize (memberBytes x) (omega arith) l m at n (omega arith) low (eqb-false m k t))
+        (λ t. rw (eqb-true m k t) (bytes_after c k member_bytes_at member_size (member_bytes x) at n (omega arith)))
+        (λ t. bytes-other c k member_bytes_at member_size (member_bytes x) (omega arith) l m at n (omega arith) low (eqb-false m k t))
 
-    holding-kept : (x : List ℕ) → SameConfiguration c (withHolding c k x) m
-    unfolding withHolding
+    holding-kept : (x : List ℕ) → SameConfiguration c (with_holding c k x) m
+    unfolding with_holding
     holding-kept x = same_bytes c _ m λ at n a b.
         by_cases (eqb m k)
-        (λ t. rw (eqb-true m k t) (bytes-before c k holdingAt holdingSize x at n (omega arith)))
-        (λ t. bytes-other c k holdingAt holdingSize x (omega arith) l m at n (omega arith) low (eqb-false m k t))
+        (λ t. rw (eqb-true m k t) (bytes-before c k holding_at holding_size x at n (omega arith)))
+        (λ t. bytes-other c k holding_at holding_size x (omega arith) l m at n (omega arith) low (eqb-false m k t))
 
 module _ (c : List ℕ) (m : ℕ) (low : 1 ≤ m) (k : ℕ) (l : 1 ≤ k) where
-  held_kept : (n : ℕ) (x : List ℕ) → SameConfiguration c (withHeldBytes c k n x) m
-  unfolding withHeldBytes
+  held_kept : (n : ℕ) (x : List ℕ) → SameConfiguration c (with_held_bytes c k n x) m
+  unfolding with_held_bytes
   held_kept n x = then-kept c _ _ m (member-kept c m low k l _) (holding-kept _ m low k l x)
 
-  gone-kept : SameConfiguration c (withoutHeld c k) m
-  unfolding withoutHeld
-  gone-kept = held_kept 0 noBytes
+  gone-kept : SameConfiguration c (without_held c k) m
+  unfolding without_held
+  gone-kept = held_kept 0 no_bytes
 
 -- ---- the calls ----
 
-module _ (c : List ℕ) (m : ℕ) (h : isMember c m ≡ true) where
+module _ (c : List ℕ) (m : ℕ) (h : is_member c m ≡ true) where
   low : 1 ≤ m
   low = within_low _ _ m h
 
@@ -94,44 +94,44 @@ module _ (c : List ℕ) (m : ℕ) (h : isMember c m ≡ true) where
   AfterEvent y = SameConfiguration c y.1 m
 
   store_kept : (k t s : ℕ) (value : List ℕ) → SameConfiguration c (store c k t s value).1 m
-  unfolding store storeIn
+  unfolding store store_in
   store_kept k t s value =
       on-member-cases c k _ AfterEvent (λ a d. kept c m) λ e i.
       if-done-cases AfterEvent _ _ c (λ d. kept c m) (λ d. member-kept c m low k (within_low _ _ k i) _)
 
-  back-kept : (k : ℕ) → SameConfiguration c (handBackOf c k).1 m
-  unfolding handBackOf withHandedBack
+  back-kept : (k : ℕ) → SameConfiguration c (hand_back_of c k).1 m
+  unfolding hand_back_of with_handed_back
   back-kept k =
       on-member-cases c k _ AfterEvent (λ a d. kept c m) λ e i.
       let l = within_low _ _ k i in
-      unless-cases AfterEvent _ _ _ (λ t. kept c m) (λ t. then-kept c _ _ m (member-kept c m low k l _) (holding-kept _ m low k l noBytes))
+      unless-cases AfterEvent _ _ _ (λ t. kept c m) (λ t. then-kept c _ _ m (member-kept c m low k l _) (holding-kept _ m low k l no_bytes))
 
-  begin-kept : (k : ℕ) → SameConfiguration c (beginOf c k).1 m
-  unfolding beginOf
+  begin-kept : (k : ℕ) → SameConfiguration c (begin_of c k).1 m
+  unfolding begin_of
   begin-kept k = restore-cases c k _ After (λ a. kept c m) λ p.
       unless-cases After _ _ _ (λ t. kept c m) (λ t. member-kept c m low k (within_low _ _ k p.member) _)
 
-  feed-kept : (k : ℕ) (x : List ℕ) → SameConfiguration c (feedOf c k x).1 m
-  unfolding feedOf
+  feed-kept : (k : ℕ) (x : List ℕ) → SameConfiguration c (feed_of c k x).1 m
+  unfolding feed_of
   feed-kept k x = on-open-cases c k _ After (λ a. kept c m) λ p.
       let l = within_low _ _ k p.member in
       unless-cases After _ _ _ (λ t. gone-kept c m low k l) (λ t. held_kept c m low k l _ _)
 
-  finish-kept : (k id : ℕ) → SameConfiguration c (finishOf c k id).1 m
-  unfolding finishOf
+  finish-kept : (k id : ℕ) → SameConfiguration c (finish_of c k id).1 m
+  unfolding finish_of
   finish-kept k id = on-open-cases c k _ After (λ a. kept c m) λ p.
       then-kept c _ _ m (respond-kept _ _) (gone-kept _ m low k (within_low _ _ k p.member))
 
-  drop-kept : (k : ℕ) → SameConfiguration c (dropOf c k).1 m
-  unfolding dropOf
+  drop-kept : (k : ℕ) → SameConfiguration c (drop_of c k).1 m
+  unfolding drop_of
   drop-kept k = on-open-cases c k _ After (λ a. kept c m) (λ p. gone-kept c m low k (within_low _ _ k p.member))
 
 pub configuration-kept : ConfigurationKept
 unfolding step
 configuration-kept c m h = record {
   commands = respond-kept c m h;
-  cardStores = store_kept c m h;
-  handBacks = back-kept c m h;
+  card_stores = store_kept c m h;
+  hand_backs = back-kept c m h;
   begins = begin-kept c m h;
   feeds = feed-kept c m h;
   finishes = finish-kept c m h;

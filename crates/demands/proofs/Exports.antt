@@ -5,10 +5,10 @@ use Prim.Native.Nat.{ℕ, ◌≤◌}
 use native.Mathlib.Omega.{arith}
 use lib.ListN.{length, take}
 use Rattle.theory.specs.Bytes.{put}
-use Rattle.theory.proofs.Bytes.{bytesAt-put}
+use Rattle.theory.proofs.Bytes.{bytes_at-put}
 use Rattle.reply.specs.Reply.{written as written_of}
-use Rattle.admin.specs.Command.{respond, delivered, commandOf}
-use Rattle.message.specs.Message.{answer_of, delivered as respondedOf, messageOf}
+use Rattle.admin.specs.Command.{respond, delivered, command_of}
+use Rattle.message.specs.Message.{answer_of, delivered as responded_of, message_of}
 use Rattle.demands.specs.Calls.{Reply, written, responded, step}
 use Rattle.demands.specs.Exports.{ExportsStep}
 use Rattle.demands.proofs.Demand1.{delivers}
@@ -16,17 +16,17 @@ use Rattle.demands.proofs.Messages.{responded as responds}
 
 -- what is put at the front of a buffer is read there
 front : (x b : List ℕ) → length x ≤ length b → take (length x) (put 0 x b) ≡ x
-front x b h = bytesAt-put 0 x b (omega arith)
+front x b h = bytes_at-put 0 x b (omega arith)
 
 pub exports-step : ExportsStep
-unfolding step commandOf delivered written_of messageOf respondedOf
+unfolding step command_of delivered written_of message_of responded_of
 exports-step = record {
   commands = λ c r b.
       ap (λ (x : List ℕ). ((respond c r (length b)).0, written x)) (front (respond c r (length b)).1 b (delivers c r b).within);
-  handBacks = λ c m. refl;
+  hand_backs = λ c m. refl;
   wipes = λ c m g. refl;
-  cardResets = λ c g. refl;
-  cardStores = λ c m t s value. refl;
+  card_resets = λ c g. refl;
+  card_stores = λ c m t s value. refl;
   begins = λ c m. refl;
   feeds = λ c m x. refl;
   finishes = λ c m id. refl;

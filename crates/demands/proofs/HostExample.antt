@@ -11,24 +11,24 @@ use lib.ListN.{length, replicate}
 use Rattle.theory.specs.Logic.{◌and◌}
 use Rattle.theory.proofs.Tests.{both}
 use Rattle.protocol.specs.Opcodes.{bit}
-use Rattle.card.specs.Layout.{setupOf, inUseOf, isMarked}
-use Rattle.card.specs.Sound.{isSound}
+use Rattle.card.specs.Layout.{setup_of, in_use_of, is_marked}
+use Rattle.card.specs.Sound.{is_sound}
 use Rattle.frame.specs.Frame.{longest}
 use Rattle.frame.specs.Ask.{reaches, attended}
 use Rattle.host.specs.declared.Command.{Command}
 use Rattle.host.specs.declared.Command.TheVariants as host
-use Rattle.host.specs.Request.{sentOf, requestOf}
+use Rattle.host.specs.Request.{sent_of, request_of}
 use Rattle.demands.specs.Calls.{step}
-use Rattle.demands.specs.Examples.{exampleCard, useList}
+use Rattle.demands.specs.Examples.{example_card, use_list}
 use Rattle.demands.specs.Host.{inside, Takeable, TakenAs, ReadAs}
 use Rattle.demands.proofs.Model.{model}
 use Rattle.demands.proofs.Taken.{taken}
-use Rattle.demands.proofs.ReadBack.{read_back}
+use Rattle.demands.proofs.ReadBack.{read-back}
 
 bench : List ℕ
-bench = (step exampleCard (useList 0x3fc03)).0
+bench = (step example_card (use_list 0x3fc03)).0
 
-bench-sound : isSound bench ≡ true
+bench-sound : is_sound bench ≡ true
 unfolding model bench
 bench-sound = refl
 
@@ -37,11 +37,11 @@ bench-sound = refl
 -- the hypotheses as one test
 abbrev takes : Command × List ℕ → Bool
 takes (x, list) =
-    bit (inUseOf bench) (sentOf x).opcode
-    and reaches (setupOf bench).members (sentOf x).opcode (sentOf x).member
-    and attended (isMarked bench (sentOf x).member) (sentOf x).opcode
-    and inside ((setupOf bench).gets + (setupOf bench).sets) x list
-    and leb (length (requestOf x list)) longest
+    bit (in_use_of bench) (sent_of x).opcode
+    and reaches (setup_of bench).members (sent_of x).opcode (sent_of x).member
+    and attended (is_marked bench (sent_of x).member) (sent_of x).opcode
+    and inside ((setup_of bench).gets + (setup_of bench).sets) x list
+    and leb (length (request_of x list)) longest
 
 takeable : (x : Command) (list : List ℕ) → takes (x, list) ≡ true → Takeable bench x list
 takeable x list e =
@@ -49,7 +49,7 @@ takeable x list e =
     let q = both _ _ p.0 in
     let w = both _ _ q.0 in
     let r = both _ _ w.0 in
-    record { sound = bench-sound; inUse = r.0; member = r.1; unmarked = w.1; fields = q.1; short = leb-true _ _ p.1 }
+    record { sound = bench-sound; in_use = r.0; member = r.1; unmarked = w.1; fields = q.1; short = leb-true _ _ p.1 }
 
 -- a request of each command: two headers are asked for, and five bytes given to be set
 ten : List (Command × List ℕ)
@@ -84,4 +84,4 @@ type-is : (m id type : ℕ) → host.Metadata 1 0 2 ≡ host.Metadata m id type 
 type-is m id type e = cc
 
 list_read : ReadAs bench (host.Metadata 1 0 2) [] 8 2
-list_read = read_back bench (host.Metadata 1 0 2) [] 8 2 bench-sound (omega arith) (omega arith) type-is
+list_read = read-back bench (host.Metadata 1 0 2) [] 8 2 bench-sound (omega arith) (omega arith) type-is

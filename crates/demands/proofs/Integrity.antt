@@ -8,7 +8,7 @@ use lib.ListN.{length, take}
 use Rattle.theory.specs.Logic.{if◌then◌else◌}
 use Rattle.theory.specs.Bytes.{put}
 use Rattle.theory.proofs.Tests.{unless-cases}
-use Rattle.theory.proofs.Bytes.{take-before, drop-after, length-bytesAt-le}
+use Rattle.theory.proofs.Bytes.{take-before, drop-after, length-bytes_at-le}
 use Rattle.wire.specs.Le.{bytes}
 use Rattle.protocol.specs.declared.Answer.{Answer}
 use Rattle.protocol.specs.declared.EventAnswer.{EventAnswer}
@@ -16,25 +16,25 @@ use Rattle.protocol.specs.declared.ObjectKind.{ObjectKind}
 use Rattle.protocol.specs.declared.ChangeOp.TheVariants.{SetParts}
 use Rattle.objects.specs.declared.Found.{Found}
 use Rattle.objects.specs.declared.Found.TheVariants.{Live, Nothing}
-use Rattle.objects.specs.Objects.{onFound}
+use Rattle.objects.specs.Objects.{on_found}
 use Rattle.member.specs.declared.Member.{Member}
-use Rattle.member.specs.Objects.{lookupOf}
-use Rattle.member.specs.Record.{memberSize, holdingSize, memberBytes}
-use Rattle.member.specs.Member.{handedBack}
+use Rattle.member.specs.Objects.{lookup_of}
+use Rattle.member.specs.Record.{member_size, holding_size, member_bytes}
+use Rattle.member.specs.Member.{handed_back}
 use Rattle.changes.specs.declared.Changed.{Changed}
-use Rattle.changes.specs.Changes.{refuse, setPartsOf, changeOf}
+use Rattle.changes.specs.Changes.{refuse, set_parts_of, change_of}
 use Rattle.changes.proofs.Kept.{change-sound}
-use Rattle.card.specs.Layout.{inUseAt, memberBytesAt, holdingAt, recordSize, setupOf, recordAt, withInUse, withRecordBytes, memberIn, withMember, withHolding, noBytes, withRecord}
+use Rattle.card.specs.Layout.{in_use_at, member_bytes_at, holding_at, record_size, setup_of, record_at, with_in_use, with_record_bytes, member_in, with_member, with_holding, no_bytes, with_record}
 use Rattle.card.proofs.MemberLaws.{member-same}
 use Rattle.events.proofs.Cases.{on-member-cases}
 use Rattle.card.proofs.SoundLaws.{Sound, sound-of, sound-has, sound-member-in}
-use Rattle.events.specs.Events.{withHandedBack, handBack, wipe}
+use Rattle.events.specs.Events.{with_handed_back, hand_back, wipe}
 use Rattle.frame.specs.declared.Ask.{Ask}
 use Rattle.frame.specs.declared.Ask.TheVariants.{Refused, Change}
-use Rattle.frame.specs.Frame.{opcode_of, target_of, data_of, givenList}
-use Rattle.frame.specs.Fields.{setIn, useIn, fields_of}
-use Rattle.frame.specs.Ask.{framedOf, askOf}
-use Rattle.admin.specs.Command.{askIn, perform, respond}
+use Rattle.frame.specs.Frame.{opcode_of, target_of, data_of, given_list}
+use Rattle.frame.specs.Fields.{set_in, use_in, fields_of}
+use Rattle.frame.specs.Ask.{framed_of, ask_of}
+use Rattle.admin.specs.Command.{ask_in, perform, respond}
 use Rattle.demands.specs.Calls.{step}
 use Rattle.demands.specs.Claims.{SameOutside, DifferAtMost, Integrity}
 use Rattle.admin.proofs.Respond.{NamedIn, FactsIn, asked_of, card-cases}
@@ -49,13 +49,13 @@ put-outside : (at size : ℕ) (x c : List ℕ) → length x ≤ size → SameOut
 put-outside at size x c h =
     record { before = take-before at at x c (omega arith); after = drop-after (at + size) at x c (omega arith) }
 
-bytes-outside : (m : ℕ) (c : List ℕ) (at n : ℕ) (x : List ℕ) → at + n ≤ recordSize → DifferAtMost m (withRecordBytes c m at n x) c
-unfolding withRecordBytes
+bytes-outside : (m : ℕ) (c : List ℕ) (at n : ℕ) (x : List ℕ) → at + n ≤ record_size → DifferAtMost m (with_record_bytes c m at n x) c
+unfolding with_record_bytes
 bytes-outside m c at n x i =
-    let w = length-bytesAt-le 0 n x in
+    let w = length-bytes_at-le 0 n x in
     record {
-      before = take-before (recordAt m) (recordAt m + at) (take n x) c (omega arith);
-      after = drop-after (recordAt m + recordSize) (recordAt m + at) (take n x) c (omega arith);
+      before = take-before (record_at m) (record_at m + at) (take n x) c (omega arith);
+      after = drop-after (record_at m + record_size) (record_at m + at) (take n x) c (omega arith);
     }
 
 leaves-outside : (m : ℕ) (c d : List ℕ) → Leaves m c d → DifferAtMost m d c
@@ -69,27 +69,27 @@ leaves-outside m c _ (changed {d} l h at n x i q) =
 EventOutside : ℕ → List ℕ → EventAnswer × List ℕ → Type 0
 EventOutside m c y = DifferAtMost m y.1 c
 
-back-outside : (c : List ℕ) (m : ℕ) → EventOutside m c (handBack c m)
-unfolding handBack withHandedBack withMember withHolding EventOutside
+back-outside : (c : List ℕ) (m : ℕ) → EventOutside m c (hand_back c m)
+unfolding hand_back with_handed_back with_member with_holding EventOutside
 back-outside c m =
     on-member-cases c m _ (EventOutside m c) (λ a d. same _ _ c) λ s h.
     unless-cases (EventOutside m c) _ _ _ (λ t. same _ _ c) λ t.
-    let f = bytes-outside m c memberBytesAt memberSize (memberBytes (handedBack (memberIn c m))) (omega arith) in
-    let g = bytes-outside m _ holdingAt holdingSize noBytes (omega arith) in
+    let f = bytes-outside m c member_bytes_at member_size (member_bytes (handed_back (member_in c m))) (omega arith) in
+    let g = bytes-outside m _ holding_at holding_size no_bytes (omega arith) in
     record { before = g.before ∙ f.before; after = g.after ∙ f.after }
 
 wipe-outside : (c : List ℕ) (m g : ℕ) → EventOutside m c (wipe c m g)
-unfolding wipe withRecord EventOutside
+unfolding wipe with_record EventOutside
 wipe-outside c m g =
     on-member-cases c m _ (EventOutside m c) (λ a d. same _ _ c) λ s h.
-    unless-cases (EventOutside m c) _ _ _ (λ t. same _ _ c) (λ t. bytes-outside m c 0 recordSize _ (omega arith))
+    unless-cases (EventOutside m c) _ _ _ (λ t. same _ _ c) (λ t. bytes-outside m c 0 record_size _ (omega arith))
 
 -- ---- a command, by its opcode ----
 
 -- what holds of a refusal and of what the fields at the opcode ask, holds of what the request asks
 ask-at : (c r : List ℕ) (op : ℕ) → opcode_of r ≡ op → (P : Ask → Type 0) → ((a : Answer) → P (Refused a))
-    → P (fields_of ((setupOf c).gets + (setupOf c).sets) (target_of r) op (data_of r)) → P (askIn c r)
-unfolding askIn askOf framedOf
+    → P (fields_of ((setup_of c).gets + (setup_of c).sets) (target_of r) op (data_of r)) → P (ask_in c r)
+unfolding ask_in ask_of framed_of
 ask-at c r op e P f g =
     rw e
     (unless-cases P _ _ _ (λ t. f _) λ t.
@@ -99,27 +99,27 @@ ask-at c r op e P f g =
     unless-cases P _ _ _ (λ t. f _) λ t. g)
 
 -- list use
-use-outside : (c r : List ℕ) (room : ℕ) → opcode_of r ≡ 0x01 → SameOutside inUseAt 8 (respond c r room).0 c
-unfolding perform withInUse fields_of useIn if◌then◌else◌ bytes
+use-outside : (c r : List ℕ) (room : ℕ) → opcode_of r ≡ 0x01 → SameOutside in_use_at 8 (respond c r room).0 c
+unfolding perform with_in_use fields_of use_in if◌then◌else◌ bytes
 use-outside c r room e =
-    let P : Ask → Type 0 = λ a. SameOutside inUseAt 8 (perform c r a).card c in
-    card-cases c r room (λ d. SameOutside inUseAt 8 d c) (same _ _ c)
+    let P : Ask → Type 0 = λ a. SameOutside in_use_at 8 (perform c r a).card c in
+    card-cases c r room (λ d. SameOutside in_use_at 8 d c) (same _ _ c)
     (λ s. ask-at c r 0x01 e P (λ a. same _ _ c)
-    (unless-cases P _ _ _ (λ t. same _ _ c) (λ t. put-outside inUseAt 8 _ c (omega arith))))
+    (unless-cases P _ _ _ (λ t. same _ _ c) (λ t. put-outside in_use_at 8 _ c (omega arith))))
 
 -- parts set: the member with other values at most
 Kept : Member → Member → Type 0
 Kept m x = (x.mode ≡ m.mode) × (x.objects ≡ m.objects)
 
 found-kept : (m : Member) (x : Found) (f : ObjectKind → Changed) (a : Answer) → ((k : ObjectKind) → Kept m (f k).member)
-    → Kept m (onFound x f (refuse m a)).member
+    → Kept m (on_found x f (refuse m a)).member
 unfolding Kept
 found-kept m Nothing f a h = (refl, refl)
 found-kept m (Live k) f a h = h k
 
-set-kept : (gets sets id : ℕ) (list : List ℕ) (m : Member) → Kept m (changeOf gets sets list (SetParts id) m).member
-unfolding setPartsOf Kept
-set-kept gets sets id list m = found-kept m (lookupOf m id) _ _ λ k.
+set-kept : (gets sets id : ℕ) (list : List ℕ) (m : Member) → Kept m (change_of gets sets list (SetParts id) m).member
+unfolding set_parts_of Kept
+set-kept gets sets id list m = found-kept m (lookup_of m id) _ _ λ k.
     unless-cases (λ (y : Changed). Kept m y.member) _ _ _ (λ t. (refl, refl)) λ t.
     unless-cases (λ (y : Changed). Kept m y.member) _ _ _ (λ t. (refl, refl)) λ t.
     unless-cases (λ (y : Changed). Kept m y.member) _ _ _ (λ t. (refl, refl)) λ t. (refl, refl)
@@ -130,28 +130,28 @@ module _ (c : List ℕ) (s : Sound c) (r : List ℕ) where
   m = target_of r
 
   abbrev StaysAs : List ℕ → Type 0
-  StaysAs d = Kept (memberIn c m) (memberIn d m)
+  StaysAs d = Kept (member_in c m) (member_in d m)
 
-  put-kept : (id : ℕ) → NamedIn c r m → id < (setupOf c).gets + (setupOf c).sets
+  put-kept : (id : ℕ) → NamedIn c r m → id < (setup_of c).gets + (setup_of c).sets
       → StaysAs (perform c r (Change m (SetParts id))).card
   unfolding perform
   put-kept id n b =
       let h = named_here c r m n in
       let x = sound-member-in c s m h in
-      let y = change-sound _ _ (givenList r) (SetParts id) (memberIn c m) _ b (named-unmarked c r m n) x in
-      rw (member-same c m _ (sound-has c s m h) y.shaped) (set-kept (setupOf c).gets (setupOf c).sets id (givenList r) (memberIn c m))
+      let y = change-sound _ _ (given_list r) (SetParts id) (member_in c m) _ b (named-unmarked c r m n) x in
+      rw (member-same c m _ (sound-has c s m h) y.shaped) (set-kept (setup_of c).gets (setup_of c).sets id (given_list r) (member_in c m))
 
-  asked-kept : opcode_of r ≡ 0x10 → FactsIn c r (askIn c r) → StaysAs (perform c r (askIn c r)).card
-  unfolding fields_of setIn perform if◌then◌else◌ Kept
+  asked-kept : opcode_of r ≡ 0x10 → FactsIn c r (ask_in c r) → StaysAs (perform c r (ask_in c r)).card
+  unfolding fields_of set_in perform if◌then◌else◌ Kept
   asked-kept e =
       let P : Ask → Type 0 = λ a. FactsIn c r a → StaysAs (perform c r a).card in
       ask-at c r 0x10 e P (λ a f. (refl, refl))
       (unless-cases P _ _ _ (λ t f. (refl, refl)) (λ t f. put-kept _ f.0 f.1))
 
-set_keeps : (c r : List ℕ) (room : ℕ) → opcode_of r ≡ 0x10 → Kept (memberIn c (target_of r)) (memberIn (respond c r room).0 (target_of r))
+set_keeps : (c r : List ℕ) (room : ℕ) → opcode_of r ≡ 0x10 → Kept (member_in c (target_of r)) (member_in (respond c r room).0 (target_of r))
 unfolding Kept
 set_keeps c r room e =
-    card-cases c r room (λ d. Kept (memberIn c (target_of r)) (memberIn d (target_of r))) (refl, refl)
+    card-cases c r room (λ d. Kept (member_in c (target_of r)) (member_in d (target_of r))) (refl, refl)
     (λ s. asked-kept c (sound-of c s) r e (asked_of c r))
 
 -- ---- the claim ----
@@ -160,8 +160,8 @@ pub integrity : Integrity
 unfolding step Kept EventOutside
 integrity = record {
   named = λ c m x n. leaves-outside m c _ (named-leaves m c x n);
-  handedBack = back-outside;
+  handed_back = back-outside;
   wiped = wipe-outside;
-  listUse = λ c r room. use-outside c r _;
-  partsSet = λ c r room. set_keeps c r _;
+  list_use = λ c r room. use-outside c r _;
+  parts_set = λ c r room. set_keeps c r _;
 }

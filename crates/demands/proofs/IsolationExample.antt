@@ -9,32 +9,32 @@ use lib.ListN.{length, get_or, take, drop, replicate}
 use Rattle.theory.specs.Bytes.{same}
 use Rattle.theory.proofs.Tests.{same_true}
 use Rattle.theory.specs.Machine.{trace, run, seen, visible}
-use Rattle.card.specs.Layout.{recordSize, recordAt, isMember, memberIn, isMarked}
-use Rattle.card.specs.Sound.{isSound}
-use Rattle.demands.specs.Calls.{Call, handBack, wipe, cardStore, answered, step, names, ofWipe}
-use Rattle.host.specs.Request.{getAll}
+use Rattle.card.specs.Layout.{record_size, record_at, is_member, member_in, is_marked}
+use Rattle.card.specs.Sound.{is_sound}
+use Rattle.demands.specs.Calls.{Call, hand_back, wipe, card_store, answered, step, names, of_wipe}
+use Rattle.host.specs.Request.{get_all}
 use Rattle.demands.specs.Claims.{DifferAtMost}
-use Rattle.demands.specs.Examples.{exampleCard, send, useList, create, setMode}
+use Rattle.demands.specs.Examples.{example_card, send, use_list, create, set_mode}
 use Rattle.demands.proofs.Model.{model}
 use Rattle.demands.proofs.Isolation.{isolation}
 
 -- the card after all commands are in use, and after member 1 has a get object and is stopped, too
 card₁ : List ℕ
-card₁ = (step exampleCard (useList 0x3fc03)).0
+card₁ = (step example_card (use_list 0x3fc03)).0
 
 card₂ : List ℕ
-card₂ = (step (step card₁ (create 0 0)).0 (setMode 1 1)).0
+card₂ = (step (step card₁ (create 0 0)).0 (set_mode 1 1)).0
 
 -- a queue address of member 1 is stored; member 2 is stopped in both. Member 1 is handed back: a command for it is refused, and
 -- a card store for it works. Then it is wiped and asked again
 calls₁ : List Call
-calls₁ = cardStore 1 0x104 0 (0 ∷ 1 ∷ replicate 30 0xaa) ∷ setMode 2 1 ∷ handBack 1 ∷ create 0 0 ∷ []
+calls₁ = card_store 1 0x104 0 (0 ∷ 1 ∷ replicate 30 0xaa) ∷ set_mode 2 1 ∷ hand_back 1 ∷ create 0 0 ∷ []
 
 calls₂ : List Call
-calls₂ = setMode 2 1 ∷ create 1 1 ∷ send (getAll 1 0) ∷ handBack 1 ∷ cardStore 1 0x103 0 (5 ∷ []) ∷ []
+calls₂ = set_mode 2 1 ∷ create 1 1 ∷ send (get_all 1 0) ∷ hand_back 1 ∷ card_store 1 0x103 0 (5 ∷ []) ∷ []
 
 later : List Call
-later = create 0 0 ∷ send (getAll 1 0) ∷ []
+later = create 0 0 ∷ send (get_all 1 0) ∷ []
 
 example : Unit {0}
 unfolding model card₁ card₂ calls₁ calls₂ later
@@ -42,38 +42,38 @@ example = tt
 
 -- ---- each hypothesis ----
 
-sound₁ : isSound card₁ ≡ true
+sound₁ : is_sound card₁ ≡ true
 unfolding example
 sound₁ = refl
 
-sound₂ : isSound card₂ ≡ true
+sound₂ : is_sound card₂ ≡ true
 unfolding example
 sound₂ = refl
 
-member-here : isMember card₁ 1 ≡ true
+member-here : is_member card₁ 1 ≡ true
 unfolding example
 member-here = refl
 
-same_after : same (drop (recordAt 1 + recordSize) card₁) (drop (recordAt 1 + recordSize) card₂) ≡ true
+same_after : same (drop (record_at 1 + record_size) card₁) (drop (record_at 1 + record_size) card₂) ≡ true
 unfolding example
 same_after = refl
 
-same-before : take (recordAt 1) card₁ ≡ take (recordAt 1) card₂
+same-before : take (record_at 1) card₁ ≡ take (record_at 1) card₂
 unfolding example
 same-before = refl
 
 same-but-member : DifferAtMost 1 card₁ card₂
 same-but-member = record { before = same-before; after = same_true _ _ same_after }
 
-same-mark : isMarked card₁ 1 ≡ isMarked card₂ 1
+same-mark : is_marked card₁ 1 ≡ is_marked card₂ 1
 unfolding example
 same-mark = refl
 
-queues₁ : (memberIn card₁ 1).queues ≡ 1
+queues₁ : (member_in card₁ 1).queues ≡ 1
 unfolding example
 queues₁ = refl
 
-queues₂ : (memberIn card₂ 1).queues ≡ 1
+queues₂ : (member_in card₂ 1).queues ≡ 1
 unfolding example
 queues₂ = refl
 
@@ -104,4 +104,4 @@ isolated : seen (names 1) (length calls₁) (trace step card₁ (calls₁ ++ wip
     ≡ seen (names 1) (length calls₂) (trace step card₂ (calls₂ ++ wipe 1 7 ∷ later))
 isolated =
     isolation card₁ card₂ sound₁ sound₂ 1 member-here same-but-member same-mark (queues₁ ∙ sym queues₂)
-    calls₁ calls₂ same-struck-out (wipe 1 7) (rw wipe-answers ofWipe) later
+    calls₁ calls₂ same-struck-out (wipe 1 7) (rw wipe-answers of_wipe) later

@@ -10,23 +10,23 @@ use Rattle.theory.proofs.Tests.{by_cases, never, inside, within_low, within-high
 use Rattle.protocol.specs.declared.Answer.TheVariants.{Done}
 use Rattle.protocol.specs.declared.ObjectKind.TheVariants.{Get}
 use Rattle.protocol.specs.Opcodes.{bit}
-use Rattle.inventory.specs.Inventory.{partsSize}
+use Rattle.inventory.specs.Inventory.{parts_size}
 use Rattle.parts.specs.declared.ListForm.TheVariants.{Parts}
-use Rattle.parts.specs.List.{parts_of, longestList}
-use Rattle.rules.specs.Rules.{causeOf, isAccepted}
+use Rattle.parts.specs.List.{parts_of, longest_list}
+use Rattle.rules.specs.Rules.{cause_of, is_accepted}
 use Rattle.values.proofs.Kept.{applied-features}
-use Rattle.capture.specs.Capture.{captureOf}
+use Rattle.capture.specs.Capture.{capture_of}
 use Rattle.objects.specs.declared.Found.TheVariants.{Live}
-use Rattle.member.specs.Objects.{lookupOf}
-use Rattle.member.specs.Member.{featuresIn, withValues}
+use Rattle.member.specs.Objects.{lookup_of}
+use Rattle.member.specs.Member.{features_in, with_values}
 use Rattle.setups.specs.declared.Setup.{Setup}
 use Rattle.setups.specs.declared.MemberSetup.{MemberSetup}
 use Rattle.setups.specs.declared.ReadOutcome.{ReadOutcome}
-use Rattle.setups.specs.Reading.{noSetup, readSetup}
-use Rattle.setups.specs.Member.{noMember, memberOf, memberSetup}
+use Rattle.setups.specs.Reading.{no_setup, read_setup}
+use Rattle.setups.specs.Member.{no_member, member_of, member_setup}
 use Rattle.setups.proofs.InRange.{read-cases}
 use Rattle.setups.proofs.Member.{member-in-range}
-use Rattle.card.specs.Layout.{inUseOf, memberIn, withMember}
+use Rattle.card.specs.Layout.{in_use_of, member_in, with_member}
 use Rattle.reply.specs.Reply.{head_of}
 use Rattle.difference.specs.Difference.{made}
 use Rattle.difference.specs.Claims.{Pair}
@@ -38,43 +38,43 @@ use Rattle.salvage.proofs.Claims as salvage
 use Rattle.salvage.proofs.Values.{repaired-long}
 use Rattle.salvage.proofs.Under.{salvage-written}
 use Rattle.demands.specs.RoundTrip.{capture}
-use Rattle.demands.specs.Lists.{HasMember, MembersKnown, Settable, Alike, setList, after_both, SetAlike, MergedSets, FoundCaptured, SalvagedAccepted}
-use Rattle.demands.proofs.Setting.{member, capture-is, settable, memberSet, cardSet, set_is, member-sound, member-after, settable-after, lookup-after, use-after, card-is, card-over, after-head}
+use Rattle.demands.specs.Lists.{HasMember, MembersKnown, Settable, Alike, set_list, after_both, SetAlike, MergedSets, FoundCaptured, SalvagedAccepted}
+use Rattle.demands.proofs.Setting.{member, capture-is, settable, member_set, card_set, set_is, member-sound, member-after, settable-after, lookup-after, use-after, card-is, card-over, after-head}
 
 -- ---- what a setup says of a member ----
 
-known-within : (s : Setup) (m : ℕ) → (memberOf s m).known ≡ true → within 1 s.members m ≡ true
-unfolding memberOf noMember unless◌answer◌then◌
+known-within : (s : Setup) (m : ℕ) → (member_of s m).known ≡ true → within 1 s.members m ≡ true
+unfolding member_of no_member unless◌answer◌then◌
 known-within s m e = by_cases (within 1 s.members m) (λ y. y) (λ n. never (rw n at e))
 
-known_member : (setup : List ℕ) (m : ℕ) → (memberSetup setup m).known ≡ true → HasMember (readSetup setup) m
-unfolding memberSetup noSetup
+known_member : (setup : List ℕ) (m : ℕ) → (member_setup setup m).known ≡ true → HasMember (read_setup setup) m
+unfolding member_setup no_setup
 known_member setup m =
-    read-cases (λ (o : ReadOutcome). (memberOf o.setup m).known ≡ true → HasMember o m) setup
-    (λ k. let t = known-within noSetup m k in absurd (omega (arith, within_low 1 0 m t, within-high 1 0 m t)))
+    read-cases (λ (o : ReadOutcome). (member_of o.setup m).known ≡ true → HasMember o m) setup
+    (λ k. let t = known-within no_setup m k in absurd (omega (arith, within_low 1 0 m t, within-high 1 0 m t)))
     (λ s r k.
     let t = known-within s m k in
     record { read = refl; low = within_low 1 s.members m t; high = within-high 1 s.members m t })
 
 pub members-known : MembersKnown
-unfolding memberSetup memberOf unless◌answer◌then◌
+unfolding member_setup member_of unless◌answer◌then◌
 members-known setup m =
     record {
-      known = λ h. rw (inside 1 (readSetup setup).setup.members m h.low h.high);
+      known = λ h. rw (inside 1 (read_setup setup).setup.members m h.low h.high);
       only = known_member setup m;
-      queues = λ k. rw (known-within (readSetup setup).setup m k);
-      features = λ k. rw (known-within (readSetup setup).setup m k);
+      queues = λ k. rw (known-within (read_setup setup).setup m k);
+      features = λ k. rw (known-within (read_setup setup).setup m k);
     }
 
 -- ---- two lists set one after the other, and the list made of them ----
 
 module _ (c : List ℕ) (m j : ℕ) (x : Settable c m j) (full later : List ℕ)
-    (pair : Pair (memberIn c m).queues (featuresIn (memberIn c m)) full later) where
+    (pair : Pair (member_in c m).queues (features_in (member_in c m)) full later) where
   abbrev q : ℕ
-  q = (memberIn c m).queues
+  q = (member_in c m).queues
 
   abbrev v : List ℕ
-  v = (memberIn c m).values
+  v = (member_in c m).values
 
   long : length v ≡ 205
   long = (member c m (settable c m j x)).shaped.long
@@ -82,47 +82,47 @@ module _ (c : List ℕ) (m j : ℕ) (x : Settable c m j) (full later : List ℕ)
   abbrev merged : List ℕ
   merged = made q full later
 
-  merged-right : isAccepted (causeOf q (featuresIn (memberIn c m)) merged) ≡ true
+  merged-right : is_accepted (cause_of q (features_in (member_in c m)) merged) ≡ true
   merged-right = made-accepted q full later v long pair
 
   -- after the full capture
   abbrev once : List ℕ
-  once = cardSet c m j x full pair.fullAccepted
+  once = card_set c m j x full pair.full_accepted
 
-  once-member : memberIn once m ≡ memberSet c m j x full pair.fullAccepted
-  once-member = member-after c m j x full pair.fullAccepted
+  once-member : member_in once m ≡ member_set c m j x full pair.full_accepted
+  once-member = member-after c m j x full pair.full_accepted
 
   again : Settable once m j
-  again = settable-after c m j x full pair.fullAccepted
+  again = settable-after c m j x full pair.full_accepted
 
-  later-right : isAccepted (causeOf (memberIn once m).queues (featuresIn (memberIn once m)) later) ≡ true
-  unfolding memberSet
-  later-right = rw (once-member, applied-features q (parts_of Parts full) v) pair.laterAccepted
+  later-right : is_accepted (cause_of (member_in once m).queues (features_in (member_in once m)) later) ≡ true
+  unfolding member_set
+  later-right = rw (once-member, applied-features q (parts_of Parts full) v) pair.later_accepted
 
   -- the card after both is the card after the made list
-  both-member : memberSet once m j again later later-right ≡ memberSet c m j x merged merged-right
-  unfolding memberSet
-  both-member = rw once-member (ap (withValues (memberIn c m)) (sym (made-sets q full later v long pair)))
+  both-member : member_set once m j again later later-right ≡ member_set c m j x merged merged-right
+  unfolding member_set
+  both-member = rw once-member (ap (with_values (member_in c m)) (sym (made-sets q full later v long pair)))
 
-  both_is : cardSet once m j again later later-right ≡ cardSet c m j x merged merged-right
+  both_is : card_set once m j again later later-right ≡ card_set c m j x merged merged-right
   both_is =
       card-is once m j again later later-right
-      ∙ card-over c m j x full pair.fullAccepted (memberSet once m j again later later-right) (member-sound once m j again later later-right).shaped
-      ∙ ap (withMember c m) both-member ∙ sym (card-is c m j x merged merged-right)
+      ∙ card-over c m j x full pair.full_accepted (member_set once m j again later later-right) (member-sound once m j again later later-right).shaped
+      ∙ ap (with_member c m) both-member ∙ sym (card-is c m j x merged merged-right)
 
-  merged-values : captureOf (memberIn (cardSet c m j x merged merged-right) m).queues (memberIn (cardSet c m j x merged merged-right) m).values ≡ merged
-  unfolding memberSet
+  merged-values : capture_of (member_in (card_set c m j x merged merged-right) m).queues (member_in (card_set c m j x merged merged-right) m).values ≡ merged
+  unfolding member_set
   merged-values =
       rw (member-after c m j x merged merged-right, made-sets q full later v long pair) (sym (made-is q full later v long pair))
 
-  module _ (r : ℕ) (room : 8 ≤ r) (shortFull : length full ≤ longestList) (shortLater : length later ≤ longestList) where
-    full-set : setList c m j full r ≡ (once, head_of Done)
-    full-set = set_is c m j x full pair.fullAccepted r room shortFull
+  module _ (r : ℕ) (room : 8 ≤ r) (short_full : length full ≤ longest_list) (short_later : length later ≤ longest_list) where
+    full-set : set_list c m j full r ≡ (once, head_of Done)
+    full-set = set_is c m j x full pair.full_accepted r room short_full
 
-    later-set : setList (setList c m j full r).0 m j later r ≡ (cardSet c m j x merged merged-right, head_of Done)
-    later-set = rw full-set (set_is once m j again later later-right r room shortLater ∙ rw both_is)
+    later-set : set_list (set_list c m j full r).0 m j later r ≡ (card_set c m j x merged merged-right, head_of Done)
+    later-set = rw full-set (set_is once m j again later later-right r room short_later ∙ rw both_is)
 
-    merged-set : setList c m j merged r ≡ (cardSet c m j x merged merged-right, head_of Done)
+    merged-set : set_list c m j merged r ≡ (card_set c m j x merged merged-right, head_of Done)
     merged-set =
         let few = pair.few in
         let n = made-long q full later v long pair in
@@ -130,30 +130,30 @@ module _ (c : List ℕ) (m j : ℕ) (x : Settable c m j) (full later : List ℕ)
 
     pub set-alike : SetAlike c m j full later merged r
     set-alike = record {
-      fullAccepted = ap (λ (y : List ℕ × List ℕ). y.1) full-set;
-      laterAccepted = ap (λ (y : List ℕ × List ℕ). y.1) later-set;
-      mergedAccepted = ap (λ (y : List ℕ × List ℕ). y.1) merged-set;
+      full_accepted = ap (λ (y : List ℕ × List ℕ). y.1) full-set;
+      later_accepted = ap (λ (y : List ℕ × List ℕ). y.1) later-set;
+      merged_accepted = ap (λ (y : List ℕ × List ℕ). y.1) merged-set;
       same = ap (λ (y : List ℕ × List ℕ). y.0) merged-set ∙ sym (ap (λ (y : List ℕ × List ℕ). y.0) later-set);
     }
 
     -- a full capture after both is the made list
-    pub captured-made : (i : ℕ) → lookupOf (memberIn c m) i ≡ Live Get → bit (inUseOf c) 0x0f ≡ true → 8 + partsSize q ≤ r
+    pub captured-made : (i : ℕ) → lookup_of (member_in c m) i ≡ Live Get → bit (in_use_of c) 0x0f ≡ true → 8 + parts_size q ≤ r
         → drop 8 (capture (after_both c m j full later r) m i r) ≡ merged
-    captured-made i get inUse h =
-        let after = cardSet c m j x merged merged-right in
+    captured-made i get in_use h =
+        let after = card_set c m j x merged merged-right in
         let n = made-long q full later v long pair in
         let taken =
         capture-is after m (settable after m j (settable-after c m j x merged merged-right)) i r
-        (lookup-after c m j x merged merged-right i ∙ get) (rw (use-after c m j x merged merged-right) inUse) (rw (merged-values, n) h) in
+        (lookup-after c m j x merged merged-right i ∙ get) (rw (use-after c m j x merged merged-right) in_use) (rw (merged-values, n) h) in
         ap (λ (y : List ℕ × List ℕ). drop 8 (capture y.0 m i r)) later-set
         ∙ ap (drop 8) (taken ∙ ap (λ l. head_of Done ++ l) merged-values)
         ∙ after-head merged
 
 -- ---- under a setup ----
 
-module _ (c : List ℕ) (m j : ℕ) (setup : List ℕ) (k : ℕ) (x : Settable c m j) (y : Alike c m (memberSetup setup k)) where
+module _ (c : List ℕ) (m j : ℕ) (setup : List ℕ) (k : ℕ) (x : Settable c m j) (y : Alike c m (member_setup setup k)) where
   abbrev s : MemberSetup
-  s = memberSetup setup k
+  s = member_setup setup k
 
   in-setup : InSetup s.queues s.features
   in-setup = let r = member-in-range setup k y.known in record { count = r.count; long = r.features }
@@ -161,29 +161,29 @@ module _ (c : List ℕ) (m j : ℕ) (setup : List ℕ) (k : ℕ) (x : Settable c
   few-queues : s.queues < 5
   few-queues = omega (arith, within-high 1 4 s.queues in-setup.count)
 
-  own-features : featuresIn (memberIn c m) ≡ s.features
+  own-features : features_in (member_in c m) ≡ s.features
   own-features = (member c m (settable c m j x)).kept ∙ y.features
 
-  own_pair : (full later : List ℕ) → Pair s.queues s.features full later → Pair (memberIn c m).queues (featuresIn (memberIn c m)) full later
+  own_pair : (full later : List ℕ) → Pair s.queues s.features full later → Pair (member_in c m).queues (features_in (member_in c m)) full later
   own_pair full later p = rw (y.queues, own-features) p
 
 pub merged-sets : MergedSets
 merged-sets c m j setup k x y full later out e f l r room =
-    let s = memberSetup setup k in
+    let s = member_setup setup k in
     let p = merged-made s y.known (few-queues c m j setup k x y) full later out e in
     rw (p.bytes, ← y.queues) (set-alike c m j x full later (own_pair c m j setup k x y full later p.pair) r room f l)
 
 pub found-captured : FoundCaptured
-found-captured c m j setup k x y i get inUse full later t selector e f l r room =
-    let s = memberSetup setup k in
+found-captured c m j setup k x y i get in_use full later t selector e f l r room =
+    let s = member_setup setup k in
     let few = few-queues c m j setup k x y in
     let p = found-pair s y.known few full later t selector e in
     let own = own_pair c m j setup k x y full later p in
-    rw (captured-made c m j x full later own r (omega arith) f l i get inUse room, y.queues) (found-made s y.known few full later t selector p)
+    rw (captured-made c m j x full later own r (omega arith) f l i get in_use room, y.queues) (found-made s y.known few full later t selector p)
 
 pub salvaged-accepted : SalvagedAccepted
 salvaged-accepted c m j setup k x y damaged b some r room =
-    let s = memberSetup setup k in
+    let s = member_setup setup k in
     let g = in-setup c m j setup k x y in
     let few = few-queues c m j setup k x y in
     let n = repaired-long s.queues s.features damaged g in

@@ -13,174 +13,174 @@ use Rattle.protocol.specs.declared.Answer.TheVariants as answer
 use Rattle.protocol.specs.declared.EventAnswer.TheVariants.{Done}
 use Rattle.protocol.specs.declared.Mode.TheVariants.{Stopped}
 use Rattle.protocol.specs.declared.ObjectKind.TheVariants.{Set}
-use Rattle.protocol.specs.Answers.{isEventDone}
+use Rattle.protocol.specs.Answers.{is_event_done}
 use Rattle.protocol.specs.Opcodes.{bit}
-use Rattle.inventory.specs.Inventory.{selectorOf}
+use Rattle.inventory.specs.Inventory.{selector_of}
 use Rattle.parts.specs.declared.ListForm.TheVariants.{Parts}
-use Rattle.parts.specs.List.{parts_of, valueOr, longestList}
+use Rattle.parts.specs.List.{parts_of, value_or, longest_list}
 use Rattle.objects.specs.declared.Found.TheVariants.{Live}
-use Rattle.member.specs.Objects.{lookupOf}
-use Rattle.setups.specs.Bits.{widths, joined, bigEndian, packed}
-use Rattle.setups.specs.Writing.{countFields, areEqual, fields_of, packedSetup, placed, written}
-use Rattle.card.specs.Layout.{cardSize, recordSize, recordAt, inUseOf, isMember, memberIn, isMarked}
-use Rattle.card.specs.Sound.{isSound}
+use Rattle.member.specs.Objects.{lookup_of}
+use Rattle.setups.specs.Bits.{widths, joined, big_endian, packed}
+use Rattle.setups.specs.Writing.{count_fields, are_equal, fields_of, packed_setup, placed, written}
+use Rattle.card.specs.Layout.{card_size, record_size, record_at, in_use_of, is_member, member_in, is_marked}
+use Rattle.card.specs.Sound.{is_sound}
 use Rattle.reply.specs.Reply.{head_of}
-use Rattle.loads.specs.Loads.{part_of, loadIn, load, lent, state_of, live_of, summaryOf, memberTold, configurationFor, configurationTold, setupOfCard}
-use Rattle.demands.specs.Calls.{Call, handBack, wipe, cardStore, answered, step, names, ofWipe}
+use Rattle.loads.specs.Loads.{part_of, load_in, load, lent, state_of, live_of, summary_of, member_told, configuration_for, configuration_told, setup_of_card}
+use Rattle.demands.specs.Calls.{Call, hand_back, wipe, card_store, answered, step, names, of_wipe}
 use Rattle.demands.specs.Claims.{DifferAtMost}
-use Rattle.demands.specs.Examples.{exampleCard, allUsed, create, setMode, header, headerBytes}
-use Rattle.demands.specs.Lists.{Settable, setList}
+use Rattle.demands.specs.Examples.{example_card, all_used, create, set_mode, header, header_bytes}
+use Rattle.demands.specs.Lists.{Settable, set_list}
 use Rattle.demands.specs.Loads.{ReadsFresh, SetUpAgain, ReadAlike}
-use Rattle.demands.specs.QueueCounts.{countsCard}
+use Rattle.demands.specs.QueueCounts.{counts_card}
 use Rattle.demands.proofs.Model.{model}
 use Rattle.demands.proofs.Loads.{load_stored, load_set}
 use Rattle.demands.proofs.LoadsFresh.{load-wiped, setup-again, loads-isolated}
 
 -- what computes here besides the model
 unfoldable pub loads : Unit {0}
-unfolding model part_of loadIn load lent state_of live_of summaryOf memberTold configurationFor configurationTold setupOfCard
-    widths joined bigEndian packed countFields areEqual fields_of packedSetup placed written countsCard
+unfolding model part_of load_in load lent state_of live_of summary_of member_told configuration_for configuration_told setup_of_card
+    widths joined big_endian packed count_fields are_equal fields_of packed_setup placed written counts_card
 loads = tt
 
 -- ---- stored ----
 
-aStatus : List ℕ
-aStatus = 0x0f ∷ []
+a_status : List ℕ
+a_status = 0x0f ∷ []
 
-storesStatus : Call
-storesStatus = cardStore 1 0x103 0 aStatus
+stores_status : Call
+stores_status = card_store 1 0x103 0 a_status
 
-is-stored : (step exampleCard storesStatus).1 ≡ answered 0
-unfolding loads aStatus storesStatus
+is-stored : (step example_card stores_status).1 ≡ answered 0
+unfolding loads a_status stores_status
 is-stored = refl
 
-stored : load (step exampleCard (cardStore 1 0x103 0 aStatus)).0 1 0x103 0 (0xee ∷ []) ≡ (Done, aStatus)
-unfolding storesStatus aStatus
-stored = load_stored exampleCard 1 0x103 0 aStatus is-stored (0xee ∷ []) refl
+stored : load (step example_card (card_store 1 0x103 0 a_status)).0 1 0x103 0 (0xee ∷ []) ≡ (Done, a_status)
+unfolding stores_status a_status
+stored = load_stored example_card 1 0x103 0 a_status is-stored (0xee ∷ []) refl
 
 -- ---- set: member 1 is stopped, with a set object ----
 
-settableCard : List ℕ
-settableCard = run step exampleCard (allUsed ++ create 1 1 ∷ setMode 1 1 ∷ storesStatus ∷ [])
+settable_card : List ℕ
+settable_card = run step example_card (all_used ++ create 1 1 ∷ set_mode 1 1 ∷ stores_status ∷ [])
 
 -- driver features alone
-aList : List ℕ
-aList = headerBytes (header 0x101 0 0 16) ++ replicate 16 0x55
+a_list : List ℕ
+a_list = header_bytes (header 0x101 0 0 16) ++ replicate 16 0x55
 
 example : Unit {0}
-unfolding loads aStatus storesStatus settableCard aList
+unfolding loads a_status stores_status settable_card a_list
 example = tt
 
-is-settable : Settable settableCard 1 1
+is-settable : Settable settable_card 1 1
 unfolding example
-is-settable = record { sound = refl; here = refl; setObject = refl; stopped = refl; setInUse = refl }
+is-settable = record { sound = refl; here = refl; set_object = refl; stopped = refl; set_in_use = refl }
 
-is_set : (setList settableCard 1 1 aList 8).1 ≡ head_of answer.Done
+is_set : (set_list settable_card 1 1 a_list 8).1 ≡ head_of answer.Done
 unfolding example
 is_set = refl
 
-short : length aList ≤ longestList
+short : length a_list ≤ longest_list
 unfolding example
 short = omega arith
 
-loads-features : isEventDone (load settableCard 1 0x101 0 (replicate 16 0)).0 ≡ true
+loads-features : is_event_done (load settable_card 1 0x101 0 (replicate 16 0)).0 ≡ true
 unfolding example
 loads-features = refl
 
-loads-status : isEventDone (load settableCard 1 0x103 0 (0 ∷ [])).0 ≡ true
+loads-status : is_event_done (load settable_card 1 0x103 0 (0 ∷ [])).0 ≡ true
 unfolding example
 loads-status = refl
 
 -- the part that the list has, and one that it has not got
-set : load (setList settableCard 1 1 aList 8).0 1 0x101 0 (replicate 16 0)
-    ≡ (Done, valueOr 0x101 (selectorOf 0x101 0) (parts_of Parts aList) (load settableCard 1 0x101 0 (replicate 16 0)).1)
-set = load_set settableCard 1 1 is-settable aList short 8 (omega arith) is_set 0x101 0 (replicate 16 0) loads-features
+set : load (set_list settable_card 1 1 a_list 8).0 1 0x101 0 (replicate 16 0)
+    ≡ (Done, value_or 0x101 (selector_of 0x101 0) (parts_of Parts a_list) (load settable_card 1 0x101 0 (replicate 16 0)).1)
+set = load_set settable_card 1 1 is-settable a_list short 8 (omega arith) is_set 0x101 0 (replicate 16 0) loads-features
 
-set_value : valueOr 0x101 (selectorOf 0x101 0) (parts_of Parts aList) (load settableCard 1 0x101 0 (replicate 16 0)).1 ≡ replicate 16 0x55
-unfolding example valueOr
+set_value : value_or 0x101 (selector_of 0x101 0) (parts_of Parts a_list) (load settable_card 1 0x101 0 (replicate 16 0)).1 ≡ replicate 16 0x55
+unfolding example value_or
 set_value = refl
 
-kept : load (setList settableCard 1 1 aList 8).0 1 0x103 0 (0 ∷ [])
-    ≡ (Done, valueOr 0x103 (selectorOf 0x103 0) (parts_of Parts aList) (load settableCard 1 0x103 0 (0 ∷ [])).1)
-kept = load_set settableCard 1 1 is-settable aList short 8 (omega arith) is_set 0x103 0 (0 ∷ []) loads-status
+kept : load (set_list settable_card 1 1 a_list 8).0 1 0x103 0 (0 ∷ [])
+    ≡ (Done, value_or 0x103 (selector_of 0x103 0) (parts_of Parts a_list) (load settable_card 1 0x103 0 (0 ∷ [])).1)
+kept = load_set settable_card 1 1 is-settable a_list short 8 (omega arith) is_set 0x103 0 (0 ∷ []) loads-status
 
-kept-value : valueOr 0x103 (selectorOf 0x103 0) (parts_of Parts aList) (load settableCard 1 0x103 0 (0 ∷ [])).1 ≡ aStatus
-unfolding example valueOr
+kept-value : value_or 0x103 (selector_of 0x103 0) (parts_of Parts a_list) (load settable_card 1 0x103 0 (0 ∷ [])).1 ≡ a_status
+unfolding example value_or
 kept-value = refl
 
 -- ---- wiped ----
 
-markedCard : List ℕ
-markedCard = (step settableCard (handBack 1)).0
+marked_card : List ℕ
+marked_card = (step settable_card (hand_back 1)).0
 
-is-wiped : (step markedCard (wipe 1 7)).1 ≡ answered 0
-unfolding example markedCard
+is-wiped : (step marked_card (wipe 1 7)).1 ≡ answered 0
+unfolding example marked_card
 is-wiped = refl
 
-wiped : ReadsFresh markedCard 1 7 (step markedCard (wipe 1 7)).0
-wiped = load-wiped markedCard 1 7 is-wiped (omega arith)
+wiped : ReadsFresh marked_card 1 7 (step marked_card (wipe 1 7)).0
+wiped = load-wiped marked_card 1 7 is-wiped (omega arith)
 
 -- ---- again ----
 
-packedBytes : List ℕ
-packedBytes = 0x21 ∷ 0x04 ∷ 0x40 ∷ 0x10 ∷ replicate 16 0
+packed_bytes : List ℕ
+packed_bytes = 0x21 ∷ 0x04 ∷ 0x40 ∷ 0x10 ∷ replicate 16 0
 
-is-packed : ◌≡◌ {A = ℕ × List ℕ} (20, packedBytes) (setupOfCard countsCard (replicate 20 0xee))
-unfolding loads packedBytes
+is-packed : ◌≡◌ {A = ℕ × List ℕ} (20, packed_bytes) (setup_of_card counts_card (replicate 20 0xee))
+unfolding loads packed_bytes
 is-packed = refl
 
-same_length : length (replicate {A = ℕ} (cardSize 2) 9) ≡ length countsCard
+same_length : length (replicate {A = ℕ} (card_size 2) 9) ≡ length counts_card
 unfolding loads
 same_length = refl
 
-again : SetUpAgain countsCard (replicate (cardSize 2) 9) packedBytes 20
-again = setup-again countsCard (replicate 20 0xee) (replicate (cardSize 2) 9) packedBytes 20 is-packed (λ e. omega arith) same_length
+again : SetUpAgain counts_card (replicate (card_size 2) 9) packed_bytes 20
+again = setup-again counts_card (replicate 20 0xee) (replicate (card_size 2) 9) packed_bytes 20 is-packed (λ e. omega arith) same_length
 
 -- ---- isolated: member 1 has a status in the first card alone ----
 
-firstCard : List ℕ
-firstCard = (step exampleCard storesStatus).0
+first_card : List ℕ
+first_card = (step example_card stores_status).0
 
 cards : Unit {0}
-unfolding example firstCard
+unfolding example first_card
 cards = tt
 
-sound₁ : isSound firstCard ≡ true
+sound₁ : is_sound first_card ≡ true
 unfolding cards
 sound₁ = refl
 
-sound₂ : isSound exampleCard ≡ true
+sound₂ : is_sound example_card ≡ true
 unfolding cards
 sound₂ = refl
 
-here : isMember firstCard 1 ≡ true
+here : is_member first_card 1 ≡ true
 unfolding cards
 here = refl
 
-same-before : take (recordAt 1) firstCard ≡ take (recordAt 1) exampleCard
+same-before : take (record_at 1) first_card ≡ take (record_at 1) example_card
 unfolding cards
 same-before = refl
 
-same_after : same (drop (recordAt 1 + recordSize) firstCard) (drop (recordAt 1 + recordSize) exampleCard) ≡ true
+same_after : same (drop (record_at 1 + record_size) first_card) (drop (record_at 1 + record_size) example_card) ≡ true
 unfolding cards
 same_after = refl
 
-differ : DifferAtMost 1 firstCard exampleCard
+differ : DifferAtMost 1 first_card example_card
 differ = record { before = same-before; after = same_true _ _ same_after }
 
-same-mark : isMarked firstCard 1 ≡ isMarked exampleCard 1
+same-mark : is_marked first_card 1 ≡ is_marked example_card 1
 unfolding cards
 same-mark = refl
 
-same-queues : (memberIn firstCard 1).queues ≡ (memberIn exampleCard 1).queues
+same-queues : (member_in first_card 1).queues ≡ (member_in example_card 1).queues
 unfolding cards
 same-queues = refl
 
-is-wiped₁ : (step (run step firstCard (handBack 1 ∷ [])) (wipe 1 7)).1 ≡ answered 0
+is-wiped₁ : (step (run step first_card (hand_back 1 ∷ [])) (wipe 1 7)).1 ≡ answered 0
 unfolding cards
 is-wiped₁ = refl
 
-isolated : ReadAlike (run step firstCard (handBack 1 ∷ wipe 1 7 ∷ [])) (run step exampleCard (handBack 1 ∷ wipe 1 7 ∷ []))
+isolated : ReadAlike (run step first_card (hand_back 1 ∷ wipe 1 7 ∷ [])) (run step example_card (hand_back 1 ∷ wipe 1 7 ∷ []))
 isolated =
-    loads-isolated firstCard exampleCard sound₁ sound₂ 1 here differ same-mark same-queues (handBack 1 ∷ []) (handBack 1 ∷ []) refl
-    (wipe 1 7) (rw is-wiped₁ ofWipe) []
+    loads-isolated first_card example_card sound₁ sound₂ 1 here differ same-mark same-queues (hand_back 1 ∷ []) (hand_back 1 ∷ []) refl
+    (wipe 1 7) (rw is-wiped₁ of_wipe) []

@@ -15,25 +15,25 @@ use Rattle.wire.specs.Le.{le, number}
 use Rattle.wire.proofs.Le.{number-byte, number-alike, number_append}
 use Rattle.protocol.specs.declared.Body.{Body}
 use Rattle.protocol.specs.declared.Body.TheVariants as body
-use Rattle.inventory.specs.Inventory.{row_at, rowCount, low_bytes, selectorOf}
+use Rattle.inventory.specs.Inventory.{row_at, row_count, low_bytes, selector_of}
 use Rattle.parts.specs.declared.ListForm.{ListForm}
 use Rattle.parts.specs.declared.ListForm.TheVariants.{Parts, Headers}
 use Rattle.parts.specs.declared.Step.TheVariants as step
-use Rattle.parts.specs.List.{valueSize, header_at, stepAt, Part, part, partWith, parts_of}
+use Rattle.parts.specs.List.{value_size, header_at, step_at, Part, part, part_with, parts_of}
 use Rattle.parts.proofs.Walk.{step-found, parts-part}
-use Rattle.rules.specs.Rules.{known, knownOrSkipped, lengthRight, sizeRight, featuresSame, asksKnown, causeIn, askedIn}
-use Rattle.capture.specs.Capture.{Asked, asks, partItem, partsWritten}
+use Rattle.rules.specs.Rules.{known, known_or_skipped, length_right, size_right, features_same, asks_known, cause_in, asked_in}
+use Rattle.capture.specs.Capture.{Asked, asks, part_item, parts_written}
 use Rattle.member.specs.declared.Member.{Member}
-use Rattle.member.specs.Member.{featuresIn}
-use Rattle.reads.specs.Reads.{selectedOf}
-use Rattle.changes.specs.Changes.{setPartsOf}
-use Rattle.card.specs.Layout.{memberIn}
-use Rattle.frame.specs.Frame.{groupAt, memberAt, opcode_of, target_of, data_of}
-use Rattle.frame.specs.Fields.{objectValid, getIn, setIn, fields_of}
-use Rattle.frame.specs.Ask.{framedOf, askOf}
+use Rattle.member.specs.Member.{features_in}
+use Rattle.reads.specs.Reads.{selected_of}
+use Rattle.changes.specs.Changes.{set_parts_of}
+use Rattle.card.specs.Layout.{member_in}
+use Rattle.frame.specs.Frame.{group_at, member_at, opcode_of, target_of, data_of}
+use Rattle.frame.specs.Fields.{object_valid, get_in, set_in, fields_of}
+use Rattle.frame.specs.Ask.{framed_of, ask_of}
 use Rattle.reply.specs.Result.{result_of}
-use Rattle.admin.specs.Command.{askIn, effect, changing, perform, respond}
-use Rattle.demands.specs.PartHeaders.{namedBytes, SamePart, SameGiven, sameGiven, nextGiven, SameAsked, sameAsked, nextAsked, HeadersNotRead}
+use Rattle.admin.specs.Command.{ask_in, effect, changing, perform, respond}
+use Rattle.demands.specs.PartHeaders.{named_bytes, SamePart, SameGiven, same_given, next_given, SameAsked, same_asked, next_asked, HeadersNotRead}
 use Rattle.demands.proofs.SameAsked.{Same, respond-alike}
 use Rattle.demands.proofs.Reserved.{data-at}
 use Rattle.demands.proofs.PartLists.{parts-behind, Alike, same, next, whole-alike, every-alike, among-alike, repeated-alike, applied-alike}
@@ -44,13 +44,13 @@ module _ (h rest : List ℕ) (long : length h ≡ 16) where
   front-number : (at n : ℕ) → at + n ≤ 16 → number at n (h ++ rest) ≡ number at n h
   front-number at n b = number-alike 16 (h ++ rest) h (λ i j. get_or-append h rest 0 i (omega arith)) n at b
 
-  front-size : (form : ListForm) → valueSize form (h ++ rest) 0 ≡ valueSize form h 0
+  front-size : (form : ListForm) → value_size form (h ++ rest) 0 ≡ value_size form h 0
   front-size Parts = front-number 12 4 (omega arith)
   front-size Headers = refl
 
-  front-header : (form : ListForm) → valueSize form h 0 ≤ length rest
-      → stepAt form (h ++ rest) 0
-      ≡ step.Part (number 0 2 h) (get_or h 2 0) (selectorOf (number 0 2 h) (number 4 8 h)) 16 (valueSize form h 0)
+  front-header : (form : ListForm) → value_size form h 0 ≤ length rest
+      → step_at form (h ++ rest) 0
+      ≡ step.Part (number 0 2 h) (get_or h 2 0) (selector_of (number 0 2 h) (number 4 8 h)) 16 (value_size form h 0)
   unfolding header_at
   front-header form b =
       let n = length-append h rest in
@@ -58,11 +58,11 @@ module _ (h rest : List ℕ) (long : length h ≡ 16) where
       step-found form (h ++ rest) 0 (omega arith) (omega arith)
       ∙ rw (front-number 0 2 (omega arith), get_or-append h rest 0 2 (omega arith), front-number 4 8 (omega arith), e)
 
-abbrev headerPart : List ℕ → List ℕ → Part
-headerPart h x = partWith (number 0 2 h) (get_or h 2 0) (selectorOf (number 0 2 h) (number 4 8 h)) x
+abbrev header_part : List ℕ → List ℕ → Part
+header_part h x = part_with (number 0 2 h) (get_or h 2 0) (selector_of (number 0 2 h) (number 4 8 h)) x
 
-front-part : (form : ListForm) (h x l : List ℕ) → length h ≡ 16 → length x ≡ valueSize form h 0
-    → parts_of form (h ++ (x ++ l)) ≡ part (headerPart h x) (parts_of form l)
+front-part : (form : ListForm) (h x l : List ℕ) → length h ≡ 16 → length x ≡ value_size form h 0
+    → parts_of form (h ++ (x ++ l)) ≡ part (header_part h x) (parts_of form l)
 front-part form h x l long size =
     let n = length-append x l in
     let value : bytes_at 16 (length x) (h ++ (x ++ l)) ≡ x = rw (← long) (rw (drop-append_seam h (x ++ l)) (take-append_seam x l)) in
@@ -86,8 +86,8 @@ module _ (h k : List ℕ) (p : SamePart h k) where
   abbrev t : ℕ
   t = number 0 2 h
 
-  selector-same : selectorOf t (number 4 8 k) ≡ selectorOf t (number 4 8 h)
-  unfolding selectorOf namedBytes if◌then◌else◌
+  selector-same : selector_of t (number 4 8 k) ≡ selector_of t (number 4 8 h)
+  unfolding selector_of named_bytes if◌then◌else◌
   selector-same =
       let e = p.selector in
       by_cases (eqb t 0x102)
@@ -95,8 +95,8 @@ module _ (h k : List ℕ) (p : SamePart h k) where
       by_cases (eqb t 0x104 or eqb t 0x105)
       (λ b. let f = same_number 2 h k (rw (a, b) at e) in rw (a, b, low-two k, low-two h, f)) (λ b. rw (a, b))
 
-  header-same : (x : List ℕ) → headerPart k x ≡ partWith t (get_or k 2 0) (selectorOf t (number 4 8 h)) x
-  header-same x = rw (p.partType, selector-same)
+  header-same : (x : List ℕ) → header_part k x ≡ part_with t (get_or k 2 0) (selector_of t (number 4 8 h)) x
+  header-same x = rw (p.part_type, selector-same)
 
 -- ---- lists of them ----
 
@@ -107,66 +107,66 @@ abbrev FreeAsked : ℕ → ℕ → ℕ → ℕ → Type 0
 FreeAsked t s f g = Unit {0}
 
 given-long : {queues : ℕ} {l m : List ℕ} → SameGiven queues l m → length m ≡ length l
-given-long sameGiven = refl
-given-long (nextGiven {h} {k} {l} {m} x p n z f a) =
-    rw (length-append k (x ++ m), length-append x m, length-append h (x ++ l), length-append x l, p.long, p.alsoLong, given-long a)
+given-long same_given = refl
+given-long (next_given {h} {k} {l} {m} x p n z f a) =
+    rw (length-append k (x ++ m), length-append x m, length-append h (x ++ l), length-append x l, p.long, p.also_long, given-long a)
 
 given-alike : {queues : ℕ} {l m : List ℕ} → SameGiven queues l m → Alike (FreeGiven queues) (parts_of Parts l) (parts_of Parts m)
-given-alike sameGiven = same
-given-alike (nextGiven {h} {k} {l} {m} x p n z f a) =
-    rw (front-part Parts h x l p.long z, front-part Parts k x m p.alsoLong (z ∙ sym n), header-same h k p x) (next f (given-alike a))
+given-alike same_given = same
+given-alike (next_given {h} {k} {l} {m} x p n z f a) =
+    rw (front-part Parts h x l p.long z, front-part Parts k x m p.also_long (z ∙ sym n), header-same h k p x) (next f (given-alike a))
 
 asked-long : {l m : List ℕ} → SameAsked l m → length m ≡ length l
-asked-long sameAsked = refl
-asked-long (nextAsked {h} {k} {l} {m} p a) = rw (length-append k m, length-append h l, p.long, p.alsoLong, asked-long a)
+asked-long same_asked = refl
+asked-long (next_asked {h} {k} {l} {m} p a) = rw (length-append k m, length-append h l, p.long, p.also_long, asked-long a)
 
 asked-alike : {l m : List ℕ} → SameAsked l m → Alike FreeAsked (parts_of Headers l) (parts_of Headers m)
-asked-alike sameAsked = same
-asked-alike (nextAsked {h} {k} {l} {m} p a) =
-    rw (front-part Headers h [] l p.long refl, front-part Headers k [] m p.alsoLong refl, header-same h k p []) (next tt (asked-alike a))
+asked-alike same_asked = same
+asked-alike (next_asked {h} {k} {l} {m} p a) =
+    rw (front-part Headers h [] l p.long refl, front-part Headers k [] m p.also_long refl, header-same h k p []) (next tt (asked-alike a))
 
 -- ---- what is made of them ----
 
 module _ (queues : ℕ) (l m : List ℕ) (a : SameGiven queues l m) where
-  skipped-same : (t s f g : ℕ) (v : List ℕ) → FreeGiven queues t s f g → knownOrSkipped queues (partWith t g s v) ≡ knownOrSkipped queues (partWith t f s v)
-  unfolding knownOrSkipped ◌or◌
+  skipped-same : (t s f g : ℕ) (v : List ℕ) → FreeGiven queues t s f g → known_or_skipped queues (part_with t g s v) ≡ known_or_skipped queues (part_with t f s v)
+  unfolding known_or_skipped ◌or◌
   skipped-same t s f g v e = by_cases (known queues t s) (λ y. rw y) (λ y. rw (y, e y))
 
-  cause-same : (features : List ℕ) → causeIn queues features (parts_of Parts m) ≡ causeIn queues features (parts_of Parts l)
-  unfolding causeIn lengthRight sizeRight featuresSame
+  cause-same : (features : List ℕ) → cause_in queues features (parts_of Parts m) ≡ cause_in queues features (parts_of Parts l)
+  unfolding cause_in length_right size_right features_same
   cause-same features =
       let w = given-alike a in
       rw (
         whole-alike (FreeGiven queues) w,
-        every-alike (FreeGiven queues) (knownOrSkipped queues) skipped-same w,
-        every-alike (FreeGiven queues) (lengthRight queues) (λ t s f g v e. refl) w,
-        every-alike (FreeGiven queues) (sizeRight queues) (λ t s f g v e. refl) w,
-        every-alike (FreeGiven queues) (featuresSame features) (λ t s f g v e. refl) w,
+        every-alike (FreeGiven queues) (known_or_skipped queues) skipped-same w,
+        every-alike (FreeGiven queues) (length_right queues) (λ t s f g v e. refl) w,
+        every-alike (FreeGiven queues) (size_right queues) (λ t s f g v e. refl) w,
+        every-alike (FreeGiven queues) (features_same features) (λ t s f g v e. refl) w,
         repeated-alike (FreeGiven queues) queues w,
       )
 
-  set_same : (id : ℕ) (y : Member) → y.queues ≡ queues → setPartsOf id m y ≡ setPartsOf id l y
-  unfolding setPartsOf
-  set_same id y q = rw (q, cause-same (featuresIn y), applied-alike (FreeGiven queues) queues (given-alike a) y.values)
+  set_same : (id : ℕ) (y : Member) → y.queues ≡ queues → set_parts_of id m y ≡ set_parts_of id l y
+  unfolding set_parts_of
+  set_same id y q = rw (q, cause-same (features_in y), applied-alike (FreeGiven queues) queues (given-alike a) y.values)
 
 module _ (l m : List ℕ) (a : SameAsked l m) where
-  selected-same : (queues : ℕ) → selectedOf queues m ≡ selectedOf queues l
-  unfolding selectedOf askedIn asksKnown
+  selected-same : (queues : ℕ) → selected_of queues m ≡ selected_of queues l
+  unfolding selected_of asked_in asks_known
   selected-same queues =
       let w = asked-alike a in
-      rw (whole-alike FreeAsked w, every-alike FreeAsked (asksKnown queues) (λ t s f g v e. refl) w, repeated-alike FreeAsked queues w)
+      rw (whole-alike FreeAsked w, every-alike FreeAsked (asks_known queues) (λ t s f g v e. refl) w, repeated-alike FreeAsked queues w)
 
-  item-same : (queues : ℕ) (values : List ℕ) (i : ℕ) → partItem Asked queues m values i ≡ partItem Asked queues l values i
-  unfolding partItem asks
-  item-same queues values i = rw (among-alike FreeAsked (row_at i).partType (row_at i).selector (asked-alike a))
+  item-same : (queues : ℕ) (values : List ℕ) (i : ℕ) → part_item Asked queues m values i ≡ part_item Asked queues l values i
+  unfolding part_item asks
+  item-same queues values i = rw (among-alike FreeAsked (row_at i).part_type (row_at i).selector (asked-alike a))
 
   result-same : (queues : ℕ) (values : List ℕ) (b : Body) → result_of queues m values b ≡ result_of queues l values b
-  unfolding result_of partsWritten
+  unfolding result_of parts_written
   result-same queues values body.Nothing = refl
   result-same queues values (body.Kind k) = refl
   result-same queues values (body.Number n) = refl
   result-same queues values body.Headers = refl
-  result-same queues values body.Selected = items-same _ _ rowCount rowCount 0 refl (λ i h. item-same queues values i)
+  result-same queues values body.Selected = items-same _ _ row_count row_count 0 refl (λ i h. item-same queues values i)
   result-same queues values body.All = refl
 
 -- ---- two requests with the same bytes before their lists ----
@@ -191,13 +191,13 @@ module _ (c front list other : List ℕ) (lens : length other ≡ length list) w
   length-same : length s ≡ length r
   length-same = rw (length-append front other, length-append front list, lens)
 
-  ask-same : 24 ≤ length front → ((ids m : ℕ) → fields_of ids m (opcode_of r) (data_of s) ≡ fields_of ids m (opcode_of r) (data_of r)) → askIn c s ≡ askIn c r
-  unfolding askIn askOf framedOf
+  ask-same : 24 ≤ length front → ((ids m : ℕ) → fields_of ids m (opcode_of r) (data_of s) ≡ fields_of ids m (opcode_of r) (data_of r)) → ask_in c s ≡ ask_in c r
+  unfolding ask_in ask_of framed_of
   ask-same b f =
-      rw (length-same, front_same 0 2 (omega arith), front_same groupAt 2 (omega arith), front_same memberAt 8 (omega arith), f _ _)
+      rw (length-same, front_same 0 2 (omega arith), front_same group_at 2 (omega arith), front_same member_at 8 (omega arith), f _ _)
 
   set-fields : opcode_of r ≡ 0x10 → 32 ≤ length front → (ids m : ℕ) → fields_of ids m (opcode_of r) (data_of s) ≡ fields_of ids m (opcode_of r) (data_of r)
-  unfolding fields_of setIn objectValid if◌then◌else◌
+  unfolding fields_of set_in object_valid if◌then◌else◌
   set-fields o b ids m = rw (o, data-same 0 2 (omega arith), data-same 4 4 (omega arith))
 
   type-same : 40 ≤ length front → get_or (data_of s) 8 0 ≡ get_or (data_of r) 8 0
@@ -207,20 +207,20 @@ module _ (c front list other : List ℕ) (lens : length other ≡ length list) w
   data-long = rw (length-drop 24 s, length-drop 24 r, length-same)
 
   get-fields : opcode_of r ≡ 0x0f → 40 ≤ length front → (ids m : ℕ) → fields_of ids m (opcode_of r) (data_of s) ≡ fields_of ids m (opcode_of r) (data_of r)
-  unfolding fields_of getIn objectValid if◌then◌else◌
+  unfolding fields_of get_in object_valid if◌then◌else◌
   get-fields o b ids m = rw (o, data-same 0 2 (omega arith), data-same 4 4 (omega arith), type-same b, data-long)
 
 given : (c front list other : List ℕ) (room : ℕ) → length front ≡ 32 → opcode_of front ≡ 0x10
-    → SameGiven (memberIn c (target_of front)).queues list other → respond c (front ++ other) room ≡ respond c (front ++ list) room
+    → SameGiven (member_in c (target_of front)).queues list other → respond c (front ++ other) room ≡ respond c (front ++ list) room
 unfolding Same perform
 given c front list other room n o a =
     let e = given-long a in
     let op : opcode_of (front ++ list) ≡ 0x10 = own-number c front list other e 0 2 (omega arith) ∙ o in
-    let m : target_of (front ++ list) ≡ target_of front = own-number c front list other e memberAt 8 (omega arith) in
+    let m : target_of (front ++ list) ≡ target_of front = own-number c front list other e member_at 8 (omega arith) in
     let d : drop 32 (front ++ list) ≡ list = rw (← n) (drop-append_seam front list) in
     let d' : drop 32 (front ++ other) ≡ other = rw (← n) (drop-append_seam front other) in
     respond-alike c (front ++ list) (front ++ other) room (λ z id. absurd (omega arith))
-    (λ z id. rw (d, d', m) (ap (changing c (target_of front)) (set_same _ list other a id (memberIn c (target_of front)) refl)))
+    (λ z id. rw (d, d', m) (ap (changing c (target_of front)) (set_same _ list other a id (member_in c (target_of front)) refl)))
     (ask-same c front list other e (omega arith) (set-fields c front list other e op (omega arith)))
 
 asked : (c front list other : List ℕ) (room : ℕ) → length front ≡ 40 → opcode_of front ≡ 0x0f → SameAsked list other

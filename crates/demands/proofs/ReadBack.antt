@@ -14,16 +14,16 @@ use Rattle.wire.specs.Le.{bytes, number}
 use Rattle.wire.proofs.Le.{le_bytes}
 use Rattle.protocol.specs.declared.Answer.{Answer}
 use Rattle.protocol.specs.declared.Answer.TheVariants.{Done, BadLength, BadGroup, BadOpcode, NoMember, Marked, BadField, Exists, NotLive, NoRoom, WrongKind, Running, BadList, ShortReply}
-use Rattle.protocol.specs.Answers.{statusOf, qualifierOf, isDone}
+use Rattle.protocol.specs.Answers.{status_of, qualifier_of, is_done}
 use Rattle.protocol.specs.Opcodes.{supported}
 use Rattle.card.proofs.SoundLaws.{sound-of}
-use Rattle.reply.specs.Reply.{headSize, head_of, finalOf, replyOf}
-use Rattle.admin.specs.Command.{askIn}
+use Rattle.reply.specs.Reply.{head_size, head_of, final_of, reply_of}
+use Rattle.admin.specs.Command.{ask_in}
 use Rattle.host.specs.declared.ResultForm.{ResultForm}
-use Rattle.host.specs.Request.{sentOf, requestOf}
-use Rattle.host.specs.Reply.{form_of, resultFits, lengthRight, knownStatus, handledStatus, handledQualifier, readReply}
+use Rattle.host.specs.Request.{sent_of, request_of}
+use Rattle.host.specs.Reply.{form_of, result_fits, length_right, known_status, handled_status, handled_qualifier, read_reply}
 use Rattle.host.proofs.Request.{command-supported}
-use Rattle.demands.specs.Host.{effectIn, answer_in, told, ReadBack}
+use Rattle.demands.specs.Host.{effect_in, answer_in, told, ReadBack}
 use Rattle.admin.proofs.Respond.{asked_of, respond-is}
 use Rattle.demands.proofs.ResultForms.{request-asks, effect-fits}
 
@@ -31,10 +31,10 @@ use Rattle.demands.proofs.ResultForms.{request-asks, effect-fits}
 
 -- each answer's numbers are known and fit their two bytes
 abbrev readable : Answer → Bool
-readable a = ltb (statusOf a) 65536 and ltb (qualifierOf a) 65536 and knownStatus (statusOf a) and leb (qualifierOf a) 7
+readable a = ltb (status_of a) 65536 and ltb (qualifier_of a) 65536 and known_status (status_of a) and leb (qualifier_of a) 7
 
 all-readable : (a : Answer) → readable a ≡ true
-unfolding knownStatus ◌and◌ ◌or◌
+unfolding known_status ◌and◌ ◌or◌
 all-readable Done = refl
 all-readable BadLength = refl
 all-readable BadGroup = refl
@@ -52,48 +52,48 @@ all-readable ShortReply = refl
 
 -- a head, and what follows it
 module _ (a : Answer) (x : List ℕ) where
-  status-in : number 0 2 (head_of a ++ x) ≡ statusOf a
+  status-in : number 0 2 (head_of a ++ x) ≡ status_of a
   unfolding head_of bytes number
-  status-in = le_bytes 2 (statusOf a) (ltb-true _ _ (both _ _ (both _ _ (both _ _ (all-readable a)).0).0).0)
+  status-in = le_bytes 2 (status_of a) (ltb-true _ _ (both _ _ (both _ _ (both _ _ (all-readable a)).0).0).0)
 
-  qualifier-in : number 2 2 (head_of a ++ x) ≡ qualifierOf a
+  qualifier-in : number 2 2 (head_of a ++ x) ≡ qualifier_of a
   unfolding head_of bytes number
-  qualifier-in = le_bytes 2 (qualifierOf a) (ltb-true _ _ (both _ _ (both _ _ (both _ _ (all-readable a)).0).0).1)
+  qualifier-in = le_bytes 2 (qualifier_of a) (ltb-true _ _ (both _ _ (both _ _ (both _ _ (all-readable a)).0).0).1)
 
-  status-handled : handledStatus (statusOf a) ≡ statusOf a
-  unfolding handledStatus if◌then◌else◌
+  status-handled : handled_status (status_of a) ≡ status_of a
+  unfolding handled_status if◌then◌else◌
   status-handled = rw (both _ _ (both _ _ (all-readable a)).0).1
 
-  qualifier-handled : handledQualifier (qualifierOf a) ≡ qualifierOf a
-  unfolding handledQualifier if◌then◌else◌
+  qualifier-handled : handled_qualifier (qualifier_of a) ≡ qualifier_of a
+  unfolding handled_qualifier if◌then◌else◌
   qualifier-handled = rw (both _ _ (all-readable a)).1
 
-  pub after-head : drop headSize (head_of a ++ x) ≡ x
+  pub after-head : drop head_size (head_of a ++ x) ≡ x
   unfolding head_of bytes
   after-head = refl
 
-  reply-long : length (head_of a ++ x) ≡ headSize + length x
+  reply-long : length (head_of a ++ x) ≡ head_size + length x
   unfolding head_of bytes
   reply-long = omega arith
 
 -- y has the form of a success, and a refusal has none
 module _ (op what : ℕ) (a : Answer) (y : List ℕ) (s : supported op ≡ true)
-    (f : isDone a ≡ true → resultFits (form_of op what) y ≡ true) (g : isDone a ≡ false → y ≡ []) where
-  length-right : lengthRight (form_of op what) (statusOf a) (head_of a ++ y) ≡ true
-  unfolding lengthRight if◌then◌else◌
+    (f : is_done a ≡ true → result_fits (form_of op what) y ≡ true) (g : is_done a ≡ false → y ≡ []) where
+  length-right : length_right (form_of op what) (status_of a) (head_of a ++ y) ≡ true
+  unfolding length_right if◌then◌else◌
   length-right =
-      by_cases (isDone a) (λ d. rw (d, after-head a y) (f d)) (λ d. rw d (eq-eqb _ _ (reply-long a y ∙ rw (g d))))
+      by_cases (is_done a) (λ d. rw (d, after-head a y) (f d)) (λ d. rw d (eq-eqb _ _ (reply-long a y ∙ rw (g d))))
 
-  reply-read : readReply op what (head_of a ++ y) ≡ told a
-  unfolding readReply unless◌answer◌then◌
+  reply-read : read_reply op what (head_of a ++ y) ≡ told a
+  unfolding read_reply unless◌answer◌then◌
   reply-read =
-      let n : headSize ≤ length (head_of a ++ y) = omega (arith, reply-long a y) in
-      rw (s, le-leb headSize (length (head_of a ++ y)) n, status-in a y)
+      let n : head_size ≤ length (head_of a ++ y) = omega (arith, reply-long a y) in
+      rw (s, le-leb head_size (length (head_of a ++ y)) n, status-in a y)
       (rw (length-right, qualifier-in a y, status-handled a y, qualifier-handled a y))
 
 -- the result as it stands in the reply
 module _ (form : ResultForm) (x : List ℕ) where
-  success-stands : (t : Bool) → (t ≡ true → resultFits form x ≡ true) → t ≡ true → resultFits form (if t then x else []) ≡ true
+  success-stands : (t : Bool) → (t ≡ true → result_fits form x ≡ true) → t ≡ true → result_fits form (if t then x else []) ≡ true
   unfolding if◌then◌else◌
   success-stands true f d = f d
   success-stands false f d = cc
@@ -104,26 +104,26 @@ refusal-empty true x d = cc
 refusal-empty false x d = refl
 
 -- step 11 makes no success
-final-done : (a : Answer) (size room : ℕ) → isDone (finalOf a size room) ≡ true → isDone a ≡ true
-unfolding finalOf if◌then◌else◌
-final-done a size room = by_cases (isDone a) (λ d e. d) (λ d. rw d (λ e. sym d ∙ e))
+final-done : (a : Answer) (size room : ℕ) → is_done (final_of a size room) ≡ true → is_done a ≡ true
+unfolding final_of if◌then◌else◌
+final-done a size room = by_cases (is_done a) (λ d e. d) (λ d. rw d (λ e. sym d ∙ e))
 
 -- ---- the claim ----
 
-pub read_back : ReadBack
-unfolding replyOf
-read_back c x list room what sound h w t =
-    let r = requestOf x list in
-    let op = (sentOf x).opcode in
-    let e = effectIn c r in
+pub read-back : ReadBack
+unfolding reply_of
+read-back c x list room what sound h w t =
+    let r = request_of x list in
+    let op = (sent_of x).opcode in
+    let e = effect_in c r in
     let a = answer_in c r room in
-    let fits : isDone e.outcome ≡ true → resultFits (form_of op what) e.result ≡ true =
-    effect-fits c r (sound-of c sound) (form_of op what) (askIn c r) (asked_of c r) (request-asks c x list what w t) in
+    let fits : is_done e.outcome ≡ true → result_fits (form_of op what) e.result ≡ true =
+    effect-fits c r (sound-of c sound) (form_of op what) (ask_in c r) (asked_of c r) (request-asks c x list what w t) in
     record {
       outcome =
           rw (respond-is c r room h sound)
-          (reply-read op what a (if isDone a then e.result else []) (command-supported x)
-          (success-stands (form_of op what) e.result (isDone a) (λ d. fits (final-done e.outcome (length e.result) room d)))
-          (refusal-empty (isDone a) e.result));
-      result = rw (respond-is c r room h sound) (after-head a (if isDone a then e.result else []));
+          (reply-read op what a (if is_done a then e.result else []) (command-supported x)
+          (success-stands (form_of op what) e.result (is_done a) (λ d. fits (final-done e.outcome (length e.result) room d)))
+          (refusal-empty (is_done a) e.result));
+      result = rw (respond-is c r room h sound) (after-head a (if is_done a then e.result else []));
     }

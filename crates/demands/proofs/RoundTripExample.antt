@@ -10,26 +10,26 @@ use Rattle.protocol.specs.declared.Mode.TheVariants.{Stopped}
 use Rattle.protocol.specs.declared.ObjectKind.TheVariants.{Get, Set}
 use Rattle.protocol.specs.Opcodes.{bit}
 use Rattle.objects.specs.declared.Found.TheVariants.{Live}
-use Rattle.member.specs.Objects.{lookupOf}
+use Rattle.member.specs.Objects.{lookup_of}
 use Rattle.card.specs.declared.Setup.{Setup}
-use Rattle.card.specs.Layout.{setupOf, inUseOf, isMember, memberIn}
-use Rattle.card.specs.Sound.{isSound}
-use Rattle.demands.specs.Calls.{cardStore, step}
+use Rattle.card.specs.Layout.{setup_of, in_use_of, is_member, member_in}
+use Rattle.card.specs.Sound.{is_sound}
+use Rattle.demands.specs.Calls.{card_store, step}
 use Rattle.demands.specs.RoundTrip.{capture, restore, Restorable, RestoredSame}
-use Rattle.demands.specs.Examples.{exampleCard, useList, create, setMode}
+use Rattle.demands.specs.Examples.{example_card, use_list, create, set_mode}
 use Rattle.demands.proofs.Model.{model}
-use Rattle.demands.proofs.RoundTrip.{round_trip}
+use Rattle.demands.proofs.RoundTrip.{round-trip}
 
 -- all commands are in use, and member 1 has a get object
 reading : List ℕ
-reading = (step (step exampleCard (useList 0x3fc03)).0 (create 0 0)).0
+reading = (step (step example_card (use_list 0x3fc03)).0 (create 0 0)).0
 
 -- the source has a queue of 256 with its addresses; the target has a set object too and is stopped
 source : List ℕ
-source = (step reading (cardStore 1 0x104 0 (0 ∷ 1 ∷ replicate 30 0xaa))).0
+source = (step reading (card_store 1 0x104 0 (0 ∷ 1 ∷ replicate 30 0xaa))).0
 
 pub target : List ℕ
-target = (step (step reading (create 1 1)).0 (setMode 1 1)).0
+target = (step (step reading (create 1 1)).0 (set_mode 1 1)).0
 
 example : Unit {0}
 unfolding model reading source target
@@ -41,79 +41,79 @@ setup = record { members = 2; gets = 1; sets = 1; features = replicate 16 0 }
 
 -- ---- each hypothesis ----
 
-sound-source : isSound source ≡ true
+sound-source : is_sound source ≡ true
 unfolding example
 sound-source = refl
 
-pub sound-target : isSound target ≡ true
+pub sound-target : is_sound target ≡ true
 unfolding example
 sound-target = refl
 
-setup-source : setupOf source ≡ setup
+setup-source : setup_of source ≡ setup
 unfolding example
 setup-source = refl
 
-pub setup-target : setupOf target ≡ setup
+pub setup-target : setup_of target ≡ setup
 unfolding example
 setup-target = refl
 
-same-queues : (memberIn source 1).queues ≡ (memberIn target 1).queues
+same-queues : (member_in source 1).queues ≡ (member_in target 1).queues
 unfolding example
 same-queues = refl
 
-pub target-queues : (memberIn target 1).queues ≡ 1
+pub target-queues : (member_in target 1).queues ≡ 1
 unfolding example
 target-queues = refl
 
-source-member : isMember source 1 ≡ true
+source-member : is_member source 1 ≡ true
 unfolding example
 source-member = refl
 
-pub target-member : isMember target 1 ≡ true
+pub target-member : is_member target 1 ≡ true
 unfolding example
 target-member = refl
 
-source-get : lookupOf (memberIn source 1) 0 ≡ Live Get
+source-get : lookup_of (member_in source 1) 0 ≡ Live Get
 unfolding example
 source-get = refl
 
-pub target-set : lookupOf (memberIn target 1) 1 ≡ Live Set
+pub target-set : lookup_of (member_in target 1) 1 ≡ Live Set
 unfolding example
 target-set = refl
 
-pub target-get : lookupOf (memberIn target 1) 0 ≡ Live Get
+pub target-get : lookup_of (member_in target 1) 0 ≡ Live Get
 unfolding example
 target-get = refl
 
-pub target-stopped : (memberIn target 1).mode ≡ Stopped
+pub target-stopped : (member_in target 1).mode ≡ Stopped
 unfolding example
 target-stopped = refl
 
-capture-in-use : bit (inUseOf source) 0x0f ≡ true
+capture-in-use : bit (in_use_of source) 0x0f ≡ true
 unfolding example
 capture-in-use = refl
 
-pub set-in-use : bit (inUseOf target) 0x10 ≡ true
+pub set-in-use : bit (in_use_of target) 0x10 ≡ true
 unfolding example
 set-in-use = refl
 
-pub recapture-in-use : bit (inUseOf target) 0x0f ≡ true
+pub recapture-in-use : bit (in_use_of target) 0x0f ≡ true
 unfolding example
 recapture-in-use = refl
 
 restorable : Restorable source 1 0 target 1 1
 restorable = record {
-  soundSource = sound-source;
-  soundTarget = sound-target;
-  sameSetup = setup-source ∙ sym setup-target;
-  sameQueues = same-queues;
-  sourceMember = source-member;
-  targetMember = target-member;
-  sourceGet = source-get;
-  targetSet = target-set;
+  sound_source = sound-source;
+  sound_target = sound-target;
+  same_setup = setup-source ∙ sym setup-target;
+  same_queues = same-queues;
+  source_member = source-member;
+  target_member = target-member;
+  source_get = source-get;
+  target_set = target-set;
   stopped = target-stopped;
-  captureInUse = capture-in-use;
-  setInUse = set-in-use;
+  capture_in_use = capture-in-use;
+  set_in_use = set-in-use;
 }
 
 -- ---- the claim at them ----
@@ -124,7 +124,7 @@ captures-differ = omega arith
 
 restored : RestoredSame source 1 0 target 1 1 237 8
 unfolding example
-restored = round_trip source 1 0 target 1 1 restorable 237 8 (omega arith) (omega arith)
+restored = round-trip source 1 0 target 1 1 restorable 237 8 (omega arith) (omega arith)
 
 captured-same : capture (restore target 1 1 (capture source 1 0 237) 8).0 1 0 237 ≡ capture source 1 0 237
 unfolding example

@@ -18,39 +18,39 @@ use Rattle.protocol.specs.declared.Answer.TheVariants.{NotLive, WrongKind}
 use Rattle.protocol.specs.declared.ObjectKind.TheVariants.{Get, Set}
 use Rattle.protocol.specs.declared.ReadOp.TheVariants.{QueryObject, GetMetadata, GetSelected, GetAll}
 use Rattle.protocol.specs.declared.ChangeOp.TheVariants.{SetParts}
-use Rattle.protocol.specs.Answers.{isGet}
+use Rattle.protocol.specs.Answers.{is_get}
 use Rattle.objects.specs.declared.Found.{Found}
 use Rattle.objects.specs.declared.Found.TheVariants.{Live, Nothing}
-use Rattle.objects.specs.Objects.{onFound}
-use Rattle.member.specs.Objects.{lookupOf}
-use Rattle.card.specs.Layout.{memberIn}
-use Rattle.reads.specs.Reads.{refuseRead, succeedRead, queryOf, metadataOf, throughGet}
+use Rattle.objects.specs.Objects.{on_found}
+use Rattle.member.specs.Objects.{lookup_of}
+use Rattle.card.specs.Layout.{member_in}
+use Rattle.reads.specs.Reads.{refuse_read, succeed_read, query_of, metadata_of, through_get}
 use Rattle.frame.specs.declared.Ask.{Ask}
 use Rattle.frame.specs.declared.Ask.TheVariants.{Refused, Read, Change}
-use Rattle.frame.specs.Frame.{opcode_of, target_of, data_of, type_at, askedList, givenList}
-use Rattle.frame.specs.Fields.{metadataIs, createIn, modifyIn, queryIn, destroyIn, metadataIn, getIn, setIn, modeIn, useIn, fields_of}
-use Rattle.frame.specs.Ask.{framedOf, askOf}
+use Rattle.frame.specs.Frame.{opcode_of, target_of, data_of, type_at, asked_list, given_list}
+use Rattle.frame.specs.Fields.{metadata_is, create_in, modify_in, query_in, destroy_in, metadata_in, get_in, set_in, mode_in, use_in, fields_of}
+use Rattle.frame.specs.Ask.{framed_of, ask_of}
 use Rattle.reply.specs.Result.{result_of}
-use Rattle.admin.specs.Command.{askIn, effect, perform, respond}
+use Rattle.admin.specs.Command.{ask_in, effect, perform, respond}
 
 -- a result that is no selection
 module _ (q : ℕ) (l l' v : List ℕ) where
   abbrev SameResult : Body → Type 0
   SameResult b = result_of q l' v b ≡ result_of q l v b
 
-  query-same : (x : Found) → SameResult (onFound x (λ k. succeedRead (body.Kind k)) (refuseRead NotLive)).body
+  query-same : (x : Found) → SameResult (on_found x (λ k. succeed_read (body.Kind k)) (refuse_read NotLive)).body
   unfolding result_of
   query-same Nothing = refl
   query-same (Live k) = refl
 
   through_same : (x : Found) (b : Body) → SameResult b
-      → SameResult (onFound x (λ k. unless isGet k answer refuseRead WrongKind then succeedRead b) (refuseRead NotLive)).body
+      → SameResult (on_found x (λ k. unless is_get k answer refuse_read WrongKind then succeed_read b) (refuse_read NotLive)).body
   unfolding result_of unless◌answer◌then◌
   through_same Nothing b e = refl
   through_same (Live Get) b e = e
   through_same (Live Set) b e = refl
 
-  metadata-same : (what : Metadata) → SameResult (metadataOf q what)
+  metadata-same : (what : Metadata) → SameResult (metadata_of q what)
   unfolding result_of
   metadata-same Size = refl
   metadata-same Count = refl
@@ -74,54 +74,54 @@ module _ (c r s : List ℕ) where
 
   module _ (m id : ℕ) where
     query-read : Same (Read m (QueryObject id))
-    unfolding Same perform queryOf
+    unfolding Same perform query_of
     query-read =
-        ap (effect _ c) (query-same (memberIn c m).queues (askedList r) (askedList s) (memberIn c m).values (lookupOf (memberIn c m) id))
+        ap (effect _ c) (query-same (member_in c m).queues (asked_list r) (asked_list s) (member_in c m).values (lookup_of (member_in c m) id))
 
     metadata-read : (what : Metadata) → Same (Read m (GetMetadata id what))
-    unfolding Same perform throughGet
+    unfolding Same perform through_get
     metadata-read what =
-        ap (effect _ c) (through_same (memberIn c m).queues (askedList r) (askedList s) (memberIn c m).values (lookupOf (memberIn c m) id)
-        (metadataOf (memberIn c m).queues what) (metadata-same (memberIn c m).queues (askedList r) (askedList s) (memberIn c m).values what))
+        ap (effect _ c) (through_same (member_in c m).queues (asked_list r) (asked_list s) (member_in c m).values (lookup_of (member_in c m) id)
+        (metadata_of (member_in c m).queues what) (metadata-same (member_in c m).queues (asked_list r) (asked_list s) (member_in c m).values what))
 
     all_read : Same (Read m (GetAll id))
-    unfolding Same perform throughGet
+    unfolding Same perform through_get
     all_read =
-        ap (effect _ c) (through_same (memberIn c m).queues (askedList r) (askedList s) (memberIn c m).values (lookupOf (memberIn c m) id)
-        body.All (all_same (memberIn c m).queues (askedList r) (askedList s) (memberIn c m).values))
+        ap (effect _ c) (through_same (member_in c m).queues (asked_list r) (asked_list s) (member_in c m).values (lookup_of (member_in c m) id)
+        body.All (all_same (member_in c m).queues (asked_list r) (asked_list s) (member_in c m).values))
 
-    selected-read : askedList s ≡ askedList r → Same (Read m (GetSelected id))
+    selected-read : asked_list s ≡ asked_list r → Same (Read m (GetSelected id))
     unfolding Same perform
     selected-read e = rw e
 
-    parts-set : givenList s ≡ givenList r → Same (Change m (SetParts id))
+    parts-set : given_list s ≡ given_list r → Same (Change m (SetParts id))
     unfolding Same perform
     parts-set e = rw e
 
   -- m is the member that is named
   module _ (m op : ℕ) (asked : op ≡ 0x0f → (id : ℕ) → Same (Read m (GetSelected id))) (given : op ≡ 0x10 → (id : ℕ) → Same (Change m (SetParts id))) where
-    get-same : (ids : ℕ) (d : List ℕ) → op ≡ 0x0f → Same (getIn ids m d)
-    unfolding getIn
+    get-same : (ids : ℕ) (d : List ℕ) → op ≡ 0x0f → Same (get_in ids m d)
+    unfolding get_in
     get-same ids d o =
         guarded _ _ _ (if-cases Same _ _ _ (λ e. asked o _) (λ e. guarded _ _ _ (all_read m _)))
 
     -- the other changes and list use read no list
     fields-same : (ids : ℕ) (d : List ℕ) → Same (fields_of ids m op d)
-    unfolding fields_of createIn modifyIn queryIn destroyIn metadataIn setIn modeIn useIn Same perform
+    unfolding fields_of create_in modify_in query_in destroy_in metadata_in set_in mode_in use_in Same perform
     fields-same ids d =
         branch op 0x00 _ _ (λ o. refl) (branch op 0x01 _ _ (λ o. guarded _ _ _ refl)
         (branch op 0x0a _ _ (λ o. guarded _ _ _ refl) (branch op 0x0b _ _ (λ o. guarded _ _ _ refl)
         (branch op 0x0c _ _ (λ o. guarded _ _ _ (query-read m _)) (branch op 0x0d _ _ (λ o. guarded _ _ _ refl)
-        (branch op 0x0e _ _ (λ o. guarded _ _ _ (metadata-read m _ (metadataIs (get_or d type_at 0)))) (branch op 0x0f _ _ (get-same ids d)
+        (branch op 0x0e _ _ (λ o. guarded _ _ _ (metadata-read m _ (metadata_is (get_or d type_at 0)))) (branch op 0x0f _ _ (get-same ids d)
         (branch op 0x10 _ _ (λ o. guarded _ _ _ (given o _)) (guarded _ _ _ refl)))))))))
 
 -- two requests that ask the same, with lists that come to the same where these count
 module _ (c r s : List ℕ) (room : ℕ)
     (asked : opcode_of r ≡ 0x0f → (id : ℕ) → Same c r s (Read (target_of r) (GetSelected id)))
     (given : opcode_of r ≡ 0x10 → (id : ℕ) → Same c r s (Change (target_of r) (SetParts id)))
-    (ask : askIn c s ≡ askIn c r) where
-  done-same : Same c r s (askIn c r)
-  unfolding askIn askOf framedOf
+    (ask : ask_in c s ≡ ask_in c r) where
+  done-same : Same c r s (ask_in c r)
+  unfolding ask_in ask_of framed_of
   done-same =
       guarded c r s _ _ _ (guarded c r s _ _ _ (guarded c r s _ _ _ (guarded c r s _ _ _ (guarded c r s _ _ _
       (fields-same c r s (target_of r) (opcode_of r) asked given _ (data_of r))))))
@@ -132,7 +132,7 @@ module _ (c r s : List ℕ) (room : ℕ)
 
 -- with the same list
 pub respond-same : (c r s : List ℕ) (room : ℕ)
-    → (opcode_of r ≡ 0x0f → askedList s ≡ askedList r) → (opcode_of r ≡ 0x10 → givenList s ≡ givenList r) → askIn c s ≡ askIn c r
+    → (opcode_of r ≡ 0x0f → asked_list s ≡ asked_list r) → (opcode_of r ≡ 0x10 → given_list s ≡ given_list r) → ask_in c s ≡ ask_in c r
     → respond c s room ≡ respond c r room
 respond-same c r s room asked given =
     respond-alike c r s room (λ o id. selected-read c r s (target_of r) id (asked o)) (λ o id. parts-set c r s (target_of r) id (given o))

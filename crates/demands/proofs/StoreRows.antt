@@ -7,20 +7,20 @@ use borrow.Author.Tests.{eqb-true, eqb-false, ltb-true, lt-ltb}
 use lib.Dec.{ltb, eqb}
 use Rattle.theory.specs.Logic.{if◌then◌else◌, ◌or◌}
 use Rattle.theory.proofs.Tests.{by_cases, never, tests}
-use Rattle.inventory.specs.Inventory.{row_at, offset_of, selectorOf, place_of}
-use Rattle.inventory.specs.Worked.{nth_of, field_at, queueRows}
+use Rattle.inventory.specs.Inventory.{row_at, offset_of, selector_of, place_of}
+use Rattle.inventory.specs.Worked.{nth_of, field_at, queue_rows}
 use Rattle.inventory.specs.declared.Place.{Place}
 use Rattle.inventory.specs.declared.Place.TheVariants.{At, Absent}
 use Rattle.inventory.proofs.Rules.{table}
 use Rattle.inventory.proofs.Worked.{in-queues, in-notifies, in-status, in-driver, in-features, in-fields, no_rows}
-use Rattle.demands.specs.Stores.{Part, driverFeatures, field0, field8, field16, field22, deviceStatus, queue, queueNotify}
+use Rattle.demands.specs.Stores.{Part, driver_features, field0, field8, field16, field22, device_status, queue, queue_notify}
 
 -- ---- the parts, and the rows that they have ----
 
 -- the row of a part
 pub record RowOf (q t s n at : ℕ) : Type 0 where
   pub index : ℕ
-  pub place : place_of q t (selectorOf t s) ≡ At index
+  pub place : place_of q t (selector_of t s) ≡ At index
   pub later : 0 < index
   pub size : (row_at index).size ≡ n
   pub offset : offset_of index ≡ at
@@ -43,13 +43,13 @@ notify-rows (suc (suc (suc zero))) h = (refl, refl)
 notify-rows (suc (suc (suc (suc k)))) h = absurd (omega arith)
 
 -- the n-th of them, if the member has it
-nth-there : (first q n : ℕ) → n < q → q ≤ 4 → nth_of first (queueRows q) n ≡ At (first + n)
-unfolding nth_of queueRows if◌then◌else◌
+nth-there : (first q n : ℕ) → n < q → q ≤ 4 → nth_of first (queue_rows q) n ≡ At (first + n)
+unfolding nth_of queue_rows if◌then◌else◌
 nth-there first q n h l =
     by_cases (ltb q 4) (λ e. rw (e, lt-ltb n q h)) (λ e. rw (e, lt-ltb n 4 (omega arith)))
 
-nth-below : (first q n i : ℕ) → q ≤ 4 → nth_of first (queueRows q) n ≡ At i → (n < q) × (first + n ≡ i)
-unfolding nth_of queueRows if◌then◌else◌
+nth-below : (first q n i : ℕ) → q ≤ 4 → nth_of first (queue_rows q) n ≡ At i → (n < q) × (first + n ≡ i)
+unfolding nth_of queue_rows if◌then◌else◌
 nth-below first q n i l e =
     let k : (ltb n q ≡ true → (n < q) × (first + n ≡ i)) → (ltb n q ≡ false → (n < q) × (first + n ≡ i))
     → (n < q) × (first + n ≡ i) = by_cases (ltb n q) in
@@ -62,28 +62,28 @@ nth-below first q n i l e =
 
 -- the place of each type
 module _ (q s : ℕ) where
-  place-queue : place_of q 0x104 (selectorOf 0x104 s) ≡ nth_of 7 (queueRows q) (s % 65536)
-  unfolding selectorOf if◌then◌else◌ ◌or◌
-  place-queue = sym (in-queues q 0x104 (s % 65536) (queueRows q) (nth_of 7 (queueRows q) (s % 65536)) refl refl refl)
+  place-queue : place_of q 0x104 (selector_of 0x104 s) ≡ nth_of 7 (queue_rows q) (s % 65536)
+  unfolding selector_of if◌then◌else◌ ◌or◌
+  place-queue = sym (in-queues q 0x104 (s % 65536) (queue_rows q) (nth_of 7 (queue_rows q) (s % 65536)) refl refl refl)
 
-  place-notify : place_of q 0x105 (selectorOf 0x105 s) ≡ nth_of 11 (queueRows q) (s % 65536)
-  unfolding selectorOf if◌then◌else◌ ◌or◌
-  place-notify = sym (in-notifies q 0x105 (s % 65536) (queueRows q) (nth_of 11 (queueRows q) (s % 65536)) refl refl refl)
+  place-notify : place_of q 0x105 (selector_of 0x105 s) ≡ nth_of 11 (queue_rows q) (s % 65536)
+  unfolding selector_of if◌then◌else◌ ◌or◌
+  place-notify = sym (in-notifies q 0x105 (s % 65536) (queue_rows q) (nth_of 11 (queue_rows q) (s % 65536)) refl refl refl)
 
-  place-field : (k : ℕ) → s % 4294967296 ≡ k → place_of q 0x102 (selectorOf 0x102 s) ≡ field_at k
-  unfolding selectorOf if◌then◌else◌
+  place-field : (k : ℕ) → s % 4294967296 ≡ k → place_of q 0x102 (selector_of 0x102 s) ≡ field_at k
+  unfolding selector_of if◌then◌else◌
   place-field k e = sym (in-fields q 0x102 (s % 4294967296) (field_at (s % 4294967296)) refl refl) ∙ ap field_at e
 
-  place-status : place_of q 0x103 (selectorOf 0x103 s) ≡ At 6
-  unfolding selectorOf nth_of if◌then◌else◌ ◌or◌
+  place-status : place_of q 0x103 (selector_of 0x103 s) ≡ At 6
+  unfolding selector_of nth_of if◌then◌else◌ ◌or◌
   place-status = sym (in-status q 0x103 0 (At 6) refl refl)
 
-  place-driver : place_of q 0x101 (selectorOf 0x101 s) ≡ At 1
-  unfolding selectorOf nth_of if◌then◌else◌ ◌or◌
+  place-driver : place_of q 0x101 (selector_of 0x101 s) ≡ At 1
+  unfolding selector_of nth_of if◌then◌else◌ ◌or◌
   place-driver = sym (in-driver q 0x101 0 (At 1) refl refl)
 
-  place-features : place_of q 0x100 (selectorOf 0x100 s) ≡ At 0
-  unfolding selectorOf nth_of if◌then◌else◌ ◌or◌
+  place-features : place_of q 0x100 (selector_of 0x100 s) ≡ At 0
+  unfolding selector_of nth_of if◌then◌else◌ ◌or◌
   place-features = sym (in-features q 0x100 0 (At 0) refl refl)
 
 -- row i, which a place names
@@ -91,7 +91,7 @@ row_is : (p : Place) (i k : ℕ) → p ≡ At k → p ≡ At i → k ≡ i
 row_is p i k e f = let d : At k ≡ At i = sym e ∙ f in cc
 
 module _ (q : ℕ) (few : q ≤ 4) where
-  row_of : (t s i : ℕ) → place_of q t (selectorOf t s) ≡ At i → 0 < i → RowOf q t s (row_at i).size (offset_of i)
+  row_of : (t s i : ℕ) → place_of q t (selector_of t s) ≡ At i → 0 < i → RowOf q t s (row_at i).size (offset_of i)
   row_of t s i e l = record { index = i; place = e; later = l; size = refl; offset = refl }
 
   queue-row : (s : ℕ) → s % 65536 < q → RowOf q 0x104 s 32 (45 + 32 * (s % 65536))
@@ -118,14 +118,14 @@ module _ (q : ℕ) (few : q ≤ 4) where
 
   pub part-row : {t s n at : ℕ} → Part q t s n at → RowOf q t s n at
   unfolding table field_at
-  part-row (driverFeatures s) = row_of 0x101 s 1 (place-driver q s) (omega arith)
+  part-row (driver_features s) = row_of 0x101 s 1 (place-driver q s) (omega arith)
   part-row (field0 s e) = row_of 0x102 s 2 (place-field q s 0 e) (omega arith)
   part-row (field8 s e) = row_of 0x102 s 3 (place-field q s 8 e) (omega arith)
   part-row (field16 s e) = row_of 0x102 s 4 (place-field q s 16 e) (omega arith)
   part-row (field22 s e) = row_of 0x102 s 5 (place-field q s 22 e) (omega arith)
-  part-row (deviceStatus s) = row_of 0x103 s 6 (place-status q s) (omega arith)
+  part-row (device_status s) = row_of 0x103 s 6 (place-status q s) (omega arith)
   part-row (queue s h) = queue-row s h
-  part-row (queueNotify s h) = notify-row s h
+  part-row (queue_notify s h) = notify-row s h
 
   -- device features cannot be
   pub no-features : {s n at : ℕ} → Part q 0x100 s n at → ⊥
@@ -135,7 +135,7 @@ module _ (q : ℕ) (few : q ≤ 4) where
   )
 
   -- a part of the table but the first is one that can be stored
-  module _ (t s i : ℕ) (l : 0 < i) (e : place_of q t (selectorOf t s) ≡ At i) where
+  module _ (t s i : ℕ) (l : 0 < i) (e : place_of q t (selector_of t s) ≡ At i) where
     queue-at : t ≡ 0x104 → Part q t s (row_at i).size (offset_of i)
     queue-at a =
         let d = nth-below 7 q (s % 65536) i few (sym (place-queue q s) ∙ rw a at e) in
@@ -146,19 +146,19 @@ module _ (q : ℕ) (few : q ≤ 4) where
     notify-at a =
         let d = nth-below 11 q (s % 65536) i few (sym (place-notify q s) ∙ rw a at e) in
         let r = notify-rows (s % 65536) (let h = d.0 in omega arith) in
-        rw (a, ← d.1, r.0, r.1) (queueNotify s d.0)
+        rw (a, ← d.1, r.0, r.1) (queue_notify s d.0)
 
-    one-row : (k n at : ℕ) → place_of q t (selectorOf t s) ≡ At k → (row_at k).size ≡ n → offset_of k ≡ at → Part q t s n at
+    one-row : (k n at : ℕ) → place_of q t (selector_of t s) ≡ At k → (row_at k).size ≡ n → offset_of k ≡ at → Part q t s n at
         → Part q t s (row_at i).size (offset_of i)
     one-row k n at f x y p = rw (← row_is _ i k f e, x, y) p
 
     status-at : t ≡ 0x103 → Part q t s (row_at i).size (offset_of i)
     unfolding table
-    status-at a = one-row 6 1 44 (rw a (place-status q s)) refl refl (rw a (deviceStatus s))
+    status-at a = one-row 6 1 44 (rw a (place-status q s)) refl refl (rw a (device_status s))
 
     driver-at : t ≡ 0x101 → Part q t s (row_at i).size (offset_of i)
     unfolding table
-    driver-at a = one-row 1 16 16 (rw a (place-driver q s)) refl refl (rw a (driverFeatures s))
+    driver-at a = one-row 1 16 16 (rw a (place-driver q s)) refl refl (rw a (driver_features s))
 
     features-at : t ≡ 0x100 → ⊥
     features-at a = let d = row_is _ i 0 (rw a (place-features q s)) e in omega arith
@@ -166,7 +166,7 @@ module _ (q : ℕ) (few : q ≤ 4) where
     field-at : t ≡ 0x102 → Part q t s (row_at i).size (offset_of i)
     unfolding table field_at
     field-at a =
-        let p : (k : ℕ) → s % 4294967296 ≡ k → place_of q t (selectorOf t s) ≡ field_at k = λ k x. rw a (place-field q s k x) in
+        let p : (k : ℕ) → s % 4294967296 ≡ k → place_of q t (selector_of t s) ≡ field_at k = λ k x. rw a (place-field q s k x) in
         by_cases (eqb (s % 4294967296) 0)
         (λ x. let y = eqb-true _ _ x in one-row 2 4 32 (p 0 y) refl refl (rw a (field0 s y))) λ x₁.
         by_cases (eqb (s % 4294967296) 8)
@@ -188,6 +188,6 @@ module _ (q : ℕ) (few : q ≤ 4) where
         by_cases (eqb t 0x101) (λ a. driver-at (eqb-true t _ a)) λ a₅.
         by_cases (eqb t 0x100) (λ a. absurd (features-at (eqb-true t _ a))) λ a₆.
         let d : Absent ≡ At i =
-        no_rows q t (selectorOf t s) (eqb-false _ _ a₁) (eqb-false _ _ a₂) (eqb-false _ _ a₃) (eqb-false _ _ a₄)
+        no_rows q t (selector_of t s) (eqb-false _ _ a₁) (eqb-false _ _ a₂) (eqb-false _ _ a₃) (eqb-false _ _ a₄)
         (eqb-false _ _ a₅) (eqb-false _ _ a₆) ∙ e in
         never cc

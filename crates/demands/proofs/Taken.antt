@@ -12,32 +12,32 @@ use Rattle.theory.proofs.Tests.{both, either, and_i, within-high, never}
 use Rattle.theory.proofs.Lists.{length-zero}
 use Rattle.wire.specs.Le.{le, bytes, number}
 use Rattle.wire.proofs.Le.{le_bytes}
-use Rattle.protocol.specs.Opcodes.{namesMember, supportedOnly}
+use Rattle.protocol.specs.Opcodes.{names_member, supported_only}
 use Rattle.protocol.proofs.Masks.{mask_fits}
-use Rattle.card.specs.Layout.{setupOf, inUseOf}
+use Rattle.card.specs.Layout.{setup_of, in_use_of}
 use Rattle.card.proofs.SoundLaws.{sound-of}
-use Rattle.frame.specs.Fields.{flagsValid, fields_of}
-use Rattle.frame.specs.Ask.{usable, reaches, framedOf}
-use Rattle.admin.specs.Command.{askIn}
+use Rattle.frame.specs.Fields.{flags_valid, fields_of}
+use Rattle.frame.specs.Ask.{usable, reaches, framed_of}
+use Rattle.admin.specs.Command.{ask_in}
 use Rattle.host.specs.declared.Command.{Command}
 use Rattle.host.specs.declared.Command.TheVariants as host
-use Rattle.host.specs.Request.{sentOf}
+use Rattle.host.specs.Request.{sent_of}
 use Rattle.host.proofs.Request.{command-supported}
-use Rattle.demands.specs.Host.{askFor, inside, Taken}
-use Rattle.host.proofs.Asked.{dataFor, laid, sent-target, asked-frame, headers-given, parts-given, create-read, modify-read, query-read, destroy-read, metadata-read, get-read, set-read, use-read, mode-read}
+use Rattle.demands.specs.Host.{ask_for, inside, Taken}
+use Rattle.host.proofs.Asked.{data_for, laid, sent-target, asked-frame, headers-given, parts-given, create-read, modify-read, query-read, destroy-read, metadata-read, get-read, set-read, use-read, mode-read}
 
 -- ---- the member ----
 
 -- one that is reached has a small number
-reached-small : (members op m : ℕ) → members ≤ 16 → namesMember op ≡ true → reaches members op m ≡ true → m < 256 ^ 8
+reached-small : (members op m : ℕ) → members ≤ 16 → names_member op ≡ true → reaches members op m ≡ true → m < 256 ^ 8
 unfolding reaches
 reached-small members op m few n r =
-    let h : m ≤ members = either (not (namesMember op)) (within 1 members m) r (λ e. never cc) (within-high 1 members m) in
+    let h : m ≤ members = either (not (names_member op)) (within 1 members m) r (λ e. never cc) (within-high 1 members m) in
     omega arith
 
-member-small : (members : ℕ) (x : Command) → members ≤ 16 → reaches members (sentOf x).opcode (sentOf x).member ≡ true
-    → (sentOf x).member < 256 ^ 8
-unfolding sentOf namesMember within ◌and◌
+member-small : (members : ℕ) (x : Command) → members ≤ 16 → reaches members (sent_of x).opcode (sent_of x).member ≡ true
+    → (sent_of x).member < 256 ^ 8
+unfolding sent_of names_member within ◌and◌
 member-small members host.ListQuery h r = omega arith
 member-small members (host.ListUse mask) h r = omega arith
 member-small members (host.Create m id kind) h r = reached-small members 0x0a m h refl r
@@ -71,17 +71,17 @@ get-fields ids m id which list h =
     let q = both _ _ (both _ _ p.0).0 in
     record { valid = q.0; typed = q.1; alone = p.1 }
 
-mask-read : (mask : ℕ) (list : List ℕ) → supportedOnly mask ≡ true → list ≡ [] → le (dataFor (host.ListUse mask) list) ≡ mask
+mask-read : (mask : ℕ) (list : List ℕ) → supported_only mask ≡ true → list ≡ [] → le (data_for (host.ListUse mask) list) ≡ mask
 unfolding laid
 mask-read mask list h e = rw e (le_bytes 8 mask (mask_fits mask h))
 
 fields_read : (ids : ℕ) (x : Command) (list : List ℕ) → ids ≤ 16 → inside ids x list ≡ true
-    → fields_of ids (sentOf x).member (sentOf x).opcode (dataFor x list) ≡ askFor x
-unfolding inside fields_of if◌then◌else◌ unless◌answer◌then◌ flagsValid number le laid
+    → fields_of ids (sent_of x).member (sent_of x).opcode (data_for x list) ≡ ask_for x
+unfolding inside fields_of if◌then◌else◌ unless◌answer◌then◌ flags_valid number le laid
 fields_read ids host.ListQuery list n h = refl
 fields_read ids (host.ListUse mask) list n h =
     let p = both _ _ h in
-    use-read mask (dataFor (host.ListUse mask) list) (mask-read mask list p.0 (length-zero list (eqb-true _ 0 p.1))) p.0
+    use-read mask (data_for (host.ListUse mask) list) (mask-read mask list p.0 (length-zero list (eqb-true _ 0 p.1))) p.0
 fields_read ids (host.Create m id kind) list n h =
     let p = both _ _ h in
     create-read id (replicate 8 0 ++ (bytes 8 kind ++ [])) (id-small ids id n p.0) ids m p.0 kind refl (byte_small kind 1 (omega arith) p.1) p.1
@@ -98,20 +98,20 @@ fields_read ids (host.Get m id which) list n h =
     get-read id (bytes 8 which ++ list) (id-small ids id n g.valid) ids m g.valid which list
     (byte_small which 1 (omega arith) g.typed) g.typed (omega arith) g.alone
 fields_read ids (host.Set m id) list n h = set-read id list (id-small ids id n h) ids m ∙ rw h
-fields_read ids (host.SetMode m mode) list n h = mode-read m mode (dataFor (host.SetMode m mode) list) (byte_small mode 1 (omega arith) h) h
+fields_read ids (host.SetMode m mode) list n h = mode-read m mode (data_for (host.SetMode m mode) list) (byte_small mode 1 (omega arith) h) h
 
 -- ---- the claim ----
 
 pub taken : Taken
-unfolding askIn framedOf usable unless◌answer◌then◌
+unfolding ask_in framed_of usable unless◌answer◌then◌
 taken c x list t =
     let n = (sound-of c t.sound).numbers in
-    let ids = (setupOf c).gets + (setupOf c).sets in
-    let small = member-small (setupOf c).members x n.fewMembers t.member in
+    let ids = (setup_of c).gets + (setup_of c).sets in
+    let small = member-small (setup_of c).members x n.few_members t.member in
     record {
       asked =
-          asked-frame x list (setupOf c).members ids (inUseOf c) _ small t.short
-          ∙ rw (sent-target x list small, and_i _ _ (command-supported x) t.inUse, t.member, t.unmarked)
+          asked-frame x list (setup_of c).members ids (in_use_of c) _ small t.short
+          ∙ rw (sent-target x list small, and_i _ _ (command-supported x) t.in_use, t.member, t.unmarked)
           (fields_read ids x list (omega arith) t.fields);
       headers = λ m id which e. rw e (headers-given m id which list);
       parts = λ m id e. rw e (parts-given m id list);

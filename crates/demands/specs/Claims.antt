@@ -1,7 +1,7 @@
 -- WHAT IS CLAIMED OF THE CARD. The record Claims at the end lists all claims, by demand, SPEC 9, and by request, SPEC 13, with the
 -- file that has each, and ../proofs/Claims.antt proves it. The claims of demands 1 and 3 stand here. All are over the definitions
--- that the contracts of the exported functions cite, or over the same without a lent buffer: respond for commandOf, answerOf
--- for messageOf. A claim with hypotheses says which example meets them; where no file is named it is in
+-- that the contracts of the exported functions cite, or over the same without a lent buffer: respond for command_of, answer_of
+-- for message_of. A claim with hypotheses says which example meets them; where no file is named it is in
 -- ../proofs/ClaimsExample.antt. Assumes nothing.
 use Rattle.std.specs.Prelude.{◌≡◌, ◌≢◌, true, false, List, [], ◌∷◌, ◌++◌, ℕ, ◌+◌, ◌≤◌, ◌<◌, length, take, drop, replicate}
 use Rattle.theory.specs.Machine.{trace, run, seen, visible}
@@ -9,18 +9,18 @@ use Rattle.protocol.specs.declared.EventAnswer.TheVariants.{Done}
 use Rattle.frame.specs.Frame.{opcode_of, target_of}
 use Rattle.setups.specs.Claims.{Claims as PackedSetups}
 use Rattle.setups.specs.Examples.{SetupsWritten, SetupsRead, MembersAsked}
-use Rattle.card.specs.Layout.{inUseAt, recordSize, setupOf, isMember, recordAt, memberIn, countsOf, isMarked}
-use Rattle.card.specs.Sound.{isSound}
-use Rattle.events.specs.Events.{setupWith, setUp}
-use Rattle.admin.specs.Command.{respond, commandOf}
+use Rattle.card.specs.Layout.{in_use_at, record_size, setup_of, is_member, record_at, member_in, counts_of, is_marked}
+use Rattle.card.specs.Sound.{is_sound}
+use Rattle.events.specs.Events.{setup_with, set_up}
+use Rattle.admin.specs.Command.{respond, command_of}
 use Rattle.host.specs.Examples.{RequestsBuilt, RepliesRead}
-use Rattle.staging.specs.Staging.{dropOf}
+use Rattle.staging.specs.Staging.{drop_of}
 use Rattle.staging.specs.Claims.{FinishIsPartsSet, HoldsJoined, CutAnywhere}
 use Rattle.difference.specs.Claims.{Claims as MergedLists}
 use Rattle.salvage.specs.Claims.{Claims as SalvagedLists}
 use Rattle.figures.specs.Claims.{HoweverCut, AddsUp, ExactNumbers, Sheets}
 use Rattle.figures.specs.Encoding.{SheetOfCaptures}
-use Rattle.demands.specs.Calls.{Call, command, handBack, wipe, cardReset, cardStore, restoreBegin, restoreFeed, restoreFinish, restoreDrop, message, Reply, written, answered, responded, refused, step, names, Resets}
+use Rattle.demands.specs.Calls.{Call, command, hand_back, wipe, card_reset, card_store, restore_begin, restore_feed, restore_finish, restore_drop, message, Reply, written, answered, responded, refused, step, names, Resets}
 use Rattle.demands.specs.Exports.{ExportsStep}
 use Rattle.demands.specs.Fresh.{SetupsDone, ResetsDone}
 use Rattle.demands.specs.Stores.{StoresDone}
@@ -47,7 +47,7 @@ use Rattle.demands.specs.Loads.{AnsweredExactly, RefusedUnwritten, LoadIsLent, L
 
 -- No call makes a sound card unsound: SPEC 2.4. Example: sound-card
 abbrev pub StaysSound : Type 0
-StaysSound = (c : List ℕ) (x : Call) → isSound c ≡ true → isSound (step c x).0 ≡ true
+StaysSound = (c : List ℕ) (x : Call) → is_sound c ≡ true → is_sound (step c x).0 ≡ true
 
 -- ---- DEMAND 1, SPEC 9.1: every call is safe, whatever bytes it is given, and one that is refused changes nothing. ----
 
@@ -56,33 +56,33 @@ StaysSound = (c : List ℕ) (x : Call) → isSound c ≡ true → isSound (step 
 -- With a reply buffer that is shorter than 8 bytes, or with a card that is not sound, nothing is written and the card
 -- stays: step 1 of SPEC 6.1. Examples: short-buffer, unsound-card
 pub record NotWritten : Type 0 where
-  pub shortBuffer : (c r b : List ℕ) → length b < 8 → commandOf c r b ≡ (0, (c, b))
-  pub unsoundCard : (c r b : List ℕ) → isSound c ≡ false → commandOf c r b ≡ (0, (c, b))
+  pub short_buffer : (c r b : List ℕ) → length b < 8 → command_of c r b ≡ (0, (c, b))
+  pub unsound_card : (c r b : List ℕ) → is_sound c ≡ false → command_of c r b ≡ (0, (c, b))
 
 -- On a card that is not sound nothing is done, whatever is called: a command writes nothing, a message gets the bus outcome, and
 -- every other call answers 9. Example: unsound-card
-unfoldable pub unsoundReply : Call → Reply
-unsoundReply (command r room) = written []
-unsoundReply (handBack m) = answered 9
-unsoundReply (wipe m generation) = answered 9
-unsoundReply (cardReset generation) = answered 9
-unsoundReply (cardStore m t s value) = answered 9
-unsoundReply (restoreBegin m) = answered 9
-unsoundReply (restoreFeed m x) = answered 9
-unsoundReply (restoreFinish m id) = answered 9
-unsoundReply (restoreDrop m) = answered 9
-unsoundReply (message x room) = responded []
+unfoldable pub unsound_reply : Call → Reply
+unsound_reply (command r room) = written []
+unsound_reply (hand_back m) = answered 9
+unsound_reply (wipe m generation) = answered 9
+unsound_reply (card_reset generation) = answered 9
+unsound_reply (card_store m t s value) = answered 9
+unsound_reply (restore_begin m) = answered 9
+unsound_reply (restore_feed m x) = answered 9
+unsound_reply (restore_finish m id) = answered 9
+unsound_reply (restore_drop m) = answered 9
+unsound_reply (message x room) = responded []
 
 abbrev pub UnsoundRefused : Type 0
-UnsoundRefused = (c : List ℕ) (x : Call) → isSound c ≡ false → step c x ≡ (c, unsoundReply x)
+UnsoundRefused = (c : List ℕ) (x : Call) → is_sound c ≡ false → step c x ≡ (c, unsound_reply x)
 
 -- What a command leaves is the card and the reply that `respond` gives for the buffer's length: the reply lies within
 -- the buffer, as many bytes as are reported, and the rest of the buffer is left as it was: SPEC 3.3
 pub record Delivers (c r b : List ℕ) : Type 0 where
-  pub card : (commandOf c r b).1.0 ≡ (respond c r (length b)).0
-  pub reported : (commandOf c r b).0 ≡ length (respond c r (length b)).1
-  pub within : (commandOf c r b).0 ≤ length b
-  pub buffer : (commandOf c r b).1.1 ≡ (respond c r (length b)).1 ++ drop (commandOf c r b).0 b
+  pub card : (command_of c r b).1.0 ≡ (respond c r (length b)).0
+  pub reported : (command_of c r b).0 ≡ length (respond c r (length b)).1
+  pub within : (command_of c r b).0 ≤ length b
+  pub buffer : (command_of c r b).1.1 ≡ (respond c r (length b)).1 ++ drop (command_of c r b).0 b
 
 abbrev pub Delivered : Type 0
 Delivered = (c r b : List ℕ) → Delivers c r b
@@ -91,31 +91,31 @@ Delivered = (c r b : List ℕ) → Delivers c r b
 -- that is too long and a finish that is refused leave it as a drop does, which is as it stood where nothing is begun,
 -- and else with the holding place gone. Examples: refused-command; refused-feed and refused-finish in
 -- ../proofs/RestoreExample.antt
-unfoldable pub afterRefusal : List ℕ → Call → List ℕ
-afterRefusal c (command r room) = c
-afterRefusal c (handBack m) = c
-afterRefusal c (wipe m generation) = c
-afterRefusal c (cardReset generation) = c
-afterRefusal c (cardStore m t s value) = c
-afterRefusal c (restoreBegin m) = c
-afterRefusal c (restoreFeed m x) = (dropOf c m).1
-afterRefusal c (restoreFinish m id) = (dropOf c m).1
-afterRefusal c (restoreDrop m) = c
-afterRefusal c (message x room) = c
+unfoldable pub after_refusal : List ℕ → Call → List ℕ
+after_refusal c (command r room) = c
+after_refusal c (hand_back m) = c
+after_refusal c (wipe m generation) = c
+after_refusal c (card_reset generation) = c
+after_refusal c (card_store m t s value) = c
+after_refusal c (restore_begin m) = c
+after_refusal c (restore_feed m x) = (drop_of c m).1
+after_refusal c (restore_finish m id) = (drop_of c m).1
+after_refusal c (restore_drop m) = c
+after_refusal c (message x room) = c
 
 abbrev pub RefusalsChangeNothing : Type 0
-RefusalsChangeNothing = (c : List ℕ) (x : Call) → refused (step c x).1 ≡ true → (step c x).0 ≡ afterRefusal c x
+RefusalsChangeNothing = (c : List ℕ) (x : Call) → refused (step c x).1 ≡ true → (step c x).0 ≡ after_refusal c x
 
 -- Setup, done, gives a sound card of this setup, with this queue count for each member; refused, it makes every byte of
 -- the buffer zero, and zeros are not sound: SPEC 7.2. Examples: setup-done, setup-refused
 pub record SetsUp : Type 0 where
-  pub done : (b : List ℕ) (n : ℕ) (q : List ℕ) (g s : ℕ) (f : List ℕ) → (setUp b n q g s f).0 ≡ Done
-      → (isSound (setUp b n q g s f).1 ≡ true)
-      × (setupOf (setUp b n q g s f).1 ≡ setupWith n g s f)
-      × (countsOf (setUp b n q g s f).1 ≡ q)
-  pub refused : (b : List ℕ) (n : ℕ) (q : List ℕ) (g s : ℕ) (f : List ℕ) → (setUp b n q g s f).0 ≢ Done
-      → (setUp b n q g s f).1 ≡ replicate (length b) 0
-  pub zeros : (n : ℕ) → isSound (replicate n 0) ≡ false
+  pub done : (b : List ℕ) (n : ℕ) (q : List ℕ) (g s : ℕ) (f : List ℕ) → (set_up b n q g s f).0 ≡ Done
+      → (is_sound (set_up b n q g s f).1 ≡ true)
+      × (setup_of (set_up b n q g s f).1 ≡ setup_with n g s f)
+      × (counts_of (set_up b n q g s f).1 ≡ q)
+  pub refused : (b : List ℕ) (n : ℕ) (q : List ℕ) (g s : ℕ) (f : List ℕ) → (set_up b n q g s f).0 ≢ Done
+      → (set_up b n q g s f).1 ≡ replicate (length b) 0
+  pub zeros : (n : ℕ) → is_sound (replicate n 0) ≡ false
 
 -- ---- DEMAND 3, SPEC 9.3: after a reset of member m nothing of its former guest can be observed. ----
 
@@ -126,7 +126,7 @@ pub record SameOutside (at size : ℕ) (c d : List ℕ) : Type 0 where
 
 -- two cards that differ in member m's record at most
 abbrev pub DifferAtMost : ℕ → List ℕ → List ℕ → Type 0
-DifferAtMost m c d = SameOutside (recordAt m) recordSize c d
+DifferAtMost m c d = SameOutside (record_at m) record_size c d
 
 -- Two sound cards differ in member m's record at most, and m's mark and its queue count are the same in both. Two
 -- sequences of calls, p₁ then r then t on the one and p₂ then r then t on the other: r resets m, by its reply on the
@@ -136,9 +136,9 @@ DifferAtMost m c d = SameOutside (recordAt m) recordSize c d
 -- ../proofs/IsolationExample.antt
 abbrev pub Isolation : Type 0
 Isolation =
-    (c₁ c₂ : List ℕ) → isSound c₁ ≡ true → isSound c₂ ≡ true
-    → (m : ℕ) → isMember c₁ m ≡ true → DifferAtMost m c₁ c₂
-    → isMarked c₁ m ≡ isMarked c₂ m → (memberIn c₁ m).queues ≡ (memberIn c₂ m).queues
+    (c₁ c₂ : List ℕ) → is_sound c₁ ≡ true → is_sound c₂ ≡ true
+    → (m : ℕ) → is_member c₁ m ≡ true → DifferAtMost m c₁ c₂
+    → is_marked c₁ m ≡ is_marked c₂ m → (member_in c₁ m).queues ≡ (member_in c₂ m).queues
     → (p₁ p₂ : List Call) → visible (names m) p₁ ≡ visible (names m) p₂
     → (r : Call) → Resets m r (step (run step c₁ p₁) r).1 → (t : List Call)
     → seen (names m) (length p₁) (trace step c₁ (p₁ ++ r ∷ t)) ≡ seen (names m) (length p₂) (trace step c₂ (p₂ ++ r ∷ t))
@@ -147,9 +147,9 @@ Isolation =
 -- cards, after r and after every later call. Example: ../proofs/LoadsExample.antt
 abbrev pub LoadsIsolated : Type 0
 LoadsIsolated =
-    (c₁ c₂ : List ℕ) → isSound c₁ ≡ true → isSound c₂ ≡ true
-    → (m : ℕ) → isMember c₁ m ≡ true → DifferAtMost m c₁ c₂
-    → isMarked c₁ m ≡ isMarked c₂ m → (memberIn c₁ m).queues ≡ (memberIn c₂ m).queues
+    (c₁ c₂ : List ℕ) → is_sound c₁ ≡ true → is_sound c₂ ≡ true
+    → (m : ℕ) → is_member c₁ m ≡ true → DifferAtMost m c₁ c₂
+    → is_marked c₁ m ≡ is_marked c₂ m → (member_in c₁ m).queues ≡ (member_in c₂ m).queues
     → (p₁ p₂ : List Call) → visible (names m) p₁ ≡ visible (names m) p₂
     → (r : Call) → Resets m r (step (run step c₁ p₁) r).1 → (t : List Call)
     → ReadAlike (run step c₁ (p₁ ++ r ∷ t)) (run step c₂ (p₂ ++ r ∷ t))
@@ -160,139 +160,139 @@ pub record Integrity : Type 0 where
   -- one that names m, a hand back of m and a wipe of m changes m's record at most: the setup, the list in use and every
   -- other record stay
   pub named : (c : List ℕ) (m : ℕ) (x : Call) → names m x ≡ true → DifferAtMost m (step c x).0 c
-  pub handedBack : (c : List ℕ) (m : ℕ) → DifferAtMost m (step c (handBack m)).0 c
+  pub handed_back : (c : List ℕ) (m : ℕ) → DifferAtMost m (step c (hand_back m)).0 c
   pub wiped : (c : List ℕ) (m generation : ℕ) → DifferAtMost m (step c (wipe m generation)).0 c
   -- list use changes the list in use alone
-  pub listUse : (c r : List ℕ) (room : ℕ) → opcode_of r ≡ 0x01 → SameOutside inUseAt 8 (step c (command r room)).0 c
+  pub list_use : (c r : List ℕ) (room : ℕ) → opcode_of r ≡ 0x01 → SameOutside in_use_at 8 (step c (command r room)).0 c
   -- parts set keeps the member's mode and objects
-  pub partsSet : (c r : List ℕ) (room : ℕ) → opcode_of r ≡ 0x10
-      → ((memberIn (step c (command r room)).0 (target_of r)).mode ≡ (memberIn c (target_of r)).mode)
-      × ((memberIn (step c (command r room)).0 (target_of r)).objects ≡ (memberIn c (target_of r)).objects)
+  pub parts_set : (c r : List ℕ) (room : ℕ) → opcode_of r ≡ 0x10
+      → ((member_in (step c (command r room)).0 (target_of r)).mode ≡ (member_in c (target_of r)).mode)
+      × ((member_in (step c (command r room)).0 (target_of r)).objects ≡ (member_in c (target_of r)).objects)
 
 -- ---- all claims ----
 
 pub record Claims : Type 1 where
-  pub staysSound : StaysSound
+  pub stays_sound : StaysSound
   -- DEMAND 1. What the exported functions give is the step of a sequence: Exports.antt
-  pub notWritten : NotWritten
-  pub unsoundRefused : UnsoundRefused
+  pub not_written : NotWritten
+  pub unsound_refused : UnsoundRefused
   pub delivered : Delivered
   pub exported : ExportsStep
   pub refusals : RefusalsChangeNothing
-  pub setsUp : SetsUp
+  pub sets_up : SetsUp
   -- when setup and a card store are done, and what they leave; what resets leave: Fresh.antt and Stores.antt, with the examples
   -- ../proofs/FreshExample.antt and ../proofs/StoresExample.antt
-  pub setupsDone : SetupsDone
-  pub resetsDone : ResetsDone
-  pub storesDone : StoresDone
+  pub setups_done : SetupsDone
+  pub resets_done : ResetsDone
+  pub stores_done : StoresDone
   -- DEMAND 2, SPEC 9.2: every answer, and the card after it, is the specified one, and a full capture can be set.
   -- Which status a command gets: Statuses.antt, with the example ../proofs/StatusesExample.antt
   pub statuses : Statuses
   -- the reserved bytes of a request are ignored: Reserved.antt; and what is not read of the header of a part: PartHeaders.antt
-  pub reservedIgnored : ReservedIgnored
-  pub headersNotRead : HeadersNotRead
+  pub reserved_ignored : ReservedIgnored
+  pub headers_not_read : HeadersNotRead
   -- the worked examples B1 to B12, and the wrong programs that fail them: Examples.antt, WrongPrograms.antt, with the example
   -- ../proofs/WrongProgramsExample.antt
   pub examples : ExamplesHold
-  pub wrongPrograms : WrongProgramsRejected
+  pub wrong_programs : WrongProgramsRejected
   -- worked examples N1 to N9, of the numbers that stand nowhere else: Numbers.antt
   pub numbers : NumbersHold
   -- the round trip: RoundTrip.antt, with the example ../proofs/RoundTripExample.antt
-  pub roundTrip : RoundTrip
+  pub round_trip : RoundTrip
   -- DEMAND 3
   pub isolation : Isolation
   pub integrity : Integrity
   -- REQUEST 1, the host's half: a built request is taken, and whatever is answered to it is read. Host.antt, with the example
   -- ../proofs/HostExample.antt. The round trip is by built requests
   pub taken : Taken
-  pub readBack : ReadBack
+  pub read_back : ReadBack
   -- requests byte by byte, and replies that are read and refused: host/specs/Examples.antt
-  pub requestsBuilt : RequestsBuilt
-  pub repliesRead : RepliesRead
+  pub requests_built : RequestsBuilt
+  pub replies_read : RepliesRead
   -- REQUEST 2, requests of any length: Lengths.antt, and its worked examples L1 to L15
-  pub missingIsZero : MissingIsZero
-  pub restIsIgnored : RestIsIgnored
-  pub nothingInUse : NothingInUse
-  pub lengthExamples : LengthExamplesHold
+  pub missing_is_zero : MissingIsZero
+  pub rest_is_ignored : RestIsIgnored
+  pub nothing_in_use : NothingInUse
+  pub length_examples : LengthExamplesHold
   -- REQUEST 3, configuration by message: what a message leaves, what it touches, and what else touches a configuration.
   -- Messages.antt, and its worked examples M1 to M12; which messages are answered, and what they do: Answered.antt, with the
   -- example ../proofs/AnsweredExample.antt
-  pub messagesAnswered : MessagesAnswered
+  pub messages_answered : MessagesAnswered
   pub responded : Responded
-  pub nothingApplied : NothingApplied
-  pub onlyConfiguration : OnlyConfiguration
-  pub configurationKept : ConfigurationKept
-  pub messageExamples : MessageExamplesHold
+  pub nothing_applied : NothingApplied
+  pub only_configuration : OnlyConfiguration
+  pub configuration_kept : ConfigurationKept
+  pub message_examples : MessageExamplesHold
   -- REQUEST 4, the place of a part: Places.antt, with the example ../proofs/PlacesExample.antt
-  pub placesFound : PlacesFound
+  pub places_found : PlacesFound
   -- REQUEST 5, queue sizes that no ring has: what a sound card holds. QueueSizes.antt, and its worked examples S1 to S6. That
-  -- every call keeps it is staysSound, and that a capture can still be set roundTrip
-  pub ringsOnly : RingsOnly
-  pub queueExamples : QueueExamplesHold
+  -- every call keeps it is stays_sound, and that a capture can still be set round_trip
+  pub rings_only : RingsOnly
+  pub queue_examples : QueueExamplesHold
   -- REQUEST 6, a restore in fragments: what finish does, what is held, and that it does not matter how the bytes are cut.
   -- staging/specs/Claims.antt, and what these calls touch and who ends a holding place: Holding.antt, with the example
   -- ../proofs/RestoreExample.antt; and the worked examples R1 to R9 of Restores.antt
-  pub finishIsPartsSet : FinishIsPartsSet
-  pub holdsJoined : HoldsJoined
-  pub cutAnywhere : CutAnywhere
-  pub onlyHolding : OnlyHolding
-  pub holdingKept : HoldingKept
-  pub holdingEnded : HoldingEnded
-  pub restoreExamples : RestoreExamplesHold
+  pub finish_is_parts_set : FinishIsPartsSet
+  pub holds_joined : HoldsJoined
+  pub cut_anywhere : CutAnywhere
+  pub only_holding : OnlyHolding
+  pub holding_kept : HoldingKept
+  pub holding_ended : HoldingEnded
+  pub restore_examples : RestoreExamplesHold
   -- what a packed setup says of a member, by which requests 7 and 8 go: Lists.antt
-  pub membersKnown : MembersKnown
+  pub members_known : MembersKnown
   -- REQUEST 7, a night's difference: when each call is done and by which number it is refused, the list made of two, and what is
   -- looked up in them. difference/specs/Claims.antt, on a member's values, and Lists.antt, on commands, with the examples
   -- difference/proofs/Example.antt and ../proofs/ListsExample.antt
-  pub mergedLists : MergedLists
-  pub mergedSets : MergedSets
-  pub foundCaptured : FoundCaptured
+  pub merged_lists : MergedLists
+  pub merged_sets : MergedSets
+  pub found_captured : FoundCaptured
   -- REQUEST 8, salvage of a torn capture: when it is done, what is written, kept, filled, dropped and left over, and that a
   -- stopped member takes it. salvage/specs/Claims.antt and Lists.antt, with the examples salvage/proofs/Example.antt and
   -- ../proofs/ListsExample.antt
-  pub salvagedLists : SalvagedLists
-  pub salvagedAccepted : SalvagedAccepted
+  pub salvaged_lists : SalvagedLists
+  pub salvaged_accepted : SalvagedAccepted
   -- REQUEST 9, setups that outlive a release: what is written and what is read, by numbers alone; what is written reads back the
   -- same, and is written back; a refusal writes nothing, what is read is in range. setups/specs/Claims.antt, with the example
   -- setups/proofs/AcceptedExample.antt, and the worked examples of setups/specs/Examples.antt
-  pub packedSetups : PackedSetups
-  pub setupsWritten : SetupsWritten
-  pub setupsRead : SetupsRead
-  pub membersAsked : MembersAsked
+  pub packed_setups : PackedSetups
+  pub setups_written : SetupsWritten
+  pub setups_read : SetupsRead
+  pub members_asked : MembersAsked
   -- and on a card: QueueCounts.antt, and its worked examples Q1 to Q4
-  pub setUpFromPacked : SetUpFromPacked
-  pub queuesKept : QueuesKept
-  pub countsInRange : CountsInRange
-  pub countExamples : CountExamplesHold
+  pub set_up_from_packed : SetUpFromPacked
+  pub queues_kept : QueuesKept
+  pub counts_in_range : CountsInRange
+  pub count_examples : CountExamplesHold
   -- REQUEST 10, reset in two halves: Halves.antt, and its worked examples H1 to H6, with the example ../proofs/HalvesExample.antt
-  pub twoHalves : TwoHalves
-  pub markedRefused : MarkedRefused
-  pub storesWork : StoresWork
-  pub markedIdle : MarkedIdle
-  pub halvesExamples : HalvesExamplesHold
+  pub two_halves : TwoHalves
+  pub marked_refused : MarkedRefused
+  pub stores_work : StoresWork
+  pub marked_idle : MarkedIdle
+  pub halves_examples : HalvesExamplesHold
   -- REQUEST 11, a year of captures in figures: however a stream is cut, feeding the chunks gives the sheet of the whole; its lines
   -- add up; numbers are exact; the sheets that 02 gives, and one with a number of its own on each line, as text:
   -- figures/specs/Claims.antt, with the example figures/proofs/Example.antt
-  pub howeverCut : HoweverCut
-  pub addsUp : AddsUp
-  pub exactNumbers : ExactNumbers
+  pub however_cut : HoweverCut
+  pub adds_up : AddsUp
+  pub exact_numbers : ExactNumbers
   pub sheets : Sheets
   -- the sheet says `end whole` exactly if fewer than 4,294,967,295 joined captures are all that follows the setup, and else
   -- `end torn`, and its numbers are those of the captures: figures/specs/Encoding.antt, with the example
   -- figures/proofs/EncodingExample.antt
-  pub sheetOfCaptures : SheetOfCaptures
+  pub sheet_of_captures : SheetOfCaptures
   -- REQUEST 12, commands from two hosts: Commutation.antt, with the example ../proofs/CommutationExample.antt
   pub commutation : Commutation
-  pub commandsCommute : CommandsCommute
+  pub commands_commute : CommandsCommute
   -- CALLS FOR THE CARD'S OWN FIRMWARE, which only read: exactly when each answers 0, what it gives after a store, a list that is
   -- set and a wipe, a setup that is set up anew, and demand 3. Loads.antt, and its worked examples F1 to F7, with the example
   -- ../proofs/LoadsExample.antt
-  pub answeredExactly : AnsweredExactly
-  pub refusedUnwritten : RefusedUnwritten
-  pub loadIsLent : LoadIsLent
-  pub loadStored : LoadStored
-  pub loadSet : LoadSet
-  pub loadWiped : LoadWiped
-  pub setupAgain : SetupAgain
-  pub loadsIsolated : LoadsIsolated
-  pub loadExamples : LoadExamplesHold
+  pub answered_exactly : AnsweredExactly
+  pub refused_unwritten : RefusedUnwritten
+  pub load_is_lent : LoadIsLent
+  pub load_stored : LoadStored
+  pub load_set : LoadSet
+  pub load_wiped : LoadWiped
+  pub setup_again : SetupAgain
+  pub loads_isolated : LoadsIsolated
+  pub load_examples : LoadExamplesHold

@@ -5,23 +5,23 @@ use Rattle.protocol.specs.declared.Answer.TheVariants.{Done}
 use Rattle.protocol.specs.declared.Mode.TheVariants.{Stopped}
 use Rattle.protocol.specs.declared.ObjectKind.TheVariants.{Get, Set}
 use Rattle.protocol.specs.Opcodes.{bit}
-use Rattle.inventory.specs.Inventory.{partsSize}
-use Rattle.parts.specs.List.{longestList}
+use Rattle.inventory.specs.Inventory.{parts_size}
+use Rattle.parts.specs.List.{longest_list}
 use Rattle.objects.specs.declared.Found.TheVariants.{Live}
-use Rattle.member.specs.Objects.{lookupOf}
+use Rattle.member.specs.Objects.{lookup_of}
 use Rattle.setups.specs.declared.MemberSetup.{MemberSetup}
 use Rattle.setups.specs.declared.ReadOutcome.{ReadOutcome}
 use Rattle.setups.specs.declared.ReadAnswer.TheVariants as reading
-use Rattle.setups.specs.Reading.{readSetup}
-use Rattle.setups.specs.Member.{memberSetup}
-use Rattle.card.specs.Layout.{setupOf, inUseOf, isMember, memberIn}
-use Rattle.card.specs.Sound.{isSound}
+use Rattle.setups.specs.Reading.{read_setup}
+use Rattle.setups.specs.Member.{member_setup}
+use Rattle.card.specs.Layout.{setup_of, in_use_of, is_member, member_in}
+use Rattle.card.specs.Sound.{is_sound}
 use Rattle.reply.specs.Reply.{head_of}
 use Rattle.admin.specs.Command.{respond}
-use Rattle.host.specs.Request.{setParts}
-use Rattle.difference.specs.Difference.{value_at, lookupTold}
-use Rattle.difference.specs.Under.{lookupUnder, mergeUnder}
-use Rattle.salvage.specs.Salvage.{Salvage, salvageUnder}
+use Rattle.host.specs.Request.{set_parts}
+use Rattle.difference.specs.Difference.{value_at, lookup_told}
+use Rattle.difference.specs.Under.{lookup_under, merge_under}
+use Rattle.salvage.specs.Salvage.{Salvage, salvage_under}
 use Rattle.demands.specs.RoundTrip.{capture}
 
 -- What was read of a packed setup has member m: it is not refused, and m is 1 to N.
@@ -33,77 +33,77 @@ pub record HasMember (o : ReadOutcome) (m : ℕ) : Type 0 where
 -- What the setup says of m, by which requests 7 and 8 go: m is known exactly if it is a member; its queue count and the device
 -- features are those that were read. Example: ../proofs/ListsExample.antt
 pub record SaysOf (setup : List ℕ) (m : ℕ) : Type 0 where
-  pub known : HasMember (readSetup setup) m → (memberSetup setup m).known ≡ true
-  pub only : (memberSetup setup m).known ≡ true → HasMember (readSetup setup) m
-  pub queues : (memberSetup setup m).known ≡ true → (memberSetup setup m).queues ≡ get_or (readSetup setup).setup.queues (m - 1) 0
-  pub features : (memberSetup setup m).known ≡ true → (memberSetup setup m).features ≡ (readSetup setup).setup.features
+  pub known : HasMember (read_setup setup) m → (member_setup setup m).known ≡ true
+  pub only : (member_setup setup m).known ≡ true → HasMember (read_setup setup) m
+  pub queues : (member_setup setup m).known ≡ true → (member_setup setup m).queues ≡ get_or (read_setup setup).setup.queues (m - 1) 0
+  pub features : (member_setup setup m).known ≡ true → (member_setup setup m).features ≡ (read_setup setup).setup.features
 
 abbrev pub MembersKnown : Type 0
 MembersKnown = (setup : List ℕ) (m : ℕ) → SaysOf setup m
 
 -- Member m of a sound card is stopped and has a live set object j, and parts set, 0x10, is in use.
 pub record Settable (c : List ℕ) (m j : ℕ) : Type 0 where
-  pub sound : isSound c ≡ true
-  pub here : isMember c m ≡ true
-  pub setObject : lookupOf (memberIn c m) j ≡ Live Set
-  pub stopped : (memberIn c m).mode ≡ Stopped
-  pub setInUse : bit (inUseOf c) 0x10 ≡ true
+  pub sound : is_sound c ≡ true
+  pub here : is_member c m ≡ true
+  pub set_object : lookup_of (member_in c m) j ≡ Live Set
+  pub stopped : (member_in c m).mode ≡ Stopped
+  pub set_in_use : bit (in_use_of c) 0x10 ≡ true
 
 -- It has the device features and the queue count that a setup says of a member, "a member with that setup and queue count".
 pub record Alike (c : List ℕ) (m : ℕ) (s : MemberSetup) : Type 0 where
   pub known : s.known ≡ true
-  pub features : (setupOf c).features ≡ s.features
-  pub queues : (memberIn c m).queues ≡ s.queues
+  pub features : (setup_of c).features ≡ s.features
+  pub queues : (member_in c m).queues ≡ s.queues
 
 -- a list is set, with room for r bytes of reply: the card after it, and the reply
-abbrev pub setList : List ℕ → ℕ → ℕ → List ℕ → ℕ → List ℕ × List ℕ
-setList c m j list r = respond c (setParts m j list) r
+abbrev pub set_list : List ℕ → ℕ → ℕ → List ℕ → ℕ → List ℕ × List ℕ
+set_list c m j list r = respond c (set_parts m j list) r
 
 -- the card after the full capture and then the later list were set
 abbrev pub after_both : List ℕ → ℕ → ℕ → List ℕ → List ℕ → ℕ → List ℕ
-after_both c m j full later r = (setList (setList c m j full r).0 m j later r).0
+after_both c m j full later r = (set_list (set_list c m j full r).0 m j later r).0
 
 -- The two lists are accepted one after the other; so is the made list, and it leaves the same card.
 pub record SetAlike (c : List ℕ) (m j : ℕ) (full later merged : List ℕ) (r : ℕ) : Type 0 where
-  pub fullAccepted : (setList c m j full r).1 ≡ head_of Done
-  pub laterAccepted : (setList (setList c m j full r).0 m j later r).1 ≡ head_of Done
-  pub mergedAccepted : (setList c m j merged r).1 ≡ head_of Done
-  pub same : (setList c m j merged r).0 ≡ after_both c m j full later r
+  pub full_accepted : (set_list c m j full r).1 ≡ head_of Done
+  pub later_accepted : (set_list (set_list c m j full r).0 m j later r).1 ≡ head_of Done
+  pub merged_accepted : (set_list c m j merged r).1 ≡ head_of Done
+  pub same : (set_list c m j merged r).0 ≡ after_both c m j full later r
 
 -- the bytes that a merge wrote at the front of its buffer
-abbrev pub mergedList : MemberSetup → List ℕ → List ℕ → List ℕ → List ℕ
-mergedList s full later out = take (mergeUnder s full later out).1.0 (mergeUnder s full later out).1.1
+abbrev pub merged_list : MemberSetup → List ℕ → List ℕ → List ℕ → List ℕ
+merged_list s full later out = take (merge_under s full later out).1.0 (merge_under s full later out).1.1
 
 -- Request 7: a merge that is not refused, of two lists that fit a request. Example: ../proofs/ListsExample.antt, for all three
 abbrev pub MergedSets : Type 0
 MergedSets =
-    (c : List ℕ) (m j : ℕ) (setup : List ℕ) (k : ℕ) → Settable c m j → Alike c m (memberSetup setup k)
-    → (full later out : List ℕ) → (mergeUnder (memberSetup setup k) full later out).0 ≡ 0
-    → length full ≤ longestList → length later ≤ longestList
-    → (r : ℕ) → 8 ≤ r → SetAlike c m j full later (mergedList (memberSetup setup k) full later out) r
+    (c : List ℕ) (m j : ℕ) (setup : List ℕ) (k : ℕ) → Settable c m j → Alike c m (member_setup setup k)
+    → (full later out : List ℕ) → (merge_under (member_setup setup k) full later out).0 ≡ 0
+    → length full ≤ longest_list → length later ≤ longest_list
+    → (r : ℕ) → 8 ≤ r → SetAlike c m j full later (merged_list (member_setup setup k) full later out) r
 
 -- the value that a lookup hands back
-abbrev pub valueUnder : MemberSetup → List ℕ → List ℕ → ℕ → ℕ → List ℕ
-valueUnder s full later t selector = value_at full later (lookupUnder s full later t selector)
+abbrev pub value_under : MemberSetup → List ℕ → List ℕ → ℕ → ℕ → List ℕ
+value_under s full later t selector = value_at full later (lookup_under s full later t selector)
 
 -- Whatever part is found, its value is the one that a full capture after both sets, through a live get object i, has for it.
 abbrev pub FoundCaptured : Type 0
 FoundCaptured =
-    (c : List ℕ) (m j : ℕ) (setup : List ℕ) (k : ℕ) → Settable c m j → Alike c m (memberSetup setup k)
-    → (i : ℕ) → lookupOf (memberIn c m) i ≡ Live Get → bit (inUseOf c) 0x0f ≡ true
-    → (full later : List ℕ) (t selector : ℕ) → (lookupTold (lookupUnder (memberSetup setup k) full later t selector)).0 ≡ 0
-    → length full ≤ longestList → length later ≤ longestList
-    → (r : ℕ) → 8 + partsSize (memberIn c m).queues ≤ r
-    → valueUnder (memberSetup setup k) full later t selector
-    ≡ valueUnder (memberSetup setup k) (drop 8 (capture (after_both c m j full later r) m i r)) [] t selector
+    (c : List ℕ) (m j : ℕ) (setup : List ℕ) (k : ℕ) → Settable c m j → Alike c m (member_setup setup k)
+    → (i : ℕ) → lookup_of (member_in c m) i ≡ Live Get → bit (in_use_of c) 0x0f ≡ true
+    → (full later : List ℕ) (t selector : ℕ) → (lookup_told (lookup_under (member_setup setup k) full later t selector)).0 ≡ 0
+    → length full ≤ longest_list → length later ≤ longest_list
+    → (r : ℕ) → 8 + parts_size (member_in c m).queues ≤ r
+    → value_under (member_setup setup k) full later t selector
+    ≡ value_under (member_setup setup k) (drop 8 (capture (after_both c m j full later r) m i r)) [] t selector
 
 -- the bytes that a salvage wrote at the front of its buffer; b is what was lent to it
-abbrev pub salvagedList : MemberSetup → List ℕ → Salvage → List ℕ
-salvagedList s damaged b = take (salvageUnder s damaged b).written (salvageUnder s damaged b).list
+abbrev pub salvaged_list : MemberSetup → List ℕ → Salvage → List ℕ
+salvaged_list s damaged b = take (salvage_under s damaged b).written (salvage_under s damaged b).list
 
 -- Request 8: what is written, of a call that is not refused, is accepted.
 abbrev pub SalvagedAccepted : Type 0
 SalvagedAccepted =
-    (c : List ℕ) (m j : ℕ) (setup : List ℕ) (k : ℕ) → Settable c m j → Alike c m (memberSetup setup k)
-    → (damaged : List ℕ) (b : Salvage) → ((salvageUnder (memberSetup setup k) damaged b).written ≡ 0 → ⊥)
-    → (r : ℕ) → 8 ≤ r → (setList c m j (salvagedList (memberSetup setup k) damaged b) r).1 ≡ head_of Done
+    (c : List ℕ) (m j : ℕ) (setup : List ℕ) (k : ℕ) → Settable c m j → Alike c m (member_setup setup k)
+    → (damaged : List ℕ) (b : Salvage) → ((salvage_under (member_setup setup k) damaged b).written ≡ 0 → ⊥)
+    → (r : ℕ) → 8 ≤ r → (set_list c m j (salvaged_list (member_setup setup k) damaged b) r).1 ≡ head_of Done

@@ -2,26 +2,26 @@
 use Rattle.std.specs.Prelude.{◌≡◌, List, [], ◌∷◌, ℕ, ◌+◌, ◌*◌, ◌≤◌, ◌<◌, length, get_or}
 use Rattle.theory.specs.Logic.{if◌then◌else◌}
 use Rattle.theory.specs.Bytes.{bytes_at}
-use Rattle.inventory.specs.Inventory.{Row, rows, row_at, rowCount, present, part_count, place_of}
-use Rattle.inventory.specs.Header.{headerOf, headerSize}
+use Rattle.inventory.specs.Inventory.{Row, rows, row_at, row_count, present, part_count, place_of}
+use Rattle.inventory.specs.Header.{header_of, header_size}
 use Rattle.inventory.specs.declared.Place.TheVariants.{At, Absent}
-use Rattle.capture.specs.Capture.{headersOf}
+use Rattle.capture.specs.Capture.{headers_of}
 
 -- the rows of the parts that a member with so many queues has, in the order of the table, among these rows from the i-th
-unfoldable pub ownFrom : ℕ → List Row → ℕ → List ℕ
-ownFrom queues [] i = []
-ownFrom queues (r ∷ rs) i = if present queues r then i ∷ ownFrom queues rs (i + 1) else ownFrom queues rs (i + 1)
+unfoldable pub own_from : ℕ → List Row → ℕ → List ℕ
+own_from queues [] i = []
+own_from queues (r ∷ rs) i = if present queues r then i ∷ own_from queues rs (i + 1) else own_from queues rs (i + 1)
 
-unfoldable pub ownRows : ℕ → List ℕ
-ownRows queues = ownFrom queues rows 0
+unfoldable pub own_rows : ℕ → List ℕ
+own_rows queues = own_from queues rows 0
 
 -- the row of the p-th part, from 0
 abbrev pub row_of : ℕ → ℕ → ℕ
-row_of queues p = get_or (ownRows queues) p rowCount
+row_of queues p = get_or (own_rows queues) p row_count
 
 -- the p-th part of the member's inventory has this type and selector
 pub record Has (queues t s p : ℕ) : Type 0 where
-  pub type-is : (row_at (row_of queues p)).partType ≡ t
+  pub type-is : (row_at (row_of queues p)).part_type ≡ t
   pub selector-is : (row_at (row_of queues p)).selector ≡ s
 
 -- For every type and selector the place that is found is the p-th exactly if the p-th part of the member's inventory, the
@@ -29,8 +29,8 @@ pub record Has (queues t s p : ℕ) : Type 0 where
 -- ../proofs/PlacesExample.antt
 pub record PlaceFound (queues : ℕ) : Type 0 where
   -- the inventory
-  pub count : length (ownRows queues) ≡ part_count queues
-  pub header : (p : ℕ) → p < part_count queues → bytes_at (headerSize * p) headerSize (headersOf queues) ≡ headerOf (row_at (row_of queues p))
+  pub count : length (own_rows queues) ≡ part_count queues
+  pub header : (p : ℕ) → p < part_count queues → bytes_at (header_size * p) header_size (headers_of queues) ≡ header_of (row_at (row_of queues p))
   -- the p-th
   pub found : (t s p : ℕ) → p < part_count queues → place_of queues t s ≡ At (row_of queues p) → Has queues t s p
   pub there : (t s p : ℕ) → p < part_count queues → Has queues t s p → place_of queues t s ≡ At (row_of queues p)

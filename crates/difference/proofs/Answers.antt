@@ -12,24 +12,24 @@ use Rattle.theory.specs.Logic.{unless◌answer◌then◌}
 use Rattle.theory.specs.Bytes.{bytes_at, put}
 use Rattle.theory.proofs.Tests.{by_cases, never, within-high}
 use Rattle.theory.proofs.Bytes.{put_front}
-use Rattle.inventory.specs.Inventory.{rowCount, partsSize, selectorOf, place_of, onPlace}
+use Rattle.inventory.specs.Inventory.{row_count, parts_size, selector_of, place_of, on_place}
 use Rattle.inventory.specs.declared.Place.{Place}
 use Rattle.inventory.specs.declared.Place.TheVariants.{At, Absent}
 use Rattle.inventory.proofs.Find.{place_found, own-place}
 use Rattle.parts.specs.declared.ListForm.TheVariants.{Parts}
-use Rattle.parts.specs.List.{parts_of, among, valueOr}
-use Rattle.rules.specs.Rules.{known, causeOf, isAccepted}
+use Rattle.parts.specs.List.{parts_of, among, value_or}
+use Rattle.rules.specs.Rules.{known, cause_of, is_accepted}
 use Rattle.restore.proofs.PartValues.{value_none, value_there}
 use Rattle.setups.specs.declared.MemberSetup.{MemberSetup}
-use Rattle.setups.specs.Member.{memberSetup}
+use Rattle.setups.specs.Member.{member_setup}
 use Rattle.setups.proofs.Member.{member-in-range}
 use Rattle.difference.specs.declared.Span.{Span}
 use Rattle.difference.specs.declared.Span.TheVariants.{Value, Nowhere}
 use Rattle.difference.specs.declared.Verdict.{Verdict}
 use Rattle.difference.specs.declared.Verdict.TheVariants.{Passed, BadFull, BadLater, LacksPart, ShortBuffer}
 use Rattle.difference.specs.declared.Lookup.TheVariants.{InLater, InFull, Refused}
-use Rattle.difference.specs.Difference.{span_of, onSpan, place_in, isFull, verdictOf, code_of, lookupOf, lookupTold, made, mergeOf}
-use Rattle.difference.specs.Under.{lookupUnder, mergeUnder}
+use Rattle.difference.specs.Difference.{span_of, on_span, place_in, is_full, verdict_of, code_of, lookup_of, lookup_told, made, merge_of}
+use Rattle.difference.specs.Under.{lookup_under, merge_under}
 use Rattle.difference.specs.Claims.{HasEach, Asks, Refuses, Asked, Stands, Tells, Finds, Merges, Pair}
 use Rattle.difference.proofs.Full.{full-there, there-full}
 use Rattle.difference.proofs.Handed.{verdict-refused, verdict-passed}
@@ -47,66 +47,66 @@ pub by_row {ℓ} : {P : Type ℓ} (q t s : ℕ) → known q t s ≡ true → ((i
 unfolding known
 by_row {P = P} q t s k f = cases (place_of q t s) refl k
   where
-    cases : (p : Place) → place_of q t s ≡ p → onPlace p (λ i. true) false ≡ true → P
+    cases : (p : Place) → place_of q t s ≡ p → on_place p (λ i. true) false ≡ true → P
     cases (At i) e h = f i e
     cases Absent e h = never cc
 
-known-asked : (q t selector : ℕ) → known q t (selectorOf t selector) ≡ true → Asked q t selector
+known-asked : (q t selector : ℕ) → known q t (selector_of t selector) ≡ true → Asked q t selector
 known-asked q t selector k =
-    by_row q t (selectorOf t selector) k
+    by_row q t (selector_of t selector) k
     (λ i e.
-    let f = place_found q t (selectorOf t selector) i e in
+    let f = place_found q t (selector_of t selector) i e in
     record { row = i; below = f.below; there = f.there; type-is = f.type-is; selector-is = f.selector-is })
 
-asked-known : (q t selector : ℕ) → q < 5 → Asked q t selector → known q t (selectorOf t selector) ≡ true
+asked-known : (q t selector : ℕ) → q < 5 → Asked q t selector → known q t (selector_of t selector) ≡ true
 asked-known q t selector few a =
     let place = own-place q a.row few a.below a.there in
-    known_at q t (selectorOf t selector) a.row (rw (a.type-is, a.selector-is) at place)
+    known_at q t (selector_of t selector) a.row (rw (a.type-is, a.selector-is) at place)
 
 -- ---- the verdict ----
 
 module _ (q : ℕ) (features full later : List ℕ) (asked room : Bool) where
   abbrev verdict : Verdict
-  verdict = verdictOf q features full later asked room
+  verdict = verdict_of q features full later asked room
 
-  module _ (a : isAccepted (causeOf q features full) ≡ true) where
-    module _ (b : isAccepted (causeOf q features later) ≡ true) where
+  module _ (a : is_accepted (cause_of q features full) ≡ true) where
+    module _ (b : is_accepted (cause_of q features later) ≡ true) where
       lacking : (HasEach q full → ⊥) → verdict ≡ LacksPart
-      unfolding verdictOf unless◌answer◌then◌
+      unfolding verdict_of unless◌answer◌then◌
       lacking n =
-          let none : isFull q full ≡ false =
-          by_cases (isFull q full) (λ y. absurd (n (full-there q (parts_of Parts full) y))) (λ z. z) in
+          let none : is_full q full ≡ false =
+          by_cases (is_full q full) (λ y. absurd (n (full-there q (parts_of Parts full) y))) (λ z. z) in
           rw (a, b, none)
 
-    bad-later : isAccepted (causeOf q features later) ≡ false → verdict ≡ BadLater
-    unfolding verdictOf unless◌answer◌then◌
+    bad-later : is_accepted (cause_of q features later) ≡ false → verdict ≡ BadLater
+    unfolding verdict_of unless◌answer◌then◌
     bad-later b = rw (a, b)
 
-  bad-full : isAccepted (causeOf q features full) ≡ false → verdict ≡ BadFull
-  unfolding verdictOf unless◌answer◌then◌
+  bad-full : is_accepted (cause_of q features full) ≡ false → verdict ≡ BadFull
+  unfolding verdict_of unless◌answer◌then◌
   bad-full a = rw a
 
 -- what is found is found in a pair, and known
 pub found-passes : (q : ℕ) (features full later : List ℕ) (t selector : ℕ) → q < 5
-    → (lookupTold (lookupOf q features full later t selector)).0 ≡ 0
-    → Passes q features full later (known q t (selectorOf t selector)) true
-unfolding lookupOf lookupTold
+    → (lookup_told (lookup_of q features full later t selector)).0 ≡ 0
+    → Passes q features full later (known q t (selector_of t selector)) true
+unfolding lookup_of lookup_told
 found-passes q features full later t selector few e =
-    let asked = known q t (selectorOf t selector) in
-    let v = verdictOf q features full later asked true in
+    let asked = known q t (selector_of t selector) in
+    let v = verdict_of q features full later asked true in
     by_cases (eqb (code_of v) 0)
     (λ z. passes q features full later asked true few (eqb-true _ _ z))
     (λ z.
     let n = eqb-false (code_of v) 0 z in
-    let refused = ap (λ l. (lookupTold l).0) (verdict-refused v Refused (place_in full later t (selectorOf t selector)) n) in
+    let refused = ap (λ l. (lookup_told l).0) (verdict-refused v Refused (place_in full later t (selector_of t selector)) n) in
     absurd (n (sym refused ∙ e)))
 
 -- ---- what a lookup found ----
 
 none-there : (t s : ℕ) (l : List ℕ) → span_of t s l ≡ Nowhere → among t s (parts_of Parts l) ≡ true → ⊥
 none-there t s l e h =
-    let none : (y : List ℕ) → valueOr t s (parts_of Parts l) y ≡ y =
-    λ y. span_value t s l y ∙ ap (λ w. onSpan w (λ start len. bytes_at start len l) y) e in
+    let none : (y : List ℕ) → value_or t s (parts_of Parts l) y ≡ y =
+    λ y. span_value t s l y ∙ ap (λ w. on_span w (λ start len. bytes_at start len l) y) e in
     let clash : ◌≡◌ {A = List ℕ} [] (0 ∷ []) = sym (none []) ∙ value_there t s (parts_of Parts l) [] (0 ∷ []) h ∙ none (0 ∷ []) in
     let z : ◌≡◌ {A = ℕ} 0 1 = ap length clash in
     omega arith
@@ -115,7 +115,7 @@ one-there : (t s : ℕ) (l : List ℕ) (start len : ℕ) → span_of t s l ≡ V
 one-there t s l start len e h =
     let there : (y : List ℕ) → bytes_at start len l ≡ y =
     λ y.
-    sym (span_value t s l y ∙ ap (λ w. onSpan w (λ start len. bytes_at start len l) y) e) ∙ value_none t s (parts_of Parts l) y h in
+    sym (span_value t s l y ∙ ap (λ w. on_span w (λ start len. bytes_at start len l) y) e) ∙ value_none t s (parts_of Parts l) y h in
     let clash : ◌≡◌ {A = List ℕ} [] (0 ∷ []) = sym (there []) ∙ there (0 ∷ []) in
     let z : ◌≡◌ {A = ℕ} 0 1 = ap length clash in
     omega arith
@@ -124,27 +124,27 @@ stands : (t s : ℕ) (l : List ℕ) (start len : ℕ) → span_of t s l ≡ Valu
 stands t s l start len e =
     record {
       inside = span-inside t s l start len e;
-      value = sym (span_value t s l [] ∙ ap (λ w. onSpan w (λ start len. bytes_at start len l) []) e);
+      value = sym (span_value t s l [] ∙ ap (λ w. on_span w (λ start len. bytes_at start len l) []) e);
     }
 
 pub place-tells : (full later : List ℕ) (t s : ℕ) → among t s (parts_of Parts full) ≡ true
-    → Tells full later t s (lookupTold (place_in full later t s))
-unfolding place_in lookupTold
+    → Tells full later t s (lookup_told (place_in full later t s))
+unfolding place_in lookup_told
 place-tells full later t s h = cases (span_of t s later) (span_of t s full) refl refl
   where
     cases : (a b : Span) → span_of t s later ≡ a → span_of t s full ≡ b
-        → Tells full later t s (lookupTold (onSpan a InLater (onSpan b InFull (Refused LacksPart))))
+        → Tells full later t s (lookup_told (on_span a InLater (on_span b InFull (Refused LacksPart))))
     cases (Value start len) b e f =
         record {
           done = refl;
-          inLater = λ y. (refl, stands t s later start len e);
-          inFull = λ n. absurd (one-there t s later start len e n);
+          in_later = λ y. (refl, stands t s later start len e);
+          in_full = λ n. absurd (one-there t s later start len e n);
         }
     cases Nowhere (Value start len) e f =
         record {
           done = refl;
-          inLater = λ y. absurd (none-there t s later e y);
-          inFull = λ n. (refl, stands t s full start len f);
+          in_later = λ y. absurd (none-there t s later e y);
+          in_full = λ n. (refl, stands t s full start len f);
         }
     cases Nowhere Nowhere e f = absurd (none-there t s full f h)
 
@@ -161,58 +161,58 @@ module _ (s : MemberSetup) (full later : List ℕ) where
   asks-pair few a =
       record {
         few = few;
-        fullAccepted = a.fullAccepted;
-        laterAccepted = a.laterAccepted;
-        lacksNone = there-full q (parts_of Parts full) a.lacksNone rowCount 0 refl;
+        full_accepted = a.full_accepted;
+        later_accepted = a.later_accepted;
+        lacks_none = there-full q (parts_of Parts full) a.lacks_none row_count 0 refl;
       }
 
   pub pair-asks : s.known ≡ true → Pair q features full later → Asks s full later
   pair-asks k p =
       record {
         known = k;
-        fullAccepted = p.fullAccepted;
-        laterAccepted = p.laterAccepted;
-        lacksNone = full-there q (parts_of Parts full) p.lacksNone;
+        full_accepted = p.full_accepted;
+        later_accepted = p.later_accepted;
+        lacks_none = full-there q (parts_of Parts full) p.lacks_none;
       }
 
   -- a call that gives `refusal` with the number of the verdict
   refuses : {A : Type 0} (result : A) (refusal : ℕ → A) (asked room : Bool)
       → (s.known ≡ false → result ≡ refusal 1)
-      → (s.known ≡ true → (v : Verdict) → verdictOf q features full later asked room ≡ v → (code_of v ≡ 0 → ⊥)
+      → (s.known ≡ true → (v : Verdict) → verdict_of q features full later asked room ≡ v → (code_of v ≡ 0 → ⊥)
       → result ≡ refusal (code_of v))
       → Refuses s full later result refusal
   refuses result refusal asked room unknown told =
       record {
-        badSetup = unknown;
-        badFull = λ k a. told k BadFull (bad-full q features full later asked room a) (λ z. omega arith);
-        badLater = λ k a b. told k BadLater (bad-later q features full later asked room a b) (λ z. omega arith);
-        lacksPart = λ k a b n. told k LacksPart (lacking q features full later asked room a b n) (λ z. omega arith);
+        bad_setup = unknown;
+        bad_full = λ k a. told k BadFull (bad-full q features full later asked room a) (λ z. omega arith);
+        bad_later = λ k a b. told k BadLater (bad-later q features full later asked room a b) (λ z. omega arith);
+        lacks_part = λ k a b n. told k LacksPart (lacking q features full later asked room a b n) (λ z. omega arith);
       }
 
   -- ---- a lookup ----
 
   module _ (t selector : ℕ) where
     abbrev named : ℕ
-    named = selectorOf t selector
+    named = selector_of t selector
 
     abbrev told : ℕ × (ℕ × (ℕ × ℕ))
-    told = lookupTold (lookupUnder s full later t selector)
+    told = lookup_told (lookup_under s full later t selector)
 
-    find-known : s.known ≡ true → lookupUnder s full later t selector ≡ lookupOf q features full later t selector
-    unfolding lookupUnder unless◌answer◌then◌
+    find-known : s.known ≡ true → lookup_under s full later t selector ≡ lookup_of q features full later t selector
+    unfolding lookup_under unless◌answer◌then◌
     find-known k = rw k
 
     find-unknown : s.known ≡ false → told ≡ (1, (0, (0, 0)))
-    unfolding lookupUnder lookupTold unless◌answer◌then◌
+    unfolding lookup_under lookup_told unless◌answer◌then◌
     find-unknown k = rw k
 
-    find-refused : s.known ≡ true → (v : Verdict) → verdictOf q features full later (known q t named) true ≡ v
+    find-refused : s.known ≡ true → (v : Verdict) → verdict_of q features full later (known q t named) true ≡ v
         → (code_of v ≡ 0 → ⊥) → told ≡ (code_of v, (0, (0, 0)))
-    unfolding lookupOf lookupTold
+    unfolding lookup_of lookup_told
     find-refused k v e n =
-        let l : lookupOf q features full later t selector ≡ Refused v =
+        let l : lookup_of q features full later t selector ≡ Refused v =
         rw e (verdict-refused v Refused (place_in full later t named) n) in
-        ap lookupTold (find-known k ∙ l)
+        ap lookup_told (find-known k ∙ l)
 
     find-knows : told.0 ≡ 0 → s.known ≡ true
     find-knows e =
@@ -226,34 +226,34 @@ module _ (s : MemberSetup) (full later : List ℕ) where
 
     find-done : q < 5 → Asks s full later → Asked q t selector → Tells full later t named told
     find-done few a k =
-        let there = a.lacksNone k.row k.below k.there in
+        let there = a.lacks_none k.row k.below k.there in
         let pair = asks-pair few a in
         rw (find-known a.known, found-there q features full later pair t selector (asked-known q t selector few k))
         (place-tells full later t named (rw (k.type-is, k.selector-is) at there))
 
     find-outside : q < 5 → Asks s full later → (Asked q t selector → ⊥) → told ≡ (5, (0, (0, 0)))
-    unfolding lookupTold
+    unfolding lookup_told
     find-outside few a n =
         let none : known q t named ≡ false =
         by_cases (known q t named) (λ y. absurd (n (known-asked q t selector y))) (λ z. z) in
-        ap lookupTold (find-known a.known ∙ found-outside q features full later (asks-pair few a) t selector none)
+        ap lookup_told (find-known a.known ∙ found-outside q features full later (asks-pair few a) t selector none)
 
   -- ---- a merge ----
 
   module _ (out : List ℕ) where
     abbrev fits : Bool
-    fits = leb (partsSize q) (length out)
+    fits = leb (parts_size q) (length out)
 
     abbrev merged : ℕ × (ℕ × List ℕ)
-    merged = mergeUnder s full later out
+    merged = merge_under s full later out
 
     merge-unknown : s.known ≡ false → merged ≡ (1, (0, out))
-    unfolding mergeUnder unless◌answer◌then◌
+    unfolding merge_under unless◌answer◌then◌
     merge-unknown k = rw k
 
-    merge-refused : s.known ≡ true → (v : Verdict) → verdictOf q features full later true fits ≡ v → (code_of v ≡ 0 → ⊥)
+    merge-refused : s.known ≡ true → (v : Verdict) → verdict_of q features full later true fits ≡ v → (code_of v ≡ 0 → ⊥)
         → merged ≡ (code_of v, (0, out))
-    unfolding mergeUnder mergeOf unless◌answer◌then◌
+    unfolding merge_under merge_of unless◌answer◌then◌
     merge-refused k v e n = rw (k, e) (verdict-refused v (λ w. (code_of w, (0, out))) _ n)
 
     merge-knows : merged.0 ≡ 0 → s.known ≡ true
@@ -264,7 +264,7 @@ module _ (s : MemberSetup) (full later : List ℕ) where
 
     pub merge-passes : s.known ≡ true → q < 5 → merged.0 ≡ 0 → Passes q features full later true fits
     merge-passes k few e =
-        let v = verdictOf q features full later true fits in
+        let v = verdict_of q features full later true fits in
         by_cases (eqb (code_of v) 0)
         (λ z. passes q features full later true fits few (eqb-true _ _ z))
         (λ z.
@@ -272,22 +272,22 @@ module _ (s : MemberSetup) (full later : List ℕ) where
         absurd (n (sym (ap (λ (x : ℕ × (ℕ × List ℕ)). x.0) (merge-refused k v refl n)) ∙ e)))
 
     pair-verdict : q < 5 → Asks s full later → (room : Bool) → fits ≡ room
-        → verdictOf q features full later true fits ≡ (unless room answer ShortBuffer then Passed)
-    unfolding verdictOf unless◌answer◌then◌
-    pair-verdict few a room e = rw (a.fullAccepted, a.laterAccepted, (asks-pair few a).lacksNone, e)
+        → verdict_of q features full later true fits ≡ (unless room answer ShortBuffer then Passed)
+    unfolding verdict_of unless◌answer◌then◌
+    pair-verdict few a room e = rw (a.full_accepted, a.later_accepted, (asks-pair few a).lacks_none, e)
 
-    pub merge-done : q < 5 → Asks s full later → partsSize q ≤ length out
-        → merged ≡ (0, (partsSize q, made q full later ++ drop (partsSize q) out))
-    unfolding mergeUnder mergeOf unless◌answer◌then◌
+    pub merge-done : q < 5 → Asks s full later → parts_size q ≤ length out
+        → merged ≡ (0, (parts_size q, made q full later ++ drop (parts_size q) out))
+    unfolding merge_under merge_of unless◌answer◌then◌
     merge-done few a h =
         let x = made q full later in
-        let v = verdictOf q features full later true fits in
+        let v = verdict_of q features full later true fits in
         let long = pair-long q features full later (asks-pair few a) in
-        let front : put 0 x out ≡ x ++ drop (partsSize q) out = put_front x out (omega arith) ∙ ap (λ n. x ++ drop n out) long in
+        let front : put 0 x out ≡ x ++ drop (parts_size q) out = put_front x out (omega arith) ∙ ap (λ n. x ++ drop n out) long in
         let none = ap code_of (pair-verdict few a true (le-leb _ _ h)) in
-        rw (a.known, ← front) (verdict-passed v (λ w. (code_of w, (0, out))) (0, (partsSize q, put 0 x out)) none)
+        rw (a.known, ← front) (verdict-passed v (λ w. (code_of w, (0, out))) (0, (parts_size q, put 0 x out)) none)
 
-    merge-short : q < 5 → Asks s full later → length out < partsSize q → merged ≡ (6, (0, out))
+    merge-short : q < 5 → Asks s full later → length out < parts_size q → merged ≡ (6, (0, out))
     unfolding unless◌answer◌then◌
     merge-short few a h = merge-refused a.known ShortBuffer (pair-verdict few a false (lt-leb _ _ h)) (λ z. omega arith)
 
@@ -295,12 +295,12 @@ module _ (s : MemberSetup) (full later : List ℕ) where
 
 module _ (setup : List ℕ) (m : ℕ) (full later : List ℕ) where
   abbrev s : MemberSetup
-  s = memberSetup setup m
+  s = member_setup setup m
 
   few : s.known ≡ true → s.queues < 5
   few k = omega (arith, within-high 1 4 s.queues (member-in-range setup m k).count)
 
-  pub finds : (t selector : ℕ) → Finds s full later t selector (lookupTold (lookupUnder s full later t selector))
+  pub finds : (t selector : ℕ) → Finds s full later t selector (lookup_told (lookup_under s full later t selector))
   finds t selector =
       record {
         done = λ a k. find-done s full later t selector (few a.known) a k;
@@ -310,12 +310,12 @@ module _ (setup : List ℕ) (m : ℕ) (full later : List ℕ) where
         asked = λ e.
             let k = find-knows s full later t selector e in
             known-asked s.queues t selector (find-passes s full later t selector k (few k) e).inside;
-        refuses = refuses s full later _ (λ n. (n, (0, (0, 0)))) (known s.queues t (selectorOf t selector)) true
+        refuses = refuses s full later _ (λ n. (n, (0, (0, 0)))) (known s.queues t (selector_of t selector)) true
             (find-unknown s full later t selector) (find-refused s full later t selector);
         outside = λ a n. find-outside s full later t selector (few a.known) a n;
       }
 
-  pub merges : (out : List ℕ) → Merges s full later out (mergeUnder s full later out)
+  pub merges : (out : List ℕ) → Merges s full later out (merge_under s full later out)
   merges out =
       record {
         done = λ a h. merge-done s full later out (few a.known) a h;
@@ -325,7 +325,7 @@ module _ (setup : List ℕ) (m : ℕ) (full later : List ℕ) where
         room = λ e.
             let k = merge-knows s full later out e in
             leb-true _ _ (merge-passes s full later out k (few k) e).fits;
-        refuses = refuses s full later _ (λ n. (n, (0, out))) true (leb (partsSize s.queues) (length out))
+        refuses = refuses s full later _ (λ n. (n, (0, out))) true (leb (parts_size s.queues) (length out))
             (merge-unknown s full later out) (merge-refused s full later out);
         short = λ a h. merge-short s full later out (few a.known) a h;
       }

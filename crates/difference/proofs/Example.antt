@@ -8,29 +8,29 @@ use native.Mathlib.Omega.{arith}
 use lib.ListN.{replicate, take}
 use Rattle.theory.specs.Logic.{if◌then◌else◌, unless◌answer◌then◌, ◌and◌, ◌or◌, indicator}
 use Rattle.theory.specs.Bytes.{put, same}
-use Rattle.theory.specs.Items.{itemsFrom}
+use Rattle.theory.specs.Items.{items_from}
 use Rattle.theory.proofs.Table.{every}
 use Rattle.wire.specs.Le.{le, bytes, number}
-use Rattle.inventory.specs.Inventory.{Row, rows, row_at, present, offset_of, selectorOf, is_row, seek, place_of}
-use Rattle.inventory.specs.Queue.{powerBelow, ringSize, queueAllowed, valueAllowed}
-use Rattle.inventory.specs.Header.{headerOf}
+use Rattle.inventory.specs.Inventory.{Row, rows, row_at, present, offset_of, selector_of, is_row, seek, place_of}
+use Rattle.inventory.specs.Queue.{power_below, ring_size, queue_allowed, value_allowed}
+use Rattle.inventory.specs.Header.{header_of}
 use Rattle.inventory.proofs.Rules.{every-row}
 use Rattle.parts.specs.declared.ListForm.TheVariants.{Parts}
-use Rattle.parts.specs.List.{header_at, stepAt, at_most, partsFrom, parts_of, whole, among}
-use Rattle.rules.specs.Rules.{known, knownOrSkipped, lengthRight, sizeRight, featuresSame, every as everyPart, repeated, causeIn}
-use Rattle.capture.specs.Capture.{part_at, asks, partItem, partsWritten, captureOf}
+use Rattle.parts.specs.List.{header_at, step_at, at_most, parts_from, parts_of, whole, among}
+use Rattle.rules.specs.Rules.{known, known_or_skipped, length_right, size_right, features_same, every as every_part, repeated, cause_in}
+use Rattle.capture.specs.Capture.{part_at, asks, part_item, parts_written, capture_of}
 use Rattle.setups.specs.declared.MemberSetup.{MemberSetup}
-use Rattle.setups.specs.Member.{noMember}
-use Rattle.difference.specs.Difference.{spanFrom, place_in, has_row, hasRows, verdictOf, onVerdict, lookupOf, lookupTold, madePart, madeItem, made, mergeOf}
-use Rattle.difference.specs.Under.{lookupUnder}
+use Rattle.setups.specs.Member.{no_member}
+use Rattle.difference.specs.Difference.{span_from, place_in, has_row, has_rows, verdict_of, on_verdict, lookup_of, lookup_told, made_part, made_item, made, merge_of}
+use Rattle.difference.specs.Under.{lookup_under}
 use Rattle.difference.specs.Claims.{HasEach, Asks, Asked, Pair}
 
 -- what computes where a proof says `unfolding model`
 unfoldable model : Unit {0}
-unfolding if◌then◌else◌ unless◌answer◌then◌ ◌and◌ ◌or◌ indicator put same itemsFrom le bytes number rows row_at present offset_of selectorOf
-    is_row seek place_of powerBelow ringSize queueAllowed valueAllowed headerOf header_at stepAt at_most partsFrom whole among known knownOrSkipped lengthRight sizeRight featuresSame everyPart
-    repeated causeIn part_at asks partItem partsWritten spanFrom place_in has_row hasRows verdictOf onVerdict lookupOf lookupTold madePart madeItem
-    made mergeOf
+unfolding if◌then◌else◌ unless◌answer◌then◌ ◌and◌ ◌or◌ indicator put same items_from le bytes number rows row_at present offset_of selector_of
+    is_row seek place_of power_below ring_size queue_allowed value_allowed header_of header_at step_at at_most parts_from whole among known known_or_skipped length_right size_right features_same every_part
+    repeated cause_in part_at asks part_item parts_written span_from place_in has_row has_rows verdict_of on_verdict lookup_of lookup_told made_part made_item
+    made merge_of
 model = tt
 
 abbrev zeros : ℕ → List ℕ
@@ -40,7 +40,7 @@ abbrev features : List ℕ
 features = zeros 16
 
 abbrev full : List ℕ
-full = captureOf 1 (zeros 205)
+full = capture_of 1 (zeros 205)
 
 -- device status 15; a part of type 0x5ff with the optional bit
 abbrev later : List ℕ
@@ -50,67 +50,67 @@ later =
 
 pair : Pair 1 features full later
 unfolding model
-pair = record { few = omega arith; fullAccepted = refl; laterAccepted = refl; lacksNone = refl }
+pair = record { few = omega arith; full_accepted = refl; later_accepted = refl; lacks_none = refl }
 
 -- what both calls ask, of what a setup says of a member with one queue; and the part that is asked, row 6 of the table
 abbrev member : MemberSetup
 member = record { known = true; queues = 1; features = features }
 
-abbrev hasPart : Row → Bool
-hasPart r = if present 1 r then among r.partType r.selector (parts_of Parts full) else true
+abbrev has_part : Row → Bool
+has_part r = if present 1 r then among r.part_type r.selector (parts_of Parts full) else true
 
-has_parts : every (λ k r. hasPart r) 0 rows ≡ true
+has_parts : every (λ k r. has_part r) 0 rows ≡ true
 unfolding model every
 has_parts = refl
 
 full-each : HasEach 1 full
 unfolding if◌then◌else◌
-full-each i h y = rw y at (every-row (λ k r. hasPart r) has_parts i h)
+full-each i h y = rw y at (every-row (λ k r. has_part r) has_parts i h)
 
 asks-met : Asks member full later
 unfolding model
-asks-met = record { known = refl; fullAccepted = refl; laterAccepted = refl; lacksNone = full-each }
+asks-met = record { known = refl; full_accepted = refl; later_accepted = refl; lacks_none = full-each }
 
 asked-met : Asked 1 0x103 0xff
 unfolding model
 asked-met = record { row = 6; below = omega arith; there = refl; type-is = refl; selector-is = refl }
 
 -- the device status is byte 16 of the later list, and the queue's notify data byte 221 of the full capture
-status-found : lookupTold (lookupOf 1 features full later 0x103 0xff) ≡ (0, (1, (16, 1)))
+status-found : lookup_told (lookup_of 1 features full later 0x103 0xff) ≡ (0, (1, (16, 1)))
 unfolding model
 status-found = refl
 
-notify-found : lookupTold (lookupOf 1 features full later 0x105 0x10000) ≡ (0, (0, (221, 8)))
+notify-found : lookup_told (lookup_of 1 features full later 0x105 0x10000) ≡ (0, (0, (221, 8)))
 unfolding model
 notify-found = refl
 
 -- the made list differs from the full capture in the device status alone, and the rest of the buffer stays
-made_bytes : same (mergeOf 1 features full later (zeros 229 ++ (7 ∷ 8 ∷ []))).1.1 (put 156 (15 ∷ []) full ++ (7 ∷ 8 ∷ [])) ≡ true
+made_bytes : same (merge_of 1 features full later (zeros 229 ++ (7 ∷ 8 ∷ []))).1.1 (put 156 (15 ∷ []) full ++ (7 ∷ 8 ∷ [])) ≡ true
 unfolding model
 made_bytes = refl
 
 -- 1 to 6, each where the ones after it apply too: no such member, a full capture that is cut, a later list that is, a full capture that lacks a
 -- part, a part of a second queue, and a buffer that is a byte too short
-setup-bad : lookupTold (lookupUnder noMember (take 228 full) (take 16 later) 0x105 1) ≡ (1, (0, (0, 0)))
-unfolding noMember lookupUnder model
+setup-bad : lookup_told (lookup_under no_member (take 228 full) (take 16 later) 0x105 1) ≡ (1, (0, (0, 0)))
+unfolding no_member lookup_under model
 setup-bad = refl
 
-full-bad : lookupTold (lookupOf 1 features (take 228 full) (take 16 later) 0x105 1) ≡ (2, (0, (0, 0)))
+full-bad : lookup_told (lookup_of 1 features (take 228 full) (take 16 later) 0x105 1) ≡ (2, (0, (0, 0)))
 unfolding model
 full-bad = refl
 
-later-bad : lookupTold (lookupOf 1 features later (take 16 later) 0x105 1) ≡ (3, (0, (0, 0)))
+later-bad : lookup_told (lookup_of 1 features later (take 16 later) 0x105 1) ≡ (3, (0, (0, 0)))
 unfolding model
 later-bad = refl
 
-part-lacking : lookupTold (lookupOf 1 features later later 0x105 1) ≡ (4, (0, (0, 0)))
+part-lacking : lookup_told (lookup_of 1 features later later 0x105 1) ≡ (4, (0, (0, 0)))
 unfolding model
 part-lacking = refl
 
-outside : lookupTold (lookupOf 1 features full later 0x105 1) ≡ (5, (0, (0, 0)))
+outside : lookup_told (lookup_of 1 features full later 0x105 1) ≡ (5, (0, (0, 0)))
 unfolding model
 outside = refl
 
-short : mergeOf 1 features full later (zeros 228) ≡ (6, (0, zeros 228))
+short : merge_of 1 features full later (zeros 228) ≡ (6, (0, zeros 228))
 unfolding model
 short = refl

@@ -7,42 +7,42 @@ use borrow.Author.Tests.{ltb-true, ltb-false, not-true, not-false}
 use lib.Dec.{ltb}
 use lib.ListN.{get_or}
 use Rattle.theory.proofs.Tests.{by_cases, both, and_i, true-and, false-and, true-or, or-true, false-or}
-use Rattle.inventory.specs.Inventory.{row, row_at, rowCount, present}
+use Rattle.inventory.specs.Inventory.{row, row_at, row_count, present}
 use Rattle.inventory.proofs.Columns.{types, selectors, type_at, selector-at, present-at}
 use Rattle.parts.specs.List.{PartList, among}
-use Rattle.difference.specs.Difference.{has_row, hasRows}
+use Rattle.difference.specs.Difference.{has_row, has_rows}
 
 -- ---- the turns of the loop ----
 
-module _ (queues : ℕ) (ps : PartList) (x : Bool) (i : ℕ) (e : x ≡ hasRows queues ps (rowCount - i) i) where
+module _ (queues : ℕ) (ps : PartList) (x : Bool) (i : ℕ) (e : x ≡ has_rows queues ps (row_count - i) i) where
   -- b: the list has the part of row i, as the tables have the row
-  module _ (b : Bool) (told : b ≡ has_row queues ps (row (get_or types i 0) (get_or selectors i 0) 0)) (h : i < rowCount) where
+  module _ (b : Bool) (told : b ≡ has_row queues ps (row (get_or types i 0) (get_or selectors i 0) 0)) (h : i < row_count) where
     own : has_row queues ps (row_at i) ≡ b
     unfolding has_row
     own = sym (told ∙ rw (present-at queues i, type_at i, selector-at i))
 
     pub rows_out : not b ≡ true → x ≡ false
-    unfolding hasRows
+    unfolding has_rows
     rows_out n =
-        let k : rowCount - i ≡ suc (rowCount - (i + 1)) = omega arith in
+        let k : row_count - i ≡ suc (row_count - (i + 1)) = omega arith in
         e ∙ rw (k, own, not-true b n) (false-and _)
 
-    pub rows_on : not b ≡ false → x ≡ hasRows queues ps (rowCount - (i + 1)) (i + 1)
-    unfolding hasRows
+    pub rows_on : not b ≡ false → x ≡ has_rows queues ps (row_count - (i + 1)) (i + 1)
+    unfolding has_rows
     rows_on n =
-        let k : rowCount - i ≡ suc (rowCount - (i + 1)) = omega arith in
+        let k : row_count - i ≡ suc (row_count - (i + 1)) = omega arith in
         e ∙ rw (k, own, not-false b n) (true-and _)
 
-  pub rows_end : rowCount ≤ i → x ≡ true
-  unfolding hasRows
-  rows_end h = let k : rowCount - i ≡ 0 = omega arith in e ∙ rw k
+  pub rows_end : row_count ≤ i → x ≡ true
+  unfolding has_rows
+  rows_end h = let k : row_count - i ≡ 0 = omega arith in e ∙ rw k
 
 -- ---- each row ----
 
 -- of k rows from the i-th on
-has-row : (queues : ℕ) (ps : PartList) (k i : ℕ) → hasRows queues ps k i ≡ true → (j : ℕ) → i ≤ j → j < i + k
-    → present queues (row_at j) ≡ true → among (row_at j).partType (row_at j).selector ps ≡ true
-unfolding hasRows has_row
+has-row : (queues : ℕ) (ps : PartList) (k i : ℕ) → has_rows queues ps k i ≡ true → (j : ℕ) → i ≤ j → j < i + k
+    → present queues (row_at j) ≡ true → among (row_at j).part_type (row_at j).selector ps ≡ true
+unfolding has_rows has_row
 has-row queues ps zero i e j h l p = absurd (omega arith)
 has-row queues ps (suc k) i e j h l p =
     let b = both _ _ e in
@@ -53,14 +53,14 @@ has-row queues ps (suc k) i e j h l p =
     sym (false-or _) ∙ rw (same, p) at b.0)
 
 module _ (queues : ℕ) (ps : PartList) where
-  pub full-there : hasRows queues ps rowCount 0 ≡ true → (i : ℕ) → i < rowCount → present queues (row_at i) ≡ true
-      → among (row_at i).partType (row_at i).selector ps ≡ true
-  full-there e i h p = has-row queues ps rowCount 0 e i (omega arith) h p
+  pub full-there : has_rows queues ps row_count 0 ≡ true → (i : ℕ) → i < row_count → present queues (row_at i) ≡ true
+      → among (row_at i).part_type (row_at i).selector ps ≡ true
+  full-there e i h p = has-row queues ps row_count 0 e i (omega arith) h p
 
   -- a list that has each is such a list
-  pub there-full : ((i : ℕ) → i < rowCount → present queues (row_at i) ≡ true → among (row_at i).partType (row_at i).selector ps ≡ true)
-      → (k i : ℕ) → i + k ≡ rowCount → hasRows queues ps k i ≡ true
-  unfolding hasRows has_row
+  pub there-full : ((i : ℕ) → i < row_count → present queues (row_at i) ≡ true → among (row_at i).part_type (row_at i).selector ps ≡ true)
+      → (k i : ℕ) → i + k ≡ row_count → has_rows queues ps k i ≡ true
+  unfolding has_rows has_row
   there-full r zero i e = refl
   there-full r (suc k) i e =
       and_i _ _

@@ -10,9 +10,9 @@ use lib.ListN.{length, take, drop}
 use Rattle.theory.specs.Logic.{if◌then◌else◌}
 use Rattle.theory.specs.Bytes.{bytes_at}
 use Rattle.theory.proofs.Tests.{if-cases}
-use Rattle.inventory.specs.Inventory.{selectorOf}
+use Rattle.inventory.specs.Inventory.{selector_of}
 use Rattle.parts.specs.declared.ListForm.TheVariants.{Parts}
-use Rattle.parts.specs.List.{parts_of, valueOr}
+use Rattle.parts.specs.List.{parts_of, value_or}
 use Rattle.rules.specs.Rules.{known}
 use Rattle.difference.specs.declared.Span.{Span}
 use Rattle.difference.specs.declared.Span.TheVariants.{Value, Nowhere}
@@ -20,7 +20,7 @@ use Rattle.difference.specs.declared.Verdict.{Verdict}
 use Rattle.difference.specs.declared.Verdict.TheVariants.{LacksPart}
 use Rattle.difference.specs.declared.Lookup.{Lookup}
 use Rattle.difference.specs.declared.Lookup.TheVariants.{InLater, InFull, Refused}
-use Rattle.difference.specs.Difference.{span_of, onSpan, place_in, value_at, verdictOf, code_of, onVerdict, lookupOf, lookupTold}
+use Rattle.difference.specs.Difference.{span_of, on_span, place_in, value_at, verdict_of, code_of, on_verdict, lookup_of, lookup_told}
 use Rattle.difference.specs.Handed.{PartOf, Handed, Inside}
 use Rattle.difference.proofs.Places.{span_value, span-inside}
 
@@ -43,12 +43,12 @@ module _ (full later : List ℕ) (t s : ℕ) where
       place_none e = rw (sym ea ∙ na, sym eb ∙ e)
 
   -- the value there is that of the later list, or else that of the full capture
-  pub place-value : value_at full later (place_in full later t s) ≡ valueOr t s (parts_of Parts later) (valueOr t s (parts_of Parts full) [])
+  pub place-value : value_at full later (place_in full later t s) ≡ value_or t s (parts_of Parts later) (value_or t s (parts_of Parts full) [])
   unfolding place_in
   place-value = rw (span_value t s later, span_value t s full) (cases (span_of t s later) (span_of t s full))
     where
-      cases : (a b : Span) → value_at full later (onSpan a InLater (onSpan b InFull (Refused LacksPart)))
-          ≡ onSpan a (λ start len. bytes_at start len later) (onSpan b (λ start len. bytes_at start len full) [])
+      cases : (a b : Span) → value_at full later (on_span a InLater (on_span b InFull (Refused LacksPart)))
+          ≡ on_span a (λ start len. bytes_at start len later) (on_span b (λ start len. bytes_at start len full) [])
       cases (Value start len) b = refl
       cases Nowhere (Value start len) = refl
       cases Nowhere Nowhere = refl
@@ -58,7 +58,7 @@ module _ (full later : List ℕ) (t s : ℕ) where
   unfolding place_in Inside
   place_inside = cases (span_of t s later) (span_of t s full) refl refl
     where
-      cases : (a b : Span) → span_of t s later ≡ a → span_of t s full ≡ b → Inside full later (onSpan a InLater (onSpan b InFull (Refused LacksPart)))
+      cases : (a b : Span) → span_of t s later ≡ a → span_of t s full ≡ b → Inside full later (on_span a InLater (on_span b InFull (Refused LacksPart)))
       cases (Value start len) b ea eb = span-inside t s later start len ea
       cases Nowhere (Value start len) ea eb = span-inside t s full start len eb
       cases Nowhere Nowhere ea eb = tt
@@ -69,32 +69,32 @@ module _ (full later : List ℕ) (t s : ℕ) where
 -- ---- the lookup ----
 
 module _ {A : Type 0} (v : Verdict) (refused : Verdict → A) (a : A) where
-  pub verdict-refused : (code_of v ≡ 0 → ⊥) → onVerdict v refused a ≡ refused v
-  unfolding onVerdict if◌then◌else◌
+  pub verdict-refused : (code_of v ≡ 0 → ⊥) → on_verdict v refused a ≡ refused v
+  unfolding on_verdict if◌then◌else◌
   verdict-refused n = rw (ne_eqb (code_of v) 0 n)
 
-  pub verdict-passed : code_of v ≡ 0 → onVerdict v refused a ≡ a
-  unfolding onVerdict if◌then◌else◌
+  pub verdict-passed : code_of v ≡ 0 → on_verdict v refused a ≡ a
+  unfolding on_verdict if◌then◌else◌
   verdict-passed e = rw (eq-eqb (code_of v) 0 e)
 
-module _ (q : ℕ) (features full later : List ℕ) (t selector named : ℕ) (en : named ≡ selectorOf t selector) where
-  pub look-refused : (asked : Bool) (v : Verdict) (n : ℕ) → asked ≡ known q t named → v ≡ verdictOf q features full later asked true
-      → n ≡ code_of v → (n ≡ 0 → ⊥) → Refused v ≡ lookupOf q features full later t selector
-  unfolding lookupOf
+module _ (q : ℕ) (features full later : List ℕ) (t selector named : ℕ) (en : named ≡ selector_of t selector) where
+  pub look-refused : (asked : Bool) (v : Verdict) (n : ℕ) → asked ≡ known q t named → v ≡ verdict_of q features full later asked true
+      → n ≡ code_of v → (n ≡ 0 → ⊥) → Refused v ≡ lookup_of q features full later t selector
+  unfolding lookup_of
   look-refused asked v n ea ev ec h =
       rw (← en, ← ea, ← ev) (sym (verdict-refused v Refused _ (λ e. h (ec ∙ e))))
 
-  pub look-found : (asked : Bool) (v : Verdict) (n : ℕ) (l : Lookup) → asked ≡ known q t named → v ≡ verdictOf q features full later asked true
-      → n ≡ code_of v → n ≡ 0 → l ≡ place_in full later t named → l ≡ lookupOf q features full later t selector
-  unfolding lookupOf
+  pub look-found : (asked : Bool) (v : Verdict) (n : ℕ) (l : Lookup) → asked ≡ known q t named → v ≡ verdict_of q features full later asked true
+      → n ≡ code_of v → n ≡ 0 → l ≡ place_in full later t named → l ≡ lookup_of q features full later t selector
+  unfolding lookup_of
   look-found asked v n l ea ev ec h e =
       rw (← en, ← ea, ← ev) (e ∙ sym (verdict-passed v Refused _ (sym ec ∙ h)))
 
-pub lookup-inside : (q : ℕ) (features full later : List ℕ) (t selector : ℕ) (l : Lookup) → l ≡ lookupOf q features full later t selector
+pub lookup-inside : (q : ℕ) (features full later : List ℕ) (t selector : ℕ) (l : Lookup) → l ≡ lookup_of q features full later t selector
     → Inside full later l
-unfolding lookupOf onVerdict Inside
+unfolding lookup_of on_verdict Inside
 lookup-inside q features full later t selector l e =
-    rw e (if-cases (Inside full later) _ _ _ (λ y. place_inside full later t (selectorOf t selector)) (λ n. tt))
+    rw e (if-cases (Inside full later) _ _ _ (λ y. place_inside full later t (selector_of t selector)) (λ n. tt))
 
 -- ---- what is handed back ----
 
@@ -135,14 +135,14 @@ handed-value full later r (Refused v) h = h
 -- ---- the same as numbers ----
 
 module _ (l m : Lookup) (e : l ≡ m) where
-  pub later-told : (start len : ℕ) → l ≡ InLater start len → (0, (1, (start, len))) ≡ lookupTold m
-  unfolding lookupTold
+  pub later-told : (start len : ℕ) → l ≡ InLater start len → (0, (1, (start, len))) ≡ lookup_told m
+  unfolding lookup_told
   later-told start len h = rw (sym e ∙ h)
 
-  pub full-told : (start len : ℕ) → l ≡ InFull start len → (0, (0, (start, len))) ≡ lookupTold m
-  unfolding lookupTold
+  pub full-told : (start len : ℕ) → l ≡ InFull start len → (0, (0, (start, len))) ≡ lookup_told m
+  unfolding lookup_told
   full-told start len h = rw (sym e ∙ h)
 
-  pub refused-told : (v : Verdict) (n : ℕ) → l ≡ Refused v → n ≡ code_of v → (n, (0, (0, 0))) ≡ lookupTold m
-  unfolding lookupTold
+  pub refused-told : (v : Verdict) (n : ℕ) → l ≡ Refused v → n ≡ code_of v → (n, (0, (0, 0))) ≡ lookup_told m
+  unfolding lookup_told
   refused-told v n h k = rw (sym e ∙ h, k)

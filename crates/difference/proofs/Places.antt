@@ -12,45 +12,45 @@ use lib.ListN.{length}
 use Rattle.theory.specs.Logic.{if◌then◌else◌, ◌and◌}
 use Rattle.theory.specs.Bytes.{bytes_at}
 use Rattle.theory.proofs.Tests.{by_cases, never}
-use Rattle.theory.proofs.Bytes.{length-bytesAt}
+use Rattle.theory.proofs.Bytes.{length-bytes_at}
 use Rattle.parts.specs.declared.ListForm.TheVariants.{Parts}
 use Rattle.parts.specs.declared.Step.{Step}
 use Rattle.parts.specs.declared.Step.TheVariants as step
-use Rattle.parts.specs.List.{PartList, end, cut, part, partIn, stepAt, onStep, at_most, partsFrom, parts_of, valueOr}
+use Rattle.parts.specs.List.{PartList, end, cut, part, part_in, step_at, on_step, at_most, parts_from, parts_of, value_or}
 use Rattle.parts.proofs.Walk.{step_part}
 use Rattle.parts.proofs.Turns.{stopped, opened}
 use Rattle.difference.specs.declared.Span.{Span}
 use Rattle.difference.specs.declared.Span.TheVariants.{Value, Nowhere}
-use Rattle.difference.specs.Difference.{spanFrom, span_of, onSpan}
+use Rattle.difference.specs.Difference.{span_from, span_of, on_span}
 
 -- ---- the turns of the walk ----
 
 -- a part in front whose step stands at `at`
-span-part : (t s : ℕ) (l : List ℕ) (at u f v start len : ℕ) → stepAt Parts l at ≡ step.Part u f v start len → (ps : PartList)
-    → spanFrom t s at (part (partIn l u f v start len) ps) ≡ if eqb u t and eqb v s then Value start len else spanFrom t s (start + len) ps
-unfolding spanFrom
+span-part : (t s : ℕ) (l : List ℕ) (at u f v start len : ℕ) → step_at Parts l at ≡ step.Part u f v start len → (ps : PartList)
+    → span_from t s at (part (part_in l u f v start len) ps) ≡ if eqb u t and eqb v s then Value start len else span_from t s (start + len) ps
+unfolding span_from
 span-part t s l at u f v start len e ps =
     let w = step_part Parts l at e in
-    rw (length-bytesAt start len l w.ends, ← w.starts)
+    rw (length-bytes_at start len l w.ends, ← w.starts)
 
 -- r is what next_part answered at `at`, x what the whole list gives
-module _ (t s : ℕ) (l : List ℕ) (at : ℕ) (r : Step) (here : r ≡ stepAt Parts l at) (x : Span) (e : x ≡ spanFrom t s at (partsFrom Parts l at)) where
+module _ (t s : ℕ) (l : List ℕ) (at : ℕ) (r : Step) (here : r ≡ step_at Parts l at) (x : Span) (e : x ≡ span_from t s at (parts_from Parts l at)) where
   pub span-stop : OneOf (1 ∷ 2 ∷ []) (tag_of Rattle.parts.specs.contracts.Step.the_type r) → x ≡ Nowhere
-  unfolding spanFrom
-  span-stop none = e ∙ stopped Parts l at r here none (spanFrom t s at) Nowhere refl refl
+  unfolding span_from
+  span-stop none = e ∙ stopped Parts l at r here none (span_from t s at) Nowhere refl refl
 
   -- b: it is the part that is looked for
   module _ (u f v start len : ℕ) (found : r ≡ step.Part u f v start len) (b : Bool) (named : b ≡ eqb u t and eqb v s) where
-    at_part : x ≡ if b then Value start len else spanFrom t s (start + len) (partsFrom Parts l (start + len))
+    at_part : x ≡ if b then Value start len else span_from t s (start + len) (parts_from Parts l (start + len))
     at_part =
-        e ∙ ap (spanFrom t s at) (opened Parts l at r here u f v start len found)
+        e ∙ ap (span_from t s at) (opened Parts l at r here u f v start len found)
         ∙ span-part t s l at u f v start len (sym here ∙ found) _ ∙ rw (← named)
 
     pub span-here : b ≡ true → x ≡ Value start len
     unfolding if◌then◌else◌
     span-here y = rw y at at_part
 
-    pub span-on : b ≡ false → x ≡ spanFrom t s (start + len) (partsFrom Parts l (start + len))
+    pub span-on : b ≡ false → x ≡ span_from t s (start + len) (parts_from Parts l (start + len))
     unfolding if◌then◌else◌
     span-on n = rw n at at_part
 
@@ -58,16 +58,16 @@ module _ (t s : ℕ) (l : List ℕ) (at : ℕ) (r : Step) (here : r ≡ stepAt P
 
 -- w: where the value of a part of ps stands in l
 record Stands (t s : ℕ) (l : List ℕ) (ps : PartList) (w : Span) : Type 0 where
-  value : (y : List ℕ) → valueOr t s ps y ≡ onSpan w (λ start len. bytes_at start len l) y
+  value : (y : List ℕ) → value_or t s ps y ≡ on_span w (λ start len. bytes_at start len l) y
   inside : (start len : ℕ) → w ≡ Value start len → start + len ≤ length l
 
 nowhere : (l : List ℕ) (start len : ℕ) → Nowhere ≡ Value start len → start + len ≤ length l
 nowhere l start len e = never cc
 
 stands-part : (t s : ℕ) (l : List ℕ) (u f v start len : ℕ) (ps : PartList) → start + len ≤ length l
-    → Stands t s l ps (spanFrom t s (start + len) ps)
-    → Stands t s l (part (partIn l u f v start len) ps) (if eqb u t and eqb v s then Value start len else spanFrom t s (start + len) ps)
-unfolding valueOr if◌then◌else◌
+    → Stands t s l ps (span_from t s (start + len) ps)
+    → Stands t s l (part (part_in l u f v start len) ps) (if eqb u t and eqb v s then Value start len else span_from t s (start + len) ps)
+unfolding value_or if◌then◌else◌
 stands-part t s l u f v start len ps h r =
     by_cases (eqb u t and eqb v s)
     (λ y. rw y (record { value = λ d. rw y; inside = here }))
@@ -76,14 +76,14 @@ stands-part t s l u f v start len ps h r =
     here : (a b : ℕ) → Value start len ≡ Value a b → a + b ≤ length l
     here a b e = let x : start ≡ a = cc in let y : len ≡ b = cc in omega arith
 
-stands_from : (t s : ℕ) (l : List ℕ) (n at : ℕ) → Stands t s l (at_most Parts n l at) (spanFrom t s at (at_most Parts n l at))
-unfolding at_most spanFrom valueOr
+stands_from : (t s : ℕ) (l : List ℕ) (n at : ℕ) → Stands t s l (at_most Parts n l at) (span_from t s at (at_most Parts n l at))
+unfolding at_most span_from value_or
 stands_from t s l zero at = record { value = λ d. refl; inside = nowhere l }
-stands_from t s l (suc n) at = cases (stepAt Parts l at) refl (stands_from t s l n)
+stands_from t s l (suc n) at = cases (step_at Parts l at) refl (stands_from t s l n)
   where
-    cases : (r : Step) → stepAt Parts l at ≡ r → ((on : ℕ) → Stands t s l (at_most Parts n l on) (spanFrom t s on (at_most Parts n l on)))
-        → Stands t s l (onStep r (λ t f s start len. part (partIn l t f s start len) (at_most Parts n l (start + len))) cut end)
-        (spanFrom t s at (onStep r (λ t f s start len. part (partIn l t f s start len) (at_most Parts n l (start + len))) cut end))
+    cases : (r : Step) → step_at Parts l at ≡ r → ((on : ℕ) → Stands t s l (at_most Parts n l on) (span_from t s on (at_most Parts n l on)))
+        → Stands t s l (on_step r (λ t f s start len. part (part_in l t f s start len) (at_most Parts n l (start + len))) cut end)
+        (span_from t s at (on_step r (λ t f s start len. part (part_in l t f s start len) (at_most Parts n l (start + len))) cut end))
     cases (step.Part u f v start len) e ih =
         rw (span-part t s l at u f v start len e (at_most Parts n l (start + len)))
         (stands-part t s l u f v start len (at_most Parts n l (start + len)) (step_part Parts l at e).ends (ih (start + len)))
@@ -92,10 +92,10 @@ stands_from t s l (suc n) at = cases (stepAt Parts l at) refl (stands_from t s l
 
 module _ (t s : ℕ) (l : List ℕ) where
   stands : Stands t s l (parts_of Parts l) (span_of t s l)
-  unfolding partsFrom
+  unfolding parts_from
   stands = stands_from t s l (length l) 0
 
-  pub span_value : (y : List ℕ) → valueOr t s (parts_of Parts l) y ≡ onSpan (span_of t s l) (λ start len. bytes_at start len l) y
+  pub span_value : (y : List ℕ) → value_or t s (parts_of Parts l) y ≡ on_span (span_of t s l) (λ start len. bytes_at start len l) y
   span_value = stands.value
 
   pub span-inside : (start len : ℕ) → span_of t s l ≡ Value start len → start + len ≤ length l

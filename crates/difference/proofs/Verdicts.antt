@@ -10,12 +10,12 @@ use lib.ListN.{length}
 use Rattle.theory.specs.Logic.{unless◌answer◌then◌}
 use Rattle.theory.specs.Bytes.{put}
 use Rattle.theory.proofs.Tests.{unless-passed}
-use Rattle.inventory.specs.Inventory.{partsSize, selectorOf}
-use Rattle.rules.specs.Rules.{known, causeOf, isAccepted}
+use Rattle.inventory.specs.Inventory.{parts_size, selector_of}
+use Rattle.rules.specs.Rules.{known, cause_of, is_accepted}
 use Rattle.difference.specs.declared.Verdict.{Verdict}
 use Rattle.difference.specs.declared.Verdict.TheVariants.{Passed, OutsideInventory}
 use Rattle.difference.specs.declared.Lookup.TheVariants.{Refused}
-use Rattle.difference.specs.Difference.{place_in, isFull, verdictOf, code_of, lookupOf, made, mergeOf}
+use Rattle.difference.specs.Difference.{place_in, is_full, verdict_of, code_of, lookup_of, made, merge_of}
 use Rattle.difference.specs.Claims.{Pair}
 use Rattle.difference.proofs.Handed.{verdict-refused, verdict-passed}
 use Rattle.difference.proofs.Made.{pair-long}
@@ -30,41 +30,41 @@ pub record Passes (q : ℕ) (features full later : List ℕ) (asked room : Bool)
   pub inside : asked ≡ true
   pub fits : room ≡ true
 
-pub passes : (q : ℕ) (features full later : List ℕ) (asked room : Bool) → q < 5 → code_of (verdictOf q features full later asked room) ≡ 0
+pub passes : (q : ℕ) (features full later : List ℕ) (asked room : Bool) → q < 5 → code_of (verdict_of q features full later asked room) ≡ 0
     → Passes q features full later asked room
-unfolding verdictOf
+unfolding verdict_of
 passes q features full later asked room few e =
-    let a = unless-passed NoRefusal (isAccepted (causeOf q features full)) _ _ (λ z. omega arith) e in
-    let b = unless-passed NoRefusal (isAccepted (causeOf q features later)) _ _ (λ z. omega arith) a.1 in
-    let c = unless-passed NoRefusal (isFull q full) _ _ (λ z. omega arith) b.1 in
+    let a = unless-passed NoRefusal (is_accepted (cause_of q features full)) _ _ (λ z. omega arith) e in
+    let b = unless-passed NoRefusal (is_accepted (cause_of q features later)) _ _ (λ z. omega arith) a.1 in
+    let c = unless-passed NoRefusal (is_full q full) _ _ (λ z. omega arith) b.1 in
     let d = unless-passed NoRefusal asked _ _ (λ z. omega arith) c.1 in
     let f = unless-passed NoRefusal room _ _ (λ z. omega arith) d.1 in
-    record { pair = record { few = few; fullAccepted = a.0; laterAccepted = b.0; lacksNone = c.0 }; inside = d.0; fits = f.0 }
+    record { pair = record { few = few; full_accepted = a.0; later_accepted = b.0; lacks_none = c.0 }; inside = d.0; fits = f.0 }
 
 -- ---- a lookup in such a pair ----
 
 module _ (q : ℕ) (features full later : List ℕ) (pair : Pair q features full later) (t s : ℕ) where
-  pair-verdict : (asked : Bool) → known q t (selectorOf t s) ≡ asked
-      → verdictOf q features full later (known q t (selectorOf t s)) true ≡ (unless asked answer OutsideInventory then Passed)
-  unfolding verdictOf unless◌answer◌then◌
-  pair-verdict asked e = rw (pair.fullAccepted, pair.laterAccepted, pair.lacksNone, e)
+  pair-verdict : (asked : Bool) → known q t (selector_of t s) ≡ asked
+      → verdict_of q features full later (known q t (selector_of t s)) true ≡ (unless asked answer OutsideInventory then Passed)
+  unfolding verdict_of unless◌answer◌then◌
+  pair-verdict asked e = rw (pair.full_accepted, pair.later_accepted, pair.lacks_none, e)
 
-  pub found-there : known q t (selectorOf t s) ≡ true → lookupOf q features full later t s ≡ place_in full later t (selectorOf t s)
-  unfolding lookupOf unless◌answer◌then◌
+  pub found-there : known q t (selector_of t s) ≡ true → lookup_of q features full later t s ≡ place_in full later t (selector_of t s)
+  unfolding lookup_of unless◌answer◌then◌
   found-there e = verdict-passed _ Refused _ (ap code_of (pair-verdict true e))
 
-  pub found-outside : known q t (selectorOf t s) ≡ false → lookupOf q features full later t s ≡ Refused OutsideInventory
-  unfolding lookupOf unless◌answer◌then◌
+  pub found-outside : known q t (selector_of t s) ≡ false → lookup_of q features full later t s ≡ Refused OutsideInventory
+  unfolding lookup_of unless◌answer◌then◌
   found-outside e =
       let v = pair-verdict false e in
       verdict-refused _ Refused _ (λ z. let k : 5 ≡ 0 = sym (ap code_of v) ∙ z in omega arith) ∙ ap Refused v
 
 -- ---- the made list, return by return of merge ----
 
-module _ (q : ℕ) (features full later out : List ℕ) (size : ℕ) (es : size ≡ partsSize q) (v : Verdict) (n : ℕ)
-    (ev : v ≡ verdictOf q features full later true (leb size (length out))) (en : n ≡ code_of v) where
-  pub merge-refused : (n ≡ 0 → ⊥) → (n, (0, out)) ≡ mergeOf q features full later out
-  unfolding mergeOf
+module _ (q : ℕ) (features full later out : List ℕ) (size : ℕ) (es : size ≡ parts_size q) (v : Verdict) (n : ℕ)
+    (ev : v ≡ verdict_of q features full later true (leb size (length out))) (en : n ≡ code_of v) where
+  pub merge-refused : (n ≡ 0 → ⊥) → (n, (0, out)) ≡ merge_of q features full later out
+  unfolding merge_of
   merge-refused h =
       rw (← es, ← ev, en) (sym (verdict-refused v (λ w. (code_of w, (0, out))) _ (λ e. h (en ∙ e))))
 
@@ -77,7 +77,7 @@ module _ (q : ℕ) (features full later out : List ℕ) (size : ℕ) (es : size 
         let p = all-passes in
         omega (arith, pair-long q features full later p.pair, leb-true size (length out) p.fits)
 
-    pub merge-done : (out' : List ℕ) → out' ≡ put 0 (made q full later) out → (0, (size, out')) ≡ mergeOf q features full later out
-    unfolding mergeOf
+    pub merge-done : (out' : List ℕ) → out' ≡ put 0 (made q full later) out → (0, (size, out')) ≡ merge_of q features full later out
+    unfolding merge_of
     merge-done out' e =
         rw (e, ← es, ← ev) (sym (verdict-passed v (λ w. (code_of w, (0, out))) _ (sym en ∙ z)))

@@ -3,12 +3,12 @@
 use Rattle.std.specs.Prelude.{Bool, true, not, List, [], ◌++◌, ℕ, zero, suc, ◌+◌, leb, eqb, length}
 use Rattle.theory.specs.Logic.{if◌then◌else◌, unless◌answer◌then◌, ◌and◌, ◌or◌}
 use Rattle.theory.specs.Bytes.{bytes_at, put}
-use Rattle.theory.specs.Items.{itemsFrom}
-use Rattle.inventory.specs.Inventory.{Row, row_at, rowCount, present, partsSize, selectorOf}
-use Rattle.inventory.specs.Header.{headerOf, headerSize}
+use Rattle.theory.specs.Items.{items_from}
+use Rattle.inventory.specs.Inventory.{Row, row_at, row_count, present, parts_size, selector_of}
+use Rattle.inventory.specs.Header.{header_of, header_size}
 use Rattle.parts.specs.declared.ListForm.TheVariants.{Parts}
 use Rattle.parts.specs.List.{PartList, end, cut, part, parts_of, among}
-use Rattle.rules.specs.Rules.{known, causeOf, isAccepted}
+use Rattle.rules.specs.Rules.{known, cause_of, is_accepted}
 use Rattle.difference.specs.declared.Span.{Span}
 use Rattle.difference.specs.declared.Span.TheVariants.{Value, Nowhere}
 use Rattle.difference.specs.declared.Verdict.{Verdict}
@@ -19,24 +19,24 @@ use Rattle.difference.specs.declared.Lookup.TheVariants.{InLater, InFull, Refuse
 -- ---- where the value of a part stands ----
 
 -- the value of the first part with this type and selector; the parts stand one after the other from a position
-unfoldable pub spanFrom : ℕ → ℕ → ℕ → PartList → Span
-spanFrom t s at end = Nowhere
-spanFrom t s at cut = Nowhere
-spanFrom t s at (part p ps) =
-    if eqb p.partType t and eqb p.selector s then Value (at + headerSize) (length p.value) else
-    spanFrom t s (at + headerSize + length p.value) ps
+unfoldable pub span_from : ℕ → ℕ → ℕ → PartList → Span
+span_from t s at end = Nowhere
+span_from t s at cut = Nowhere
+span_from t s at (part p ps) =
+    if eqb p.part_type t and eqb p.selector s then Value (at + header_size) (length p.value) else
+    span_from t s (at + header_size + length p.value) ps
 
 abbrev pub span_of : ℕ → ℕ → List ℕ → Span
-span_of t s l = spanFrom t s 0 (parts_of Parts l)
+span_of t s l = span_from t s 0 (parts_of Parts l)
 
-abbrev pub onSpan {ℓ} : {A : Type ℓ} → Span → (ℕ → ℕ → A) → A → A
-onSpan (Value start len) f a = f start len
-onSpan Nowhere f a = a
+abbrev pub on_span {ℓ} : {A : Type ℓ} → Span → (ℕ → ℕ → A) → A → A
+on_span (Value start len) f a = f start len
+on_span Nowhere f a = a
 
 -- "the part of the later list that holds it, or of the full capture where the later list has none"; a full capture lacks none,
 -- so the last answer is only given of other lists
 unfoldable pub place_in : List ℕ → List ℕ → ℕ → ℕ → Lookup
-place_in full later t s = onSpan (span_of t s later) InLater (onSpan (span_of t s full) InFull (Refused LacksPart))
+place_in full later t s = on_span (span_of t s later) InLater (on_span (span_of t s full) InFull (Refused LacksPart))
 
 -- the bytes there
 abbrev pub value_at : List ℕ → List ℕ → Lookup → List ℕ
@@ -48,24 +48,24 @@ value_at full later (Refused v) = []
 
 -- the list has the part of a row, if the member has it
 unfoldable pub has_row : ℕ → PartList → Row → Bool
-has_row queues ps r = not (present queues r) or among r.partType r.selector ps
+has_row queues ps r = not (present queues r) or among r.part_type r.selector ps
 
 -- of k rows from the i-th on
-unfoldable pub hasRows : ℕ → PartList → ℕ → ℕ → Bool
-hasRows queues ps zero i = true
-hasRows queues ps (suc k) i = has_row queues ps (row_at i) and hasRows queues ps k (i + 1)
+unfoldable pub has_rows : ℕ → PartList → ℕ → ℕ → Bool
+has_rows queues ps zero i = true
+has_rows queues ps (suc k) i = has_row queues ps (row_at i) and has_rows queues ps k (i + 1)
 
 -- it lacks no part of the inventory, whatever part is asked; device features are one too
-abbrev pub isFull : ℕ → List ℕ → Bool
-isFull queues l = hasRows queues (parts_of Parts l) rowCount 0
+abbrev pub is_full : ℕ → List ℕ → Bool
+is_full queues l = has_rows queues (parts_of Parts l) row_count 0
 
 -- The first that applies, in the order of 02. A bad setup, the first of all, is refused where the setup is read. `asked`: the
 -- part asked is in the inventory; `room`: the buffer is long enough. A call that asks for no part, or has no buffer, passes.
-unfoldable pub verdictOf : ℕ → List ℕ → List ℕ → List ℕ → Bool → Bool → Verdict
-verdictOf queues features full later asked room =
-    unless isAccepted (causeOf queues features full) answer BadFull then
-    unless isAccepted (causeOf queues features later) answer BadLater then
-    unless isFull queues full answer LacksPart then
+unfoldable pub verdict_of : ℕ → List ℕ → List ℕ → List ℕ → Bool → Bool → Verdict
+verdict_of queues features full later asked room =
+    unless is_accepted (cause_of queues features full) answer BadFull then
+    unless is_accepted (cause_of queues features later) answer BadLater then
+    unless is_full queues full answer LacksPart then
     unless asked answer OutsideInventory then
     unless room answer ShortBuffer then
     Passed
@@ -80,39 +80,39 @@ code_of OutsideInventory = 5
 code_of ShortBuffer = 6
 
 -- a where nothing is refused
-unfoldable pub onVerdict : {A : Type 0} → Verdict → (Verdict → A) → A → A
-onVerdict v refused a = if eqb (code_of v) 0 then a else refused v
+unfoldable pub on_verdict : {A : Type 0} → Verdict → (Verdict → A) → A → A
+on_verdict v refused a = if eqb (code_of v) 0 then a else refused v
 
 -- ---- looking up one part ----
 
 -- the selector is eight bytes, as in a card store: those that the type does not name are ignored
-unfoldable pub lookupOf : ℕ → List ℕ → List ℕ → List ℕ → ℕ → ℕ → Lookup
-lookupOf queues features full later t selector =
-    onVerdict (verdictOf queues features full later (known queues t (selectorOf t selector)) true) Refused
-    (place_in full later t (selectorOf t selector))
+unfoldable pub lookup_of : ℕ → List ℕ → List ℕ → List ℕ → ℕ → ℕ → Lookup
+lookup_of queues features full later t selector =
+    on_verdict (verdict_of queues features full later (known queues t (selector_of t selector)) true) Refused
+    (place_in full later t (selector_of t selector))
 
 -- what is answered, and left in the three numbers lent: the list, 0 the full capture or 1 the later list, the value's place in
 -- it and its length
-unfoldable pub lookupTold : Lookup → ℕ × (ℕ × (ℕ × ℕ))
-lookupTold (InLater start len) = (0, (1, (start, len)))
-lookupTold (InFull start len) = (0, (0, (start, len)))
-lookupTold (Refused v) = (code_of v, (0, (0, 0)))
+unfoldable pub lookup_told : Lookup → ℕ × (ℕ × (ℕ × ℕ))
+lookup_told (InLater start len) = (0, (1, (start, len)))
+lookup_told (InFull start len) = (0, (0, (start, len)))
+lookup_told (Refused v) = (code_of v, (0, (0, 0)))
 
 -- ---- making one list ----
 
 -- "each part of the inventory once with the value looked up, in table order with the table's headers"
-unfoldable pub madePart : List ℕ → List ℕ → Row → List ℕ
-madePart full later r = headerOf r ++ value_at full later (place_in full later r.partType r.selector)
+unfoldable pub made_part : List ℕ → List ℕ → Row → List ℕ
+made_part full later r = header_of r ++ value_at full later (place_in full later r.part_type r.selector)
 
-unfoldable pub madeItem : ℕ → List ℕ → List ℕ → ℕ → List ℕ
-madeItem queues full later i = if present queues (row_at i) then madePart full later (row_at i) else []
+unfoldable pub made_item : ℕ → List ℕ → List ℕ → ℕ → List ℕ
+made_item queues full later i = if present queues (row_at i) then made_part full later (row_at i) else []
 
 unfoldable pub made : ℕ → List ℕ → List ℕ → List ℕ
-made queues full later = itemsFrom (madeItem queues full later) rowCount 0
+made queues full later = items_from (made_item queues full later) row_count 0
 
 -- what is answered, how many bytes are written, and the buffer: "no refusal writes it", and no byte past the list changes
-unfoldable pub mergeOf : ℕ → List ℕ → List ℕ → List ℕ → List ℕ → ℕ × (ℕ × List ℕ)
-mergeOf queues features full later out =
-    onVerdict (verdictOf queues features full later true (leb (partsSize queues) (length out)))
+unfoldable pub merge_of : ℕ → List ℕ → List ℕ → List ℕ → List ℕ → ℕ × (ℕ × List ℕ)
+merge_of queues features full later out =
+    on_verdict (verdict_of queues features full later true (leb (parts_size queues) (length out)))
     (λ v. (code_of v, (0, out)))
-    (0, (partsSize queues, put 0 (made queues full later) out))
+    (0, (parts_size queues, put 0 (made queues full later) out))

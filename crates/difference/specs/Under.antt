@@ -6,15 +6,15 @@ use Rattle.setups.specs.declared.MemberSetup.{MemberSetup}
 use Rattle.difference.specs.declared.Verdict.TheVariants.{BadSetup}
 use Rattle.difference.specs.declared.Lookup.{Lookup}
 use Rattle.difference.specs.declared.Lookup.TheVariants.{Refused}
-use Rattle.difference.specs.Difference.{code_of, lookupOf, mergeOf}
+use Rattle.difference.specs.Difference.{code_of, lookup_of, merge_of}
 
 -- s is what the setup says of the member
-unfoldable pub lookupUnder : MemberSetup → List ℕ → List ℕ → ℕ → ℕ → Lookup
-lookupUnder s full later t selector =
+unfoldable pub lookup_under : MemberSetup → List ℕ → List ℕ → ℕ → ℕ → Lookup
+lookup_under s full later t selector =
     unless s.known answer Refused BadSetup then
-    lookupOf s.queues s.features full later t selector
+    lookup_of s.queues s.features full later t selector
 
-unfoldable pub mergeUnder : MemberSetup → List ℕ → List ℕ → List ℕ → ℕ × (ℕ × List ℕ)
-mergeUnder s full later out =
+unfoldable pub merge_under : MemberSetup → List ℕ → List ℕ → List ℕ → ℕ × (ℕ × List ℕ)
+merge_under s full later out =
     unless s.known answer (code_of BadSetup, (0, out)) then
-    mergeOf s.queues s.features full later out
+    merge_of s.queues s.features full later out

@@ -3,11 +3,11 @@ ghost use Rattle.std.specs.Prelude.{◌≡◌, ◌+◌, ◌<◌, ◌≤◌, leng
 ghost use Rattle.theory.specs.Bytes.{put};
 ghost use Rattle.inventory.specs.Inventory.{row};
 ghost use Rattle.parts.specs.List.{parts_of};
-ghost use Rattle.rules.specs.Rules.{causeOf, isAccepted};
+ghost use Rattle.rules.specs.Rules.{cause_of, is_accepted};
 ghost use Rattle.capture.specs.Runs.{Wrote};
-ghost use Rattle.setups.specs.Member.{memberSetup};
-ghost use Rattle.difference.specs.Difference.{span_of, place_in, has_row, isFull, verdictOf, code_of, lookupOf, lookupTold, madePart, made, mergeOf};
-ghost use Rattle.difference.specs.Under.{lookupUnder, mergeUnder};
+ghost use Rattle.setups.specs.Member.{member_setup};
+ghost use Rattle.difference.specs.Difference.{span_of, place_in, has_row, is_full, verdict_of, code_of, lookup_of, lookup_told, made_part, made, merge_of};
+ghost use Rattle.difference.specs.Under.{lookup_under, merge_under};
 ghost use Rattle.difference.specs.Handed.{PartOf, Handed, Inside};
 
 use inventory::{HEADER_SIZE, ROWS, SELECTORS, SIZES, TYPES};
@@ -102,7 +102,7 @@ fn part_at<'a>(full: &'a [u8], later: &'a [u8], found: Lookup) -> &'a [u8]
 
 // Whether step 10 accepts a list.
 fn is_good(queues: u8, features: &[u8], list: &[u8]) -> bool
-    ensures { result ≡ isAccepted (causeOf queues features.now list.now) }
+    ensures { result ≡ is_accepted (cause_of queues features.now list.now) }
 {
     rules::is_accepted(rules::check_list(queues, features, list))
 }
@@ -119,7 +119,7 @@ fn has_row(queues: u8, list: &[u8], row_type: u16, row_selector: u8) -> bool
 
 // Whether a list lacks no part of the inventory.
 fn is_full(queues: u8, list: &[u8]) -> bool
-    ensures { result ≡ isFull queues list.now }
+    ensures { result ≡ is_full queues list.now }
 {
     let types = TYPES;
     let selectors = SELECTORS;
@@ -141,7 +141,7 @@ fn verdict_of(
     asked: bool,
     room: bool,
 ) -> Verdict
-    ensures { result ≡ verdictOf queues features.now full.now later.now asked room }
+    ensures { result ≡ verdict_of queues features.now full.now later.now asked room }
 {
     if !is_good(queues, features, full) {
         return Verdict::BadFull;
@@ -187,7 +187,7 @@ fn look_up_in(
     part_type: u16,
     selector: u64,
 ) -> Lookup
-    ensures { result ≡ lookupOf queues features.now full.now later.now part_type selector }
+    ensures { result ≡ lookup_of queues features.now full.now later.now part_type selector }
 {
     let named = inventory::selector_of(part_type, selector);
     let asked = rules::is_known(queues, part_type, named);
@@ -207,7 +207,7 @@ pub fn look_up(
     part_type: u16,
     selector: u64,
 ) -> Lookup
-    ensures { result ≡ lookupUnder (memberSetup setup.now member) full.now later.now part_type selector }
+    ensures { result ≡ lookup_under (member_setup setup.now member) full.now later.now part_type selector }
 {
     let m = setups::member_setup(setup, member);
     if !m.known {
@@ -226,7 +226,7 @@ pub fn find<'a>(
     part_type: u16,
     selector: u64,
 ) -> &'a [u8]
-    ensures { Handed full.entry later.entry (lookupUnder (memberSetup setup.now member) full.now later.now part_type selector) result }
+    ensures { Handed full.entry later.entry (lookup_under (member_setup setup.now member) full.now later.now part_type selector) result }
 {
     part_at(
         full,
@@ -248,7 +248,7 @@ pub fn find_place(
     at: &mut usize,
     len: &mut usize,
 ) -> u8
-    ensures { (result, (list.new, (at.new, len.new))) ≡ lookupTold (lookupUnder (memberSetup setup.now member) full.now later.now part_type selector) }
+    ensures { (result, (list.new, (at.new, len.new))) ≡ lookup_told (lookup_under (member_setup setup.now member) full.now later.now part_type selector) }
 {
     match look_up(setup, member, full, later, part_type, selector) {
         Lookup::InLater { start, len: n } => {
@@ -284,8 +284,8 @@ fn write_part<'a>(
     row_selector: u8,
     size: u8,
 ) -> usize
-    requires { at + length (madePart full.now later.now (row row_type row_selector size)) ≤ length out.old }
-    ensures { Wrote (madePart full.now later.now (row row_type row_selector size)) at out.old out.new result }
+    requires { at + length (made_part full.now later.now (row row_type row_selector size)) ≤ length out.old }
+    ensures { Wrote (made_part full.now later.now (row row_type row_selector size)) at out.old out.new result }
 {
     inventory::write_header(out, at, row_type, row_selector as u32, size);
     let value = part_at(
@@ -328,7 +328,7 @@ fn merge_in<'a>(
     written: &mut usize,
 ) -> u8
     requires { queues < 5 }
-    ensures { (result, (written.new, merged.new)) ≡ mergeOf queues features.now full.now later.now merged.old }
+    ensures { (result, (written.new, merged.new)) ≡ merge_of queues features.now full.now later.now merged.old }
 {
     let size = inventory::parts_size(queues) as usize;
     let room = size <= merged.len();
@@ -351,7 +351,7 @@ pub fn merge<'a>(
     merged: &mut [u8],
     written: &mut usize,
 ) -> u8
-    ensures { (result, (written.new, merged.new)) ≡ mergeUnder (memberSetup setup.now member) full.now later.now merged.old }
+    ensures { (result, (written.new, merged.new)) ≡ merge_under (member_setup setup.now member) full.now later.now merged.old }
 {
     let m = setups::member_setup(setup, member);
     if !m.known {

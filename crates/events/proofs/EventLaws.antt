@@ -17,70 +17,70 @@ use Rattle.theory.proofs.Bytes.{put_all}
 use Rattle.theory.proofs.Ladder.{stop, pass}
 use Rattle.protocol.specs.declared.EventAnswer.{EventAnswer}
 use Rattle.protocol.specs.declared.EventAnswer.TheVariants.{Done, NotSound, NoMember, BadSetup, WrongMark}
-use Rattle.protocol.specs.Answers.{isEventDone}
-use Rattle.inventory.specs.Inventory.{selectorOf}
+use Rattle.protocol.specs.Answers.{is_event_done}
+use Rattle.inventory.specs.Inventory.{selector_of}
 use Rattle.values.specs.Apply.{storable}
 use Rattle.member.specs.declared.Member.{Member}
-use Rattle.member.specs.Member.{featuresSize, handedBack, withPart}
+use Rattle.member.specs.Member.{features_size, handed_back, with_part}
 use Rattle.card.specs.declared.Setup.{Setup}
-use Rattle.card.specs.Layout.{cardHeaderSize, cardSize, cardBytes, setupOf, isMember, HasRecord, memberIn, withMember, isMarked, withHolding, noBytes, withFresh, countsFrom, countsOf, freshCard}
-use Rattle.card.specs.Sound.{isSound}
+use Rattle.card.specs.Layout.{card_header_size, card_size, card_bytes, setup_of, is_member, HasRecord, member_in, with_member, is_marked, with_holding, no_bytes, with_fresh, counts_from, counts_of, fresh_card}
+use Rattle.card.specs.Sound.{is_sound}
 use Rattle.setups.specs.declared.Setup as setups
 use Rattle.setups.specs.declared.ReadOutcome.{ReadOutcome}
 use Rattle.setups.specs.declared.ReadAnswer.{ReadAnswer}
 use Rattle.setups.specs.declared.ReadAnswer.TheVariants as reading
-use Rattle.setups.specs.Setup.{mostMembers, inRanges, inNumbers}
+use Rattle.setups.specs.Setup.{most_members, in_ranges, in_numbers}
 use Rattle.setups.specs.Writing.{InNumbers}
-use Rattle.setups.specs.Reading.{readNumber, readSetup}
+use Rattle.setups.specs.Reading.{read_number, read_setup}
 use Rattle.setups.proofs.Ranges.{numbers-in}
 use Rattle.setups.proofs.Claims.{claims}
-use Rattle.events.specs.Events.{InBounds, setupWith, refusedSetup, setUp, setUpOf, setUpFrom, memberAnswer, ifDone, onMember, withHandedBack, storeIn}
+use Rattle.events.specs.Events.{InBounds, setup_with, refused_setup, set_up, set_up_of, set_up_from, member_answer, if_done, on_member, with_handed_back, store_in}
 use Rattle.card.proofs.RecordBytesLaws.{has-header}
 use Rattle.card.proofs.SoundLaws.{sound-of, sound-long, sound-has}
 
 -- two tests, of which the first that fails gives the answer
-both-passed : (s m : Bool) → isEventDone (unless s answer NotSound then unless m answer NoMember then Done) ≡ true → (s ≡ true) × (m ≡ true)
+both-passed : (s m : Bool) → is_event_done (unless s answer NotSound then unless m answer NoMember then Done) ≡ true → (s ≡ true) × (m ≡ true)
 both-passed s m e =
-    let a = unless-passed (λ x. isEventDone x ≡ true) s _ _ never e in
-    (a.0, (unless-passed (λ x. isEventDone x ≡ true) m _ _ never a.1).0)
+    let a = unless-passed (λ x. is_event_done x ≡ true) s _ _ never e in
+    (a.0, (unless-passed (λ x. is_event_done x ≡ true) m _ _ never a.1).0)
 
 -- ---- what a test that held says ----
 
-module _ (c : List ℕ) (t : Bool) (n : not t ≡ false) (e : t ≡ isSound c) where
-  told-sound : isSound c ≡ true
+module _ (c : List ℕ) (t : Bool) (n : not t ≡ false) (e : t ≡ is_sound c) where
+  told-sound : is_sound c ≡ true
   told-sound = sym e ∙ not-false t n
 
-  pub told-long : cardHeaderSize ≤ length c
+  pub told-long : card_header_size ≤ length c
   told-long = sound-long c (sound-of c told-sound)
 
-  pub told-size : (s : Setup) → s ≡ setupOf c → length c ≡ cardSize s.members
+  pub told-size : (s : Setup) → s ≡ setup_of c → length c ≡ card_size s.members
   told-size s q = rw q (sound-of c told-sound).long
 
 -- an event for one member: a is its first refusal, t whether there is none
-module _ (c : List ℕ) (m : ℕ) (a : EventAnswer) (t : Bool) (e : a ≡ memberAnswer c m) (d : t ≡ isEventDone a) where
-  pub member-refused : not t ≡ true → (x : EventAnswer × List ℕ) → (a, c) ≡ onMember c m x
-  unfolding onMember ifDone
+module _ (c : List ℕ) (m : ℕ) (a : EventAnswer) (t : Bool) (e : a ≡ member_answer c m) (d : t ≡ is_event_done a) where
+  pub member-refused : not t ≡ true → (x : EventAnswer × List ℕ) → (a, c) ≡ on_member c m x
+  unfolding on_member if_done
   member-refused n x = rw (← e) (stop _ _ _ _ (sym d ∙ not-true t n) refl)
 
   module _ (n : not t ≡ false) where
-    done : isEventDone (memberAnswer c m) ≡ true
+    done : is_event_done (member_answer c m) ≡ true
     done = rw (← e) (sym d ∙ not-false t n)
 
-    pub member-passed : (x y : EventAnswer × List ℕ) → x ≡ y → x ≡ onMember c m y
-    unfolding onMember ifDone
+    pub member-passed : (x y : EventAnswer × List ℕ) → x ≡ y → x ≡ on_member c m y
+    unfolding on_member if_done
     member-passed x y h = pass _ _ _ _ done h
 
-    sound-has-it : (isSound c ≡ true) × (isMember c m ≡ true)
-    unfolding memberAnswer
-    sound-has-it = both-passed (isSound c) (isMember c m) done
+    sound-has-it : (is_sound c ≡ true) × (is_member c m ≡ true)
+    unfolding member_answer
+    sound-has-it = both-passed (is_sound c) (is_member c m) done
 
     pub member-record : HasRecord c m
     member-record = sound-has c (sound-of c sound-has-it.0) m sound-has-it.1
 
-    pub member-long : cardHeaderSize ≤ length c
+    pub member-long : card_header_size ≤ length c
     member-long = has-header c m member-record
 
-    pub member-whole : length c ≡ cardSize (setupOf c).members
+    pub member-whole : length c ≡ card_size (setup_of c).members
     member-whole = (sound-of c sound-has-it.0).long
 
 -- what a call asks after these tests
@@ -88,116 +88,116 @@ pub ruleset told = (rules, told-long, told-size, member-record, member-long, mem
 
 -- ---- setup ----
 
-pub bytes-tested : (n : ℕ) (q : List ℕ) (g s b r : ℕ) (t : Bool) → not t ≡ false → t ≡ inNumbers n q g s → r ≡ cardBytes n → eqb b r ≡ eqb b (cardSize n)
-unfolding cardBytes if◌then◌else◌ inNumbers inRanges
+pub bytes-tested : (n : ℕ) (q : List ℕ) (g s b r : ℕ) (t : Bool) → not t ≡ false → t ≡ in_numbers n q g s → r ≡ card_bytes n → eqb b r ≡ eqb b (card_size n)
+unfolding card_bytes if◌then◌else◌ in_numbers in_ranges
 bytes-tested n q g s b r t h e f =
     let w = (both _ _ (both _ _ (both _ _ (both _ _ (sym e ∙ not-false t h)).0).0).0).0 in
     rw (f, w)
 
 -- the features were copied into l
-pub setup-made : (n g s : ℕ) (f l own : List ℕ) → length f ≡ featuresSize → length l ≡ featuresSize → own ≡ put 0 f l → setupWith n g s own ≡ setupWith n g s f
+pub setup-made : (n g s : ℕ) (f l own : List ℕ) → length f ≡ features_size → length l ≡ features_size → own ≡ put 0 f l → setup_with n g s own ≡ setup_with n g s f
 setup-made n g s f l own h k e = rw (e, put_all f l (h ∙ sym k))
 
-module _ (n : ℕ) (q : List ℕ) (g s : ℕ) (f c : List ℕ) (t : Bool) (e : t ≡ inNumbers n q g s and eqb (length f) featuresSize and eqb (length c) (cardSize n)) where
-  pub setup-refused : not t ≡ true → (d : List ℕ) → d ≡ replicate (length c) 0 → (BadSetup, d) ≡ setUp c n q g s f
-  unfolding setUp refusedSetup
+module _ (n : ℕ) (q : List ℕ) (g s : ℕ) (f c : List ℕ) (t : Bool) (e : t ≡ in_numbers n q g s and eqb (length f) features_size and eqb (length c) (card_size n)) where
+  pub setup-refused : not t ≡ true → (d : List ℕ) → d ≡ replicate (length c) 0 → (BadSetup, d) ≡ set_up c n q g s f
+  unfolding set_up refused_setup
   setup-refused h d r = stop _ _ _ _ (sym e ∙ not-true t h) (ap (λ l. (BadSetup, l)) r)
 
   module _ (h : not t ≡ false) where
-    passed : inNumbers n q g s and eqb (length f) featuresSize and eqb (length c) (cardSize n) ≡ true
+    passed : in_numbers n q g s and eqb (length f) features_size and eqb (length c) (card_size n) ≡ true
     passed = sym e ∙ not-false t h
 
     numbers : InNumbers n q g s
     numbers = numbers-in n q g s (both _ _ (both _ _ passed).0).0
 
     pub setup-bounds : InBounds n g s
-    setup-bounds = record { fewMembers = numbers.few; fewGets = numbers.fewGets; fewSets = numbers.fewSets }
+    setup-bounds = record { few_members = numbers.few; few_gets = numbers.few_gets; few_sets = numbers.few_sets }
 
-    pub setup-sixteen : length f ≡ featuresSize
+    pub setup-sixteen : length f ≡ features_size
     setup-sixteen = eqb-true _ _ (both _ _ (both _ _ passed).0).1
 
-    pub setup-long : length c ≡ cardSize (length q)
-    setup-long = eqb-true _ _ (both _ _ passed).1 ∙ ap cardSize (sym numbers.each)
+    pub setup-long : length c ≡ card_size (length q)
+    setup-long = eqb-true _ _ (both _ _ passed).1 ∙ ap card_size (sym numbers.each)
 
-    pub setup-done : (x : Setup) (d : List ℕ) → x ≡ setupWith n g s f → d ≡ freshCard x q 0 → (Done, d) ≡ setUp c n q g s f
-    unfolding setUp
+    pub setup-done : (x : Setup) (d : List ℕ) → x ≡ setup_with n g s f → d ≡ fresh_card x q 0 → (Done, d) ≡ set_up c n q g s f
+    unfolding set_up
     setup-done x d r p = pass _ _ _ _ passed (ap (λ l. (Done, l)) (p ∙ rw r))
 
 -- a setup by value, of which the counts of its members are lent
-pub set-up-by : (c d : List ℕ) (x : setups.Setup) (a : EventAnswer) → (a, d) ≡ setUp c x.members (take (x.members - 0) (drop 0 x.queues)) x.gets x.sets x.features
-    → (a, d) ≡ setUpOf c x
-unfolding setUpOf
+pub set-up-by : (c d : List ℕ) (x : setups.Setup) (a : EventAnswer) → (a, d) ≡ set_up c x.members (take (x.members - 0) (drop 0 x.queues)) x.gets x.sets x.features
+    → (a, d) ≡ set_up_of c x
+unfolding set_up_of
 set-up-by c d x a e = e ∙ rw sub-zero
 
 -- a setup that was read has at most 16 members
-read-few : (l : List ℕ) → (readSetup l).answer ≡ reading.Done → (readSetup l).setup.members ≤ mostMembers
+read-few : (l : List ℕ) → (read_setup l).answer ≡ reading.Done → (read_setup l).setup.members ≤ most_members
 read-few l e = (numbers-in _ _ _ _ (claims.in_range l e).numbers).few
 
-number-done : (a : ReadAnswer) → readNumber a ≡ 0 → a ≡ reading.Done
+number-done : (a : ReadAnswer) → read_number a ≡ 0 → a ≡ reading.Done
 number-done reading.Done e = refl
 number-done reading.Version2 e = absurd (omega arith)
 number-done reading.Refused e = absurd (omega arith)
 
 -- a packed setup was read as o, and its answer has the number r
-module _ (c l : List ℕ) (o : ReadOutcome) (r : ℕ) (e : o ≡ readSetup l) (n : r ≡ readNumber o.answer) where
-  pub packed-refused : r ≢ 0 → (d : List ℕ) → d ≡ replicate (length c) 0 → (BadSetup, d) ≡ setUpFrom c l
-  unfolding setUpFrom refusedSetup
+module _ (c l : List ℕ) (o : ReadOutcome) (r : ℕ) (e : o ≡ read_setup l) (n : r ≡ read_number o.answer) where
+  pub packed-refused : r ≢ 0 → (d : List ℕ) → d ≡ replicate (length c) 0 → (BadSetup, d) ≡ set_up_from c l
+  unfolding set_up_from refused_setup
   packed-refused h d p = stop _ _ _ _ (rw (← e, ← n) (ne_eqb r 0 h)) (ap (λ x. (BadSetup, x)) p)
 
   module _ (h : r ≡ 0) where
-    pub packed-few : o.setup.members ≤ mostMembers
+    pub packed-few : o.setup.members ≤ most_members
     packed-few = rw e (read-few l (rw (← e) (number-done o.answer (sym n ∙ h))))
 
-    pub packed-done : (a : EventAnswer) (d : List ℕ) → (a, d) ≡ setUpOf c o.setup → (a, d) ≡ setUpFrom c l
-    unfolding setUpFrom
+    pub packed-done : (a : EventAnswer) (d : List ℕ) → (a, d) ≡ set_up_of c o.setup → (a, d) ≡ set_up_from c l
+    unfolding set_up_from
     packed-done a d p = pass _ _ _ _ (rw (← e, ← n) (eq-eqb r 0 h)) (p ∙ rw e)
 
 -- ---- events ----
 
 -- t says whether m is marked
-module _ (c : List ℕ) (m : ℕ) (t : Bool) (e : t ≡ isMarked c m) where
-  pub back-refused : t ≡ true → (x : EventAnswer × List ℕ) → (WrongMark, c) ≡ unless not (isMarked c m) answer (WrongMark, c) then x
+module _ (c : List ℕ) (m : ℕ) (t : Bool) (e : t ≡ is_marked c m) where
+  pub back-refused : t ≡ true → (x : EventAnswer × List ℕ) → (WrongMark, c) ≡ unless not (is_marked c m) answer (WrongMark, c) then x
   back-refused h x = stop _ _ _ _ (ap not (sym e ∙ h)) refl
 
-  pub back_done : t ≡ false → (d : List ℕ) → d ≡ withHandedBack c m
-      → ◌≡◌ {A = EventAnswer × List ℕ} (Done, d) (unless not (isMarked c m) answer (WrongMark, c) then (Done, withHandedBack c m))
+  pub back_done : t ≡ false → (d : List ℕ) → d ≡ with_handed_back c m
+      → ◌≡◌ {A = EventAnswer × List ℕ} (Done, d) (unless not (is_marked c m) answer (WrongMark, c) then (Done, with_handed_back c m))
   back_done h d p = pass _ _ _ _ (ap not (sym e ∙ h)) (ap (λ l. (Done, l)) p)
 
-  pub wipe-refused : not t ≡ true → (x : EventAnswer × List ℕ) → (WrongMark, c) ≡ unless isMarked c m answer (WrongMark, c) then x
+  pub wipe-refused : not t ≡ true → (x : EventAnswer × List ℕ) → (WrongMark, c) ≡ unless is_marked c m answer (WrongMark, c) then x
   wipe-refused h x = stop _ _ _ _ (sym e ∙ not-true t h) refl
 
-  pub wipe-done : not t ≡ false → (d : List ℕ) (g : ℕ) (s : Setup) → s ≡ setupOf c → d ≡ withFresh c m s.features g
-      → ◌≡◌ {A = EventAnswer × List ℕ} (Done, d) (unless isMarked c m answer (WrongMark, c) then (Done, withFresh c m (setupOf c).features g))
+  pub wipe-done : not t ≡ false → (d : List ℕ) (g : ℕ) (s : Setup) → s ≡ setup_of c → d ≡ with_fresh c m s.features g
+      → ◌≡◌ {A = EventAnswer × List ℕ} (Done, d) (unless is_marked c m answer (WrongMark, c) then (Done, with_fresh c m (setup_of c).features g))
   wipe-done h d g s q f = pass _ _ _ _ (sym e ∙ not-false t h) (ap (λ l. (Done, l)) (f ∙ rw q))
 
 -- x was saved and the holding place zeroed
-pub member-ended : (c d r : List ℕ) (m : ℕ) (x y : Member) → y ≡ memberIn c m → x ≡ handedBack y → d ≡ withMember c m x
-    → r ≡ withHolding d m noBytes → r ≡ withHandedBack c m
-unfolding withHandedBack
+pub member-ended : (c d r : List ℕ) (m : ℕ) (x y : Member) → y ≡ member_in c m → x ≡ handed_back y → d ≡ with_member c m x
+    → r ≡ with_holding d m no_bytes → r ≡ with_handed_back c m
+unfolding with_handed_back
 member-ended c d r m x y p q e f = f ∙ rw (e, q, p)
 
-pub card-reset : (c d : List ℕ) (g : ℕ) (s : Setup) → s ≡ setupOf c → d ≡ freshCard s (countsFrom c 1 s.members) g
-    → ◌≡◌ {A = EventAnswer × List ℕ} (Done, d) (Done, freshCard (setupOf c) (countsOf c) g)
-unfolding countsOf
+pub card-reset : (c d : List ℕ) (g : ℕ) (s : Setup) → s ≡ setup_of c → d ≡ fresh_card s (counts_from c 1 s.members) g
+    → ◌≡◌ {A = EventAnswer × List ℕ} (Done, d) (Done, fresh_card (setup_of c) (counts_of c) g)
+unfolding counts_of
 card-reset c d g s e f = rw (f, e)
 
 -- a card store: x is the member, a the answer, u whether it is done
 module _ (c : List ℕ) (m t s : ℕ) (value : List ℕ) (x : Member) (a : EventAnswer) (u : Bool)
-    (g : x ≡ memberIn c m) (e : a ≡ storable x.queues t s value) (f : u ≡ isEventDone a) where
-  is-answer : storable (memberIn c m).queues t s value ≡ a
+    (g : x ≡ member_in c m) (e : a ≡ storable x.queues t s value) (f : u ≡ is_event_done a) where
+  is-answer : storable (member_in c m).queues t s value ≡ a
   is-answer = ap (λ (y : Member). storable y.queues t s value) (sym g) ∙ sym e
 
-  pub store-refused : not u ≡ true → (a, c) ≡ storeIn c m t s value
-  unfolding storeIn ifDone
+  pub store-refused : not u ≡ true → (a, c) ≡ store_in c m t s value
+  unfolding store_in if_done
   store-refused n = rw is-answer (stop _ _ _ _ (sym f ∙ not-true u n) refl)
 
-  pub stored-in : (y : Member) (d : List ℕ) → not u ≡ false → y ≡ withPart x t s value → d ≡ withMember c m y
-      → (Done, d) ≡ storeIn c m t s value
-  unfolding storeIn ifDone
+  pub stored-in : (y : Member) (d : List ℕ) → not u ≡ false → y ≡ with_part x t s value → d ≡ with_member c m y
+      → (Done, d) ≡ store_in c m t s value
+  unfolding store_in if_done
   stored-in y d n q r = rw is-answer (pass _ _ _ _ (sym f ∙ not-false u n) (rw (r, q, g)))
 
-pub store-done : (c d : List ℕ) (m t s k : ℕ) (value : List ℕ) (a : EventAnswer) → k ≡ selectorOf t s → (a, d) ≡ storeIn c m t k value
-    → (a, d) ≡ storeIn c m t (selectorOf t s) value
+pub store-done : (c d : List ℕ) (m t s k : ℕ) (value : List ℕ) (a : EventAnswer) → k ≡ selector_of t s → (a, d) ≡ store_in c m t k value
+    → (a, d) ≡ store_in c m t (selector_of t s) value
 store-done c d m t s k value a e f = f ∙ rw e
 
 -- each return of an event for one member, and what its calls ask

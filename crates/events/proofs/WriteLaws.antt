@@ -8,16 +8,16 @@ use native.Mathlib.Omega.{arith}
 use lib.ListN.{length, get_or, drop, length-append, drop_of_length-le}
 use lib.Seq.{drop-cons}
 use Rattle.theory.specs.Bytes.{put}
-use Rattle.theory.proofs.Bytes.{put-append, put-nil, put_all, bytesAt-after}
+use Rattle.theory.proofs.Bytes.{put-append, put-nil, put_all, bytes_at-after}
 use Rattle.wire.specs.Le.{bytes}
 use Rattle.wire.proofs.Le.{length-bytes}
-use Rattle.protocol.specs.Opcodes.{freshMask}
+use Rattle.protocol.specs.Opcodes.{fresh_mask}
 use Rattle.member.specs.declared.Member.{Member}
-use Rattle.member.specs.Record.{memberSize, memberOf}
-use Rattle.member.specs.Member.{featuresSize, fresh_of}
+use Rattle.member.specs.Record.{member_size, member_of}
+use Rattle.member.specs.Member.{features_size, fresh_of}
 use Rattle.member.proofs.Record.{fresh-shaped}
 use Rattle.card.specs.declared.Setup.{Setup}
-use Rattle.card.specs.Layout.{featuresAt, inUseAt, cardHeaderSize, memberBytesAt, recordSize, cardSize, recordAt, HasRecord, recordBytes, memberIn, countsFrom, withRecord, withFresh, freshRecord, freshHeader, freshRecords, freshCard}
+use Rattle.card.specs.Layout.{features_at, in_use_at, card_header_size, member_bytes_at, record_size, card_size, record_at, HasRecord, record_bytes, member_in, counts_from, with_record, with_fresh, fresh_record, fresh_header, fresh_records, fresh_card}
 use Rattle.card.proofs.RecordLaws.{length-with-record, record-other, record-put}
 use Rattle.card.proofs.FreshLaws.{fresh-record-long, length-fresh}
 use Rattle.card.proofs.CountLaws.{counts-long, counts-alike, counts_step}
@@ -25,43 +25,43 @@ use Rattle.card.proofs.CountLaws.{counts-long, counts-alike, counts_step}
 -- ---- a fresh card ----
 
 -- the header: the numbers, the features, the list in use
-pub header-written : (c d e f : List ℕ) (s : Setup) → length s.features ≡ featuresSize → d ≡ put 0 (s.members ∷ s.gets ∷ s.sets ∷ []) c
-    → e ≡ put featuresAt s.features d → f ≡ put inUseAt (bytes 8 freshMask) e → f ≡ put 0 (freshHeader s) c
-unfolding freshHeader
+pub header-written : (c d e f : List ℕ) (s : Setup) → length s.features ≡ features_size → d ≡ put 0 (s.members ∷ s.gets ∷ s.sets ∷ []) c
+    → e ≡ put features_at s.features d → f ≡ put in_use_at (bytes 8 fresh_mask) e → f ≡ put 0 (fresh_header s) c
+unfolding fresh_header
 header-written c d e f s n p q r =
     let h = s.members ∷ s.gets ∷ s.sets ∷ [] in
-    let k : 0 + length (h ++ s.features) ≡ inUseAt = omega arith in
-    rw (r, q, p) (sym (put-append 0 (h ++ s.features) (bytes 8 freshMask) c ∙ rw (k, put-append 0 h s.features c)))
+    let k : 0 + length (h ++ s.features) ≡ in_use_at = omega arith in
+    rw (r, q, p) (sym (put-append 0 (h ++ s.features) (bytes 8 fresh_mask) c ∙ rw (k, put-append 0 h s.features c)))
 
-header-long : (s : Setup) → length s.features ≡ featuresSize → length (freshHeader s) ≡ cardHeaderSize
-unfolding freshHeader
-header-long s e = rw (length-append, length-bytes 8 freshMask) (omega arith)
+header-long : (s : Setup) → length s.features ≡ features_size → length (fresh_header s) ≡ card_header_size
+unfolding fresh_header
+header-long s e = rw (length-append, length-bytes 8 fresh_mask) (omega arith)
 
 -- ---- fresh records, one after the other ----
 
 -- m records with features f and generation g are written, and those of the counts that are left give the whole
 pub record Filled (f : List ℕ) (g : ℕ) (qs c₀ left c : List ℕ) (m : ℕ) : Type 0 where
   pub long : length c ≡ length c₀
-  pub whole : put cardHeaderSize (freshRecords f g qs) c₀ ≡ put (cardHeaderSize + recordSize * m) (freshRecords f g left) c
+  pub whole : put card_header_size (fresh_records f g qs) c₀ ≡ put (card_header_size + record_size * m) (fresh_records f g left) c
 
 module _ (f : List ℕ) (g : ℕ) (qs c₀ : List ℕ) where
   filled-start : Filled f g qs c₀ qs c₀ 0
   filled-start = record { long = refl; whole = refl }
 
-  filled_on : (q : ℕ) (left c d : List ℕ) (m : ℕ) → Filled f g qs c₀ (q ∷ left) c m → length f ≡ featuresSize
-      → d ≡ withRecord c (m + 1) (fresh_of q f) g → Filled f g qs c₀ left d (m + 1)
-  unfolding freshRecords
+  filled_on : (q : ℕ) (left c d : List ℕ) (m : ℕ) → Filled f g qs c₀ (q ∷ left) c m → length f ≡ features_size
+      → d ≡ with_record c (m + 1) (fresh_of q f) g → Filled f g qs c₀ left d (m + 1)
+  unfolding fresh_records
   filled_on q left c d m w e p =
-      let r = freshRecord q f g in
-      let at : cardHeaderSize + recordSize * m ≡ recordAt (m + 1) = omega arith in
-      let on : recordAt (m + 1) + length r ≡ cardHeaderSize + recordSize * (m + 1) = omega (arith, fresh-record-long f g e q) in
+      let r = fresh_record q f g in
+      let at : card_header_size + record_size * m ≡ record_at (m + 1) = omega arith in
+      let on : record_at (m + 1) + length r ≡ card_header_size + record_size * (m + 1) = omega (arith, fresh-record-long f g e q) in
       record {
         long = rw (p, length-with-record) w.long;
-        whole = w.whole ∙ rw (at, put-append (recordAt (m + 1)) r (freshRecords f g left) c, on, record-put c (m + 1) _ g (fresh-shaped q f e), p);
+        whole = w.whole ∙ rw (at, put-append (record_at (m + 1)) r (fresh_records f g left) c, on, record-put c (m + 1) _ g (fresh-shaped q f e), p);
       }
 
-  filled-end : (c : List ℕ) (m : ℕ) → Filled f g qs c₀ [] c m → c ≡ put cardHeaderSize (freshRecords f g qs) c₀
-  unfolding freshRecords
+  filled-end : (c : List ℕ) (m : ℕ) → Filled f g qs c₀ [] c m → c ≡ put card_header_size (fresh_records f g qs) c₀
+  unfolding fresh_records
   filled-end c m w = sym (w.whole ∙ put-nil _ c)
 
 -- setup: the counts that are left are those that are given from the m-th on
@@ -73,64 +73,64 @@ pub writing_start : (f qs c : List ℕ) → Writing f qs c c 0
 writing_start f qs c = record { count = omega arith; filled = filled-start f 0 qs c }
 
 module _ (f qs c₀ c : List ℕ) (m : ℕ) (w : Writing f qs c₀ c m) where
-  pub writing-has : length c₀ ≡ cardSize (length qs) → m < length qs → HasRecord c (m + 1)
+  pub writing-has : length c₀ ≡ card_size (length qs) → m < length qs → HasRecord c (m + 1)
   writing-has e h = let l = w.filled.long in record { low = omega arith; high = omega arith }
 
-  pub writing-on : (x : Member) (d : List ℕ) → length f ≡ featuresSize → m < length qs → x ≡ fresh_of (get_or qs m 0) f → d ≡ withRecord c (m + 1) x 0
+  pub writing-on : (x : Member) (d : List ℕ) → length f ≡ features_size → m < length qs → x ≡ fresh_of (get_or qs m 0) f → d ≡ with_record c (m + 1) x 0
       → Writing f qs c₀ d (m + 1)
   writing-on x d e h q p =
       record { count = omega arith; filled = filled_on f 0 qs c₀ (get_or qs m 0) (drop (m + 1) qs) c d m (rw (add-one m, ← drop-cons qs m 0 h) w.filled) e (p ∙ rw q) }
 
-  pub writing-end : length qs ≤ m → c ≡ put cardHeaderSize (freshRecords f 0 qs) c₀
+  pub writing-end : length qs ≤ m → c ≡ put card_header_size (fresh_records f 0 qs) c₀
   writing-end h = filled-end f 0 qs c₀ c m (rw drop_of_length-le at w.filled)
 
 -- card reset: they are those that the records behind have
 pub record Resetting (f : List ℕ) (g : ℕ) (c₀ c : List ℕ) (n m : ℕ) : Type 0 where
   pub count : m ≤ n
-  pub filled : Filled f g (countsFrom c₀ 1 n) c₀ (countsFrom c (m + 1) (n - m)) c m
+  pub filled : Filled f g (counts_from c₀ 1 n) c₀ (counts_from c (m + 1) (n - m)) c m
 
 pub resetting-start : (f : List ℕ) (g : ℕ) (c : List ℕ) (n : ℕ) → Resetting f g c c n 0
-resetting-start f g c n = record { count = omega arith; filled = rw sub-zero (filled-start f g (countsFrom c 1 n) c) }
+resetting-start f g c n = record { count = omega arith; filled = rw sub-zero (filled-start f g (counts_from c 1 n) c) }
 
 module _ (f : List ℕ) (g : ℕ) (c₀ c : List ℕ) (n m : ℕ) (w : Resetting f g c₀ c n m) where
-  pub resetting-has : length c₀ ≡ cardSize n → m < n → HasRecord c (m + 1)
+  pub resetting-has : length c₀ ≡ card_size n → m < n → HasRecord c (m + 1)
   resetting-has e h = let l = w.filled.long in record { low = omega arith; high = omega arith }
 
-  pub resetting-on : (d : List ℕ) → length f ≡ featuresSize → m < n → d ≡ withFresh c (m + 1) f g → Resetting f g c₀ d n (m + 1)
+  pub resetting-on : (d : List ℕ) → length f ≡ features_size → m < n → d ≡ with_fresh c (m + 1) f g → Resetting f g c₀ d n (m + 1)
   resetting-on d e h p =
-      let left : countsFrom d (m + 1 + 1) (n - (m + 1)) ≡ countsFrom c (m + 1 + 1) (n - (m + 1)) =
+      let left : counts_from d (m + 1 + 1) (n - (m + 1)) ≡ counts_from c (m + 1 + 1) (n - (m + 1)) =
       rw p (counts-alike c _ (m + 1 + 1) (n - (m + 1)) λ j l i.
       ap (λ (y : Member). y.queues) (record-other c (m + 1) _ g j (omega arith) (omega arith) (λ q. omega arith))) in
       record {
         count = omega arith;
         filled =
-            rw left (filled_on f g (countsFrom c₀ 1 n) c₀ (memberIn c (m + 1)).queues (countsFrom c (m + 1 + 1) (n - (m + 1))) c d m
+            rw left (filled_on f g (counts_from c₀ 1 n) c₀ (member_in c (m + 1)).queues (counts_from c (m + 1 + 1) (n - (m + 1))) c d m
             (rw (← counts_step c (m + 1) n m h) w.filled) e p);
       }
 
-  pub resetting-end : n ≤ m → c ≡ put cardHeaderSize (freshRecords f g (countsFrom c₀ 1 n)) c₀
-  unfolding countsFrom
-  resetting-end h = let z : n - m ≡ 0 = omega arith in filled-end f g (countsFrom c₀ 1 n) c₀ c m (rw z at w.filled)
+  pub resetting-end : n ≤ m → c ≡ put card_header_size (fresh_records f g (counts_from c₀ 1 n)) c₀
+  unfolding counts_from
+  resetting-end h = let z : n - m ≡ 0 = omega arith in filled-end f g (counts_from c₀ 1 n) c₀ c m (rw z at w.filled)
 
 -- ---- the header and the records are the whole card ----
 
-pub fresh-written : (s : Setup) (qs c₀ c₁ c₂ : List ℕ) (g : ℕ) → length s.features ≡ featuresSize → length c₀ ≡ cardSize (length qs)
-    → c₁ ≡ put 0 (freshHeader s) c₀ → c₂ ≡ put cardHeaderSize (freshRecords s.features g qs) c₁ → c₂ ≡ freshCard s qs g
-unfolding freshCard
+pub fresh-written : (s : Setup) (qs c₀ c₁ c₂ : List ℕ) (g : ℕ) → length s.features ≡ features_size → length c₀ ≡ card_size (length qs)
+    → c₁ ≡ put 0 (fresh_header s) c₀ → c₂ ≡ put card_header_size (fresh_records s.features g qs) c₁ → c₂ ≡ fresh_card s qs g
+unfolding fresh_card
 fresh-written s qs c₀ c₁ c₂ g e l p q =
-    let h : 0 + length (freshHeader s) ≡ cardHeaderSize = omega (arith, header-long s e) in
-    q ∙ rw (p, ← h) (sym (put-append 0 (freshHeader s) _ c₀) ∙ put_all (freshCard s qs g) c₀ (length-fresh s qs g e ∙ sym l))
+    let h : 0 + length (fresh_header s) ≡ card_header_size = omega (arith, header-long s e) in
+    q ∙ rw (p, ← h) (sym (put-append 0 (fresh_header s) _ c₀) ∙ put_all (fresh_card s qs g) c₀ (length-fresh s qs g e ∙ sym l))
 
 -- a header is put before all members
-header-apart : (h c : List ℕ) (k : ℕ) → length h ≡ cardHeaderSize → memberIn (put 0 h c) k ≡ memberIn c k
-unfolding memberIn recordBytes
-header-apart h c k e = ap memberOf (bytesAt-after (recordAt k + memberBytesAt) memberSize 0 h c (omega arith))
+header-apart : (h c : List ℕ) (k : ℕ) → length h ≡ card_header_size → member_in (put 0 h c) k ≡ member_in c k
+unfolding member_in record_bytes
+header-apart h c k e = ap member_of (bytes_at-after (record_at k + member_bytes_at) member_size 0 h c (omega arith))
 
 -- so the counts are read as they were
-pub fresh-rewritten : (s : Setup) (c c₁ d : List ℕ) (n g : ℕ) → length s.features ≡ featuresSize → length c ≡ cardSize s.members → n ≡ s.members
-    → c₁ ≡ put 0 (freshHeader s) c → d ≡ put cardHeaderSize (freshRecords s.features g (countsFrom c₁ 1 n)) c₁
-    → d ≡ freshCard s (countsFrom c 1 s.members) g
+pub fresh-rewritten : (s : Setup) (c c₁ d : List ℕ) (n g : ℕ) → length s.features ≡ features_size → length c ≡ card_size s.members → n ≡ s.members
+    → c₁ ≡ put 0 (fresh_header s) c → d ≡ put card_header_size (fresh_records s.features g (counts_from c₁ 1 n)) c₁
+    → d ≡ fresh_card s (counts_from c 1 s.members) g
 fresh-rewritten s c c₁ d n g e l k p q =
-    let same : countsFrom c₁ 1 n ≡ countsFrom c 1 s.members =
+    let same : counts_from c₁ 1 n ≡ counts_from c 1 s.members =
     rw (p, k) (counts-alike c _ 1 _ λ j a b. ap (λ (y : Member). y.queues) (header-apart _ c j (header-long s e))) in
     fresh-written s _ c c₁ d g e (rw counts-long l) p (q ∙ rw same)

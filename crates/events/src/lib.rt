@@ -2,10 +2,10 @@
 ghost use Rattle.std.specs.Prelude.{◌≡◌, ◌≤◌, eqb, length};
 ghost use Rattle.theory.specs.Logic.{◌and◌};
 ghost use Rattle.theory.specs.Bytes.{put};
-ghost use Rattle.member.specs.Member.{featuresSize};
-ghost use Rattle.card.specs.Layout.{cardHeaderSize, cardSize, HasRecord, countsFrom, freshHeader, freshRecords, freshCard};
-ghost use Rattle.setups.specs.Setup.{mostMembers, inNumbers};
-ghost use Rattle.events.specs.Events.{InBounds, setupWith, setUp, setUpOf, setUpFrom, memberAnswer, withHandedBack, handBack, wipe, resetCard, storeIn, store};
+ghost use Rattle.member.specs.Member.{features_size};
+ghost use Rattle.card.specs.Layout.{card_header_size, card_size, HasRecord, counts_from, fresh_header, fresh_records, fresh_card};
+ghost use Rattle.setups.specs.Setup.{most_members, in_numbers};
+ghost use Rattle.events.specs.Events.{InBounds, setup_with, set_up, set_up_of, set_up_from, member_answer, with_handed_back, hand_back, wipe, reset_card, store_in, store};
 
 use card::{FEATURES_AT, IN_USE_AT, Setup};
 use member::{FEATURES_SIZE, Member};
@@ -15,8 +15,8 @@ use protocol::{EventAnswer, FRESH_MASK};
 
 // The header of a fresh card.
 fn write_header(card: &mut [u8], s: Setup)
-    requires { cardHeaderSize ≤ length card.old }
-    ensures { card.new ≡ put 0 (freshHeader s) card.old }
+    requires { card_header_size ≤ length card.old }
+    ensures { card.new ≡ put 0 (fresh_header s) card.old }
 {
     let numbers = [s.members, s.gets, s.sets];
     let features = s.features;
@@ -27,8 +27,8 @@ fn write_header(card: &mut [u8], s: Setup)
 
 // The records of fresh members with these queue counts, on a new card.
 fn write_members(card: &mut [u8], queues: &[u8], features: [u8; FEATURES_SIZE])
-    requires { length card.old ≡ cardSize (length queues.now) }
-    ensures { card.new ≡ put cardHeaderSize (freshRecords features 0 queues.now) card.old }
+    requires { length card.old ≡ card_size (length queues.now) }
+    ensures { card.new ≡ put card_header_size (fresh_records features 0 queues.now) card.old }
 {
     let mut m = 0;
     while m < queues.len() {
@@ -40,8 +40,8 @@ fn write_members(card: &mut [u8], queues: &[u8], features: [u8; FEATURES_SIZE])
 
 // Every byte of a new card.
 fn write_fresh(card: &mut [u8], s: Setup, queues: &[u8])
-    requires { length card.old ≡ cardSize (length queues.now) }
-    ensures { card.new ≡ freshCard s queues.now 0 }
+    requires { length card.old ≡ card_size (length queues.now) }
+    ensures { card.new ≡ fresh_card s queues.now 0 }
 {
     write_header(card, s);
     let features = s.features;
@@ -57,7 +57,7 @@ fn is_setup(
     features: usize,
     buffer: usize,
 ) -> bool
-    ensures { result ≡ inNumbers members queues.now gets sets and eqb features featuresSize and eqb buffer (cardSize members) }
+    ensures { result ≡ in_numbers members queues.now gets sets and eqb features features_size and eqb buffer (card_size members) }
 {
     if !setups::in_numbers(members, queues, gets, sets) {
         return false;
@@ -70,8 +70,8 @@ fn is_setup(
 
 // The setup with these numbers, which fit its bytes.
 fn setup_with(members: u64, gets: u64, sets: u64, features: &[u8]) -> Setup
-    requires { InBounds members gets sets × (length features.now ≡ featuresSize) }
-    ensures { result ≡ setupWith members gets sets features.now }
+    requires { InBounds members gets sets × (length features.now ≡ features_size) }
+    ensures { result ≡ setup_with members gets sets features.now }
 {
     let mut own = [0u8; FEATURES_SIZE];
     wire::copy(&mut own, 0, features);
@@ -92,7 +92,7 @@ pub fn set_up(
     sets: u64,
     features: &[u8],
 ) -> EventAnswer
-    ensures { (result, card.new) ≡ setUp card.old members queues.now gets sets features.now }
+    ensures { (result, card.new) ≡ set_up card.old members queues.now gets sets features.now }
 {
     if !is_setup(members, queues, gets, sets, features.len(), card.len()) {
         wire::zero(card);
@@ -105,8 +105,8 @@ pub fn set_up(
 
 // Setup by value, whose counts past the last member's are not read.
 fn set_up_of(card: &mut [u8], s: setups::Setup) -> EventAnswer
-    requires { s.members ≤ mostMembers }
-    ensures { (result, card.new) ≡ setUpOf card.old s }
+    requires { s.members ≤ most_members }
+    ensures { (result, card.new) ≡ set_up_of card.old s }
 {
     let queues = s.queues;
     let features = s.features;
@@ -122,7 +122,7 @@ fn set_up_of(card: &mut [u8], s: setups::Setup) -> EventAnswer
 
 // Setup of the bytes of a packed setup, of either version.
 pub fn set_up_from(card: &mut [u8], setup: &[u8]) -> EventAnswer
-    ensures { (result, card.new) ≡ setUpFrom card.old setup.now }
+    ensures { (result, card.new) ≡ set_up_from card.old setup.now }
 {
     let read = setups::read(setup);
     let answer = read.answer;
@@ -138,7 +138,7 @@ pub fn set_up_from(card: &mut [u8], setup: &[u8]) -> EventAnswer
 
 // An event for one member: the first refusal that applies.
 pub fn member_answer(card: &[u8], m: u64) -> EventAnswer
-    ensures { result ≡ memberAnswer card.now m }
+    ensures { result ≡ member_answer card.now m }
 {
     if !card::is_sound(card) {
         return EventAnswer::NotSound;
@@ -152,7 +152,7 @@ pub fn member_answer(card: &[u8], m: u64) -> EventAnswer
 // Member m is handed back, and nothing of its holding place is left.
 fn end_member(card: &mut [u8], m: u64)
     requires { HasRecord card.old m }
-    ensures { card.new ≡ withHandedBack card.old m }
+    ensures { card.new ≡ with_handed_back card.old m }
 {
     let x = card::load_member(card, m).hand_back();
     card::save_member(card, m, x);
@@ -161,7 +161,7 @@ fn end_member(card: &mut [u8], m: u64)
 
 // Hand back, the first half of a reset: the member lets go of its guest, whose parts stay until the wipe.
 pub fn hand_back(card: &mut [u8], m: u64) -> EventAnswer
-    ensures { (result, card.new) ≡ handBack card.old m }
+    ensures { (result, card.new) ≡ hand_back card.old m }
 {
     let a = member_answer(card, m);
     if !protocol::is_event_done(a) {
@@ -193,8 +193,8 @@ pub fn wipe(card: &mut [u8], m: u64, generation: u32) -> EventAnswer
 
 // The records of members 1 to n become fresh, each with the queue count that it has.
 fn reset_members(card: &mut [u8], n: u64, features: [u8; FEATURES_SIZE], generation: u32)
-    requires { length card.old ≡ cardSize n }
-    ensures { card.new ≡ put cardHeaderSize (freshRecords features generation (countsFrom card.old 1 n)) card.old }
+    requires { length card.old ≡ card_size n }
+    ensures { card.new ≡ put card_header_size (fresh_records features generation (counts_from card.old 1 n)) card.old }
 {
     let mut m: u64 = 0;
     while m < n {
@@ -205,8 +205,8 @@ fn reset_members(card: &mut [u8], n: u64, features: [u8; FEATURES_SIZE], generat
 
 // Every byte of a card with this setup, which holds the queue counts of its members.
 fn rewrite(card: &mut [u8], s: Setup, generation: u32)
-    requires { length card.old ≡ cardSize s.members }
-    ensures { card.new ≡ freshCard s (countsFrom card.old 1 s.members) generation }
+    requires { length card.old ≡ card_size s.members }
+    ensures { card.new ≡ fresh_card s (counts_from card.old 1 s.members) generation }
 {
     write_header(card, s);
     let features = s.features;
@@ -215,7 +215,7 @@ fn rewrite(card: &mut [u8], s: Setup, generation: u32)
 
 // Reset of the whole card: as after setup, with this generation for all members.
 pub fn reset_card(card: &mut [u8], generation: u32) -> EventAnswer
-    ensures { (result, card.new) ≡ resetCard card.old generation }
+    ensures { (result, card.new) ≡ reset_card card.old generation }
 {
     if !card::is_sound(card) {
         return EventAnswer::NotSound;
@@ -228,7 +228,7 @@ pub fn reset_card(card: &mut [u8], generation: u32) -> EventAnswer
 // One part of member m is set, with the selector bytes that its type names.
 fn store_in(card: &mut [u8], m: u64, t: u16, selector: u64, value: &[u8]) -> EventAnswer
     requires { HasRecord card.old m }
-    ensures { (result, card.new) ≡ storeIn card.old m t selector value.now }
+    ensures { (result, card.new) ≡ store_in card.old m t selector value.now }
 {
     let x = card::load_member(card, m);
     let a = values::store_answer(x.queues, t, selector, value);

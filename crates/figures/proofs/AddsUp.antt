@@ -6,15 +6,15 @@ use lib.Dec.{eqb}
 use Rattle.theory.specs.Logic.{indicator}
 use Rattle.rules.specs.declared.Cause.{Cause}
 use Rattle.rules.specs.declared.Cause.TheVariants.{Accepted, Cut, Unknown, Length, Size, Features, Twice}
-use Rattle.rules.specs.Rules.{causeOf}
-use Rattle.tally.specs.Rows.{causeLine, rows}
+use Rattle.rules.specs.Rules.{cause_of}
+use Rattle.tally.specs.Rows.{cause_line, rows}
 use Rattle.stream.specs.Stream.{whole, torn, capture, long}
 use Rattle.stream.specs.Totals.{total, totals}
 use Rattle.figures.specs.Claims.{sum, AddsUp}
 
 -- whether a capture is counted in the line i
 in-line : Cause → ℕ → ℕ
-in-line a i = indicator (eqb (causeLine a) i)
+in-line a i = indicator (eqb (cause_line a) i)
 
 -- it is in one of the eight
 one : (a : Cause)
@@ -32,5 +32,5 @@ pub adds-up : AddsUp
 unfolding totals total rows sum indicator in-line
 adds-up q features whole = refl
 adds-up q features torn = refl
-adds-up q features (capture c cs) = omega (arith, adds-up q features cs, one (causeOf q features c))
+adds-up q features (capture c cs) = omega (arith, adds-up q features cs, one (cause_of q features c))
 adds-up q features (long cs) = omega (arith, adds-up q features cs)

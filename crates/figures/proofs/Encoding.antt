@@ -13,64 +13,64 @@ use Rattle.theory.proofs.Tests.{by_cases}
 use Rattle.theory.proofs.Lists.{length-zero}
 use Rattle.wire.specs.Le.{le, bytes, number}
 use Rattle.wire.proofs.Le.{length-bytes, le_bytes, number-below}
-use Rattle.stream.specs.Stream.{Captures, whole, torn, capture, long, captureThen, capturesIn}
+use Rattle.stream.specs.Stream.{Captures, whole, torn, capture, long, capture_then, captures_in}
 use Rattle.stream.proofs.Rest.{capture-come, long-come, long-opened, length-come}
-use Rattle.figures.specs.Encoding.{encoded, Encodable, Left, nothing, inLength, inCapture, Ending, fewer, asMany, isLong, Apart}
+use Rattle.figures.specs.Encoding.{encoded, Encodable, Left, nothing, in_length, in_capture, Ending, fewer, as_many, is_long, Apart}
 
 -- ---- joined captures are read one by one ----
 
 -- these captures, and the end
-unfoldable pub capturesOf : List (List ℕ) → Bool → Captures
-capturesOf [] true = whole
-capturesOf [] false = torn
-capturesOf (c ∷ cs) ended = if isLong c then long (capturesOf cs ended) else capture c (capturesOf cs ended)
+unfoldable pub captures_of : List (List ℕ) → Bool → Captures
+captures_of [] true = whole
+captures_of [] false = torn
+captures_of (c ∷ cs) ended = if is_long c then long (captures_of cs ended) else capture c (captures_of cs ended)
 
 number-bytes : (k : ℕ) → k < 4294967296 → number 0 4 (bytes 4 k) ≡ k
 unfolding number
 number-bytes k h = rw (take_all 4 (bytes 4 k) (omega (arith, length-bytes 4 k))) (le_bytes 4 k h)
 
 module _ (n : ℕ) (c l : List ℕ) (h : length c < 4294967296) where
-  one-come : capturesIn (suc n) (bytes 4 (length c) ++ (c ++ l))
-      ≡ (if isLong c then long (capturesIn n l) else capture c (capturesIn n l))
-  unfolding isLong if◌then◌else◌
+  one-come : captures_in (suc n) (bytes 4 (length c) ++ (c ++ l))
+      ≡ (if is_long c then long (captures_in n l) else capture c (captures_in n l))
+  unfolding is_long if◌then◌else◌
   one-come =
       let z : suc n - 1 ≡ n = omega arith in
       length-come (suc n) (bytes 4 (length c)) (c ++ l) (length-bytes 4 (length c)) (omega arith)
       ∙ rw (number-bytes (length c) h, z) (by_cases (ltb 4064 (length c))
       (λ e.
       let k : 4064 < length c = ltb-true _ _ e in
-      rw e (long-opened (length c) (c ++ l) (capturesIn n) (lt-leb (length c) 4064 k)
-      ∙ long-come (length c) c l (capturesIn n) refl))
-      (λ e. rw e (capture-come (length c) c l (capturesIn n) refl (ltb-false _ _ e))))
+      rw e (long-opened (length c) (c ++ l) (captures_in n) (lt-leb (length c) 4064 k)
+      ∙ long-come (length c) c l (captures_in n) refl))
+      (λ e. rw e (capture-come (length c) c l (captures_in n) refl (ltb-false _ _ e))))
 
-left-none : (n : ℕ) (rest : List ℕ) (ended : Bool) → Left rest ended → capturesIn (suc n) rest ≡ capturesOf [] ended
-unfolding capturesIn capturesOf unless◌answer◌then◌ captureThen
+left-none : (n : ℕ) (rest : List ℕ) (ended : Bool) → Left rest ended → captures_in (suc n) rest ≡ captures_of [] ended
+unfolding captures_in captures_of unless◌answer◌then◌ capture_then
 left-none n rest ended nothing = refl
-left-none n rest ended (inLength h k) = rw (lt-ltb 0 (length rest) h, lt-leb 4 (length rest) k)
-left-none n rest ended (inCapture h k) =
+left-none n rest ended (in_length h k) = rw (lt-ltb 0 (length rest) h, lt-leb 4 (length rest) k)
+left-none n rest ended (in_capture h k) =
     let s : 0 < length rest = omega arith in
     let d : length (drop 4 rest) < number 0 4 rest = rw length-drop (omega arith) in
     rw (lt-ltb 0 (length rest) s, le-leb 4 (length rest) h, lt-leb (number 0 4 rest) (length (drop 4 rest)) d)
 
-taken_none : (n : ℕ) (rest : List ℕ) (ended : Bool) → Ending n [] rest ended → capturesIn n rest ≡ capturesOf [] ended
-unfolding capturesIn capturesOf
+taken_none : (n : ℕ) (rest : List ℕ) (ended : Bool) → Ending n [] rest ended → captures_in n rest ≡ captures_of [] ended
+unfolding captures_in captures_of
 taken_none zero rest ended (fewer h l) = absurd (omega arith)
-taken_none zero rest ended (asMany e) = refl
+taken_none zero rest ended (as_many e) = refl
 taken_none (suc n) rest ended (fewer h l) = left-none n rest ended l
-taken_none (suc n) rest ended (asMany e) = absurd (omega arith)
+taken_none (suc n) rest ended (as_many e) = absurd (omega arith)
 
 some_left : (n : ℕ) (c : List ℕ) (cs : List (List ℕ)) (rest : List ℕ) (ended : Bool) → Ending n (c ∷ cs) rest ended → 0 < n
 some_left n c cs rest ended (fewer h l) = omega arith
-some_left n c cs rest ended (asMany e) = omega arith
+some_left n c cs rest ended (as_many e) = omega arith
 
 one_less : (n : ℕ) (c : List ℕ) (cs : List (List ℕ)) (rest : List ℕ) (ended : Bool)
     → Ending (suc n) (c ∷ cs) rest ended → Ending n cs rest ended
 one_less n c cs rest ended (fewer h l) = fewer {n = n} {cs = cs} (omega arith) l
-one_less n c cs rest ended (asMany e) = asMany {n = n} {cs = cs} (omega arith)
+one_less n c cs rest ended (as_many e) = as_many {n = n} {cs = cs} (omega arith)
 
 pub taken : (cs : List (List ℕ)) (n : ℕ) (rest : List ℕ) (ended : Bool) → Encodable cs → Ending n cs rest ended
-    → capturesIn n (encoded cs ++ rest) ≡ capturesOf cs ended
-unfolding encoded capturesOf
+    → captures_in n (encoded cs ++ rest) ≡ captures_of cs ended
+unfolding encoded captures_of
 taken [] n rest ended f e = taken_none n rest ended e
 taken (c ∷ cs) zero rest ended f e = absurd (omega (arith, some_left 0 c cs rest ended e))
 taken (c ∷ cs) (suc n) rest ended f e =
@@ -92,7 +92,7 @@ bytes-number (suc n) (b ∷ l) small h =
 one_more : (n : ℕ) (c : List ℕ) (cs : List (List ℕ)) (rest : List ℕ) (ended : Bool)
     → Ending n cs rest ended → Ending (suc n) (c ∷ cs) rest ended
 one_more n c cs rest ended (fewer h l) = fewer {n = suc n} {cs = c ∷ cs} (omega arith) l
-one_more n c cs rest ended (asMany e) = asMany {n = suc n} {cs = c ∷ cs} (omega arith)
+one_more n c cs rest ended (as_many e) = as_many {n = suc n} {cs = c ∷ cs} (omega arith)
 
 none_before : (n : ℕ) (l : List ℕ) (ended : Bool) → Ending n [] l ended → Apart n l
 unfolding encoded
@@ -146,7 +146,7 @@ left_here : (n : ℕ) (l : List ℕ) (ended : Bool) → Left l ended → Apart (
 left_here n l ended t = none_before (suc n) l ended (fewer {n = suc n} {cs = []} (omega arith) t)
 
 pub apart : (n : ℕ) (l : List ℕ) → ((i : ℕ) → get_or l i 0 < 256) → Apart n l
-apart zero l small = none_before 0 l false (asMany refl)
+apart zero l small = none_before 0 l false (as_many refl)
 apart (suc n) [] small = left_here n [] true nothing
 apart (suc n) (b ∷ l) small =
     by_cases (leb 4 (length (b ∷ l)))
@@ -155,5 +155,5 @@ apart (suc n) (b ∷ l) small =
     by_cases (leb (4 + number 0 4 (b ∷ l)) (length (b ∷ l)))
     (λ f. one-before n (b ∷ l) small h (leb-true _ _ f)
     (apart n (others (b ∷ l)) (others-small (b ∷ l) small)))
-    (λ f. left_here n (b ∷ l) false (inCapture h (leb-false _ _ f))))
-    (λ e. left_here n (b ∷ l) false (inLength (omega arith) (leb-false _ _ e)))
+    (λ f. left_here n (b ∷ l) false (in_capture h (leb-false _ _ f))))
+    (λ e. left_here n (b ∷ l) false (in_length (omega arith) (leb-false _ _ e)))

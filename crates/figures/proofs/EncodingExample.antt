@@ -5,30 +5,30 @@ use mathlib.Core.List.{List, [], ◌∷◌, ◌++◌}
 use Prim.Native.Nat.{ℕ, zero, suc, ◌+◌, ◌<◌}
 use native.Mathlib.Omega.{arith}
 use lib.ListN.{length, get_or, replicate, length-append, length-replicate}
-use Rattle.theory.proofs.Lists.{getD-same}
+use Rattle.theory.proofs.Lists.{get_or-same}
 use Rattle.wire.specs.Le.{le, bytes, number}
 use Rattle.wire.proofs.Le.{length-bytes}
 use Rattle.setups.specs.declared.Setup.{Setup}
-use Rattle.setups.specs.Setup.{setupWith}
-use Rattle.setups.specs.Reading.{readAs, readVersion1}
+use Rattle.setups.specs.Setup.{setup_with}
+use Rattle.setups.specs.Reading.{read_as, read_version1}
 use Rattle.setups.specs.Examples.{bench, zeros}
-use Rattle.figures.specs.Sheet.{sheetOf}
-use Rattle.figures.specs.Encoding.{encoded, Encodable, Left, nothing, inLength, inCapture, Ending, fewer, asMany, Whole, EndsIn, endTorn}
-use Rattle.figures.specs.Examples.{partBytes, status}
+use Rattle.figures.specs.Sheet.{sheet_of}
+use Rattle.figures.specs.Encoding.{encoded, Encodable, Left, nothing, in_length, in_capture, Ending, fewer, as_many, Whole, EndsIn, end_torn}
+use Rattle.figures.specs.Examples.{part_bytes, status}
 use Rattle.figures.proofs.Sheets.{model}
 use Rattle.figures.proofs.SheetOfCaptures.{sheet-of-captures}
 
 abbrev setup : Setup
-setup = setupWith 2 (1 ∷ 1 ∷ []) 1 1 zeros
+setup = setup_with 2 (1 ∷ 1 ∷ []) 1 1 zeros
 
-read-bench : readVersion1 bench ≡ readAs setup
+read-bench : read_version1 bench ≡ read_as setup
 unfolding model
 read-bench = refl
 
 -- ---- one capture: nothing follows, or two bytes of a length, or a length of 17 and one byte ----
 
 one-fits : Encodable (status ∷ [])
-unfolding status partBytes bytes
+unfolding status part_bytes bytes
 one-fits = record { at = fits }
   where
     fits : (i : ℕ) → length (get_or (status ∷ []) i []) < 4294967296
@@ -42,14 +42,14 @@ ends-between : Ending 4294967295 (status ∷ []) [] true
 ends-between = fewer one-few nothing
 
 two_bytes : Left (17 ∷ 0 ∷ []) false
-two_bytes = inLength {rest = 17 ∷ 0 ∷ []} (omega arith) (omega arith)
+two_bytes = in_length {rest = 17 ∷ 0 ∷ []} (omega arith) (omega arith)
 
 ends-in-length : Ending 4294967295 (status ∷ []) (17 ∷ 0 ∷ []) false
 ends-in-length = fewer one-few two_bytes
 
 five-bytes : Left (17 ∷ 0 ∷ 0 ∷ 0 ∷ 3 ∷ []) false
 unfolding number le
-five-bytes = inCapture {rest = 17 ∷ 0 ∷ 0 ∷ 0 ∷ 3 ∷ []} (omega arith) (omega arith)
+five-bytes = in_capture {rest = 17 ∷ 0 ∷ 0 ∷ 0 ∷ 3 ∷ []} (omega arith) (omega arith)
 
 ends-in-capture : Ending 4294967295 (status ∷ []) (17 ∷ 0 ∷ 0 ∷ 0 ∷ 3 ∷ []) false
 ends-in-capture = fewer one-few five-bytes
@@ -77,13 +77,13 @@ length-empties n = length-replicate n []
 
 empties-fit : (n : ℕ) → Encodable (empties n)
 unfolding empties
-empties-fit n = record { at = λ i. rw (getD-same {A = List ℕ} n i []) (omega arith) }
+empties-fit n = record { at = λ i. rw (get_or-same {A = List ℕ} n i []) (omega arith) }
 
 still-whole : (n : ℕ) → Ending (suc n) (empties n) [] true
 still-whole n = let h : length (empties n) < suc n = omega (arith, length-empties n) in fewer h nothing
 
 torn-after : (n : ℕ) (rest : List ℕ) → Ending n (empties n) rest false
-torn-after n rest = asMany (length-empties n)
+torn-after n rest = as_many (length-empties n)
 
 last-whole : Ending 4294967295 (empties 4294967294) [] true
 last-whole = still-whole 4294967294

@@ -10,21 +10,21 @@ use lib.Dec.{ltb}
 use lib.ListN.{length, get_or}
 use Rattle.theory.specs.Logic.{◌and◌, within}
 use Rattle.theory.proofs.Tests.{by_cases, and_i, both, inside}
-use Rattle.decimal.specs.Decimal.{lastDigit, decimal}
+use Rattle.decimal.specs.Decimal.{last_digit, decimal}
 use Rattle.decimal.proofs.Digits.{decimal-one, decimal-more, length-one, length_more}
-use Rattle.figures.specs.Claims.{areDigits, valueFrom, Exact, ExactNumbers}
+use Rattle.figures.specs.Claims.{are_digits, value_from, Exact, ExactNumbers}
 
-last-is-digit : (n : ℕ) → within 48 57 (lastDigit n) ≡ true
-last-is-digit n = inside 48 57 (lastDigit n) (omega arith) (omega arith)
+last-is-digit : (n : ℕ) → within 48 57 (last_digit n) ≡ true
+last-is-digit n = inside 48 57 (last_digit n) (omega arith) (omega arith)
 
 -- one digit behind others
-digits_more : (ds : List ℕ) (n : ℕ) → areDigits ds ≡ true → areDigits (ds ++ (lastDigit n ∷ [])) ≡ true
-unfolding areDigits
+digits_more : (ds : List ℕ) (n : ℕ) → are_digits ds ≡ true → are_digits (ds ++ (last_digit n ∷ [])) ≡ true
+unfolding are_digits
 digits_more [] n h = and_i _ _ (last-is-digit n) refl
 digits_more (d ∷ ds) n h = let p = both _ _ h in and_i _ _ p.0 (digits_more ds n p.1)
 
-value-more : (ds : List ℕ) (m d : ℕ) → valueFrom m (ds ++ (d ∷ [])) ≡ 10 * valueFrom m ds + (d - 48)
-unfolding valueFrom
+value-more : (ds : List ℕ) (m d : ℕ) → value_from m (ds ++ (d ∷ [])) ≡ 10 * value_from m ds + (d - 48)
+unfolding value_from
 value-more [] m d = refl
 value-more (e ∷ ds) m d = value-more ds (10 * m + (e - 48)) d
 
@@ -33,7 +33,7 @@ first-same [] d h = absurd (omega arith)
 first-same (e ∷ ds) d h = refl
 
 exact_one : (n : ℕ) → n < 10 → Exact n
-unfolding areDigits valueFrom
+unfolding are_digits value_from
 exact_one n h = record {
   digits = rw (decimal-one n h) (and_i _ _ (last-is-digit n) refl);
   value = rw (decimal-one n h) (omega arith);
@@ -48,9 +48,9 @@ some-digits n =
 exact-more : (n : ℕ) → 10 ≤ n → Exact (n / 10) → Exact n
 exact-more n h x = record {
   digits = rw (decimal-more n h) (digits_more (decimal (n / 10)) n x.digits);
-  value = rw (decimal-more n h, value-more (decimal (n / 10)) 0 (lastDigit n), x.value) (omega arith);
+  value = rw (decimal-more n h, value-more (decimal (n / 10)) 0 (last_digit n), x.value) (omega arith);
   leading = λ k.
-      rw (decimal-more n h, first-same (decimal (n / 10)) (lastDigit n) (some-digits (n / 10))) (x.leading (omega arith));
+      rw (decimal-more n h, first-same (decimal (n / 10)) (last_digit n) (some-digits (n / 10))) (x.leading (omega arith));
 }
 
 exact-up-to : (f n : ℕ) → n ≤ f → Exact n

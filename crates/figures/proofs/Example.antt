@@ -10,11 +10,11 @@ use Rattle.theory.specs.Bytes.{put}
 use Rattle.wire.specs.Le.{bytes}
 use Rattle.setups.specs.declared.Setup.{Setup}
 use Rattle.setups.specs.declared.ReadAnswer.TheVariants.{Version2}
-use Rattle.setups.specs.Setup.{setupWith}
-use Rattle.setups.specs.Reading.{readAs, refusedAs}
+use Rattle.setups.specs.Setup.{setup_with}
+use Rattle.setups.specs.Reading.{read_as, refused_as}
 use Rattle.setups.specs.Examples.{bench, zeros}
 use Rattle.tally.specs.Counts.{◌plus◌}
-use Rattle.tally.specs.Rows.{longest, rowCount}
+use Rattle.tally.specs.Rows.{longest, row_count}
 use Rattle.stream.specs.declared.Progress.{Progress}
 use Rattle.stream.specs.declared.Item.TheVariants as item
 use Rattle.stream.specs.Progress as captures
@@ -22,10 +22,10 @@ use Rattle.stream.specs.Steps.{progress, awaiting, opened}
 use Rattle.stream.proofs.Ends.{started-ready}
 use Rattle.stream.proofs.Takes.{length_more, length-done, capture-more, capture-done}
 use Rattle.figures.specs.declared.State.{State}
-use Rattle.figures.specs.Sheet.{sheetOf}
-use Rattle.figures.specs.State.{waiting, refused, counting, finishedOf, over, Took}
+use Rattle.figures.specs.Sheet.{sheet_of}
+use Rattle.figures.specs.State.{waiting, refused, counting, finished_of, over, Took}
 use Rattle.figures.specs.Encoding.{encoded}
-use Rattle.figures.specs.Examples.{partBytes, status}
+use Rattle.figures.specs.Examples.{part_bytes, status}
 use Rattle.figures.specs.Claims.{Fed, none, next, joined}
 use Rattle.figures.proofs.Taking.{setup-more, setup-whole, open-refused, open-taken, captures-taken}
 use Rattle.figures.proofs.HoweverCut.{however-cut}
@@ -41,7 +41,7 @@ unfolding model
 took-second =
     setup-whole (waiting 0) buffer second (however-cut.starts buffer refl) refl (omega arith) (put 0 second buffer) refl refused
     (put 0 second buffer)
-    (open-refused (put 0 second buffer) (0 ∷ []) refl (refusedAs Version2) refl 1 refl refused refl (λ e. omega arith))
+    (open-refused (put 0 second buffer) (0 ∷ []) refl (refused_as Version2) refl 1 refl refused refl (λ e. omega arith))
 
 fed-second : Fed (waiting 0) buffer (second ∷ []) refused (put 0 second buffer)
 fed-second = next took-second none
@@ -85,10 +85,10 @@ took-1 =
     (omega arith)
 
 abbrev setup : Setup
-setup = setupWith 2 (1 ∷ 1 ∷ []) 1 1 zeros
+setup = setup_with 2 (1 ∷ 1 ∷ []) 1 1 zeros
 
 abbrev none-counted : List ℕ
-none-counted = replicate rowCount 0
+none-counted = replicate row_count 0
 
 abbrev taking : Progress → State
 taking p = counting 1 zeros p
@@ -131,7 +131,7 @@ took-2 : Took (waiting 5) (put 0 chunk1 buffer) chunk2 (taking p3) buffer3
 unfolding model
 took-2 =
     setup-whole (waiting 5) (put 0 chunk1 buffer) chunk2 took-1.ready refl (omega arith) buffer2 refl (taking p3) buffer3
-    (open-taken buffer2 length1 refl (readAs setup) refl 0 refl captures.started (taking p3) buffer3 refl
+    (open-taken buffer2 length1 refl (read_as setup) refl 0 refl captures.started (taking p3) buffer3 refl
     (captures-taken 1 zeros captures.started buffer2 length1 p3 buffer3 (half_length refl)) refl)
 
 whole_length : captures.Took 1 zeros p3 buffer3 length2 p4 buffer4
@@ -164,6 +164,6 @@ fed-cut : Fed (waiting 0) buffer (chunk1 ∷ chunk2 ∷ chunk3 ∷ chunk4 ∷ []
 fed-cut = next took-1 (next took-2 (next took-3 (next took-4 none)))
 
 -- so that what is written is the sheet of the setup and a capture of the status
-cut-sheet : finishedOf (taking p6) ≡ sheetOf (bench ++ encoded (status ∷ []))
-unfolding encoded bytes joined status partBytes
+cut-sheet : finished_of (taking p6) ≡ sheet_of (bench ++ encoded (status ∷ []))
+unfolding encoded bytes joined status part_bytes
 cut-sheet = however-cut.ends buffer _ _ _ refl fed-cut

@@ -10,14 +10,14 @@ use lib.ListN.{length, take}
 use lib.Seq.{take_all, length-take-le}
 use Rattle.theory.specs.Logic.{if◌then◌else◌, unless◌answer◌then◌}
 use Rattle.theory.proofs.Tests.{by_cases, and-false, false-and}
-use Rattle.setups.specs.Setup.{featuresSize}
-use Rattle.setups.specs.Reading.{versionIn, headSize, headRight, isVersion1, takeVersion1, readVersion1}
+use Rattle.setups.specs.Setup.{features_size}
+use Rattle.setups.specs.Reading.{version_in, head_size, head_right, is_version1, take_version1, read_version1}
 use Rattle.tally.specs.Rows.{longest}
 use Rattle.sheet.specs.Text.{text_of}
 use Rattle.stream.specs.Progress as captures
 use Rattle.stream.proofs.Ends.{at-end, stopped-same}
-use Rattle.figures.specs.Sheet.{setupSize, refusedText, sheetUnder, sheetOf}
-use Rattle.figures.specs.State.{waiting, sheetFrom, sheetIn, finishedOf, finishedIn, over, overIn, Ready}
+use Rattle.figures.specs.Sheet.{setup_size, refused_text, sheet_under, sheet_of}
+use Rattle.figures.specs.State.{waiting, sheet_from, sheet_in, finished_of, finished_in, over, over_in, Ready}
 use Rattle.figures.specs.Claims.{Fed, none, next, joined, HoweverCut}
 use Rattle.figures.specs.declared.Phase.{Phase}
 use Rattle.figures.specs.declared.Phase.TheVariants as phase
@@ -26,37 +26,37 @@ use Rattle.figures.proofs.Taking.{without-ready, standing-is}
 
 -- ---- under 19 bytes ----
 
-no-version-1 : (l : List ℕ) → length l < setupSize → isVersion1 l ≡ false
-unfolding isVersion1
+no-version-1 : (l : List ℕ) → length l < setup_size → is_version1 l ≡ false
+unfolding is_version1
 no-version-1 l h =
-    let n : length l ≡ headSize + featuresSize → ⊥ = λ e. omega arith in
-    rw (ne_eqb (length l) (headSize + featuresSize) n, and-false (eqb (versionIn l) 1)) (false-and (headRight l))
+    let n : length l ≡ head_size + features_size → ⊥ = λ e. omega arith in
+    rw (ne_eqb (length l) (head_size + features_size) n, and-false (eqb (version_in l) 1)) (false-and (head_right l))
 
-short-refused : (l rest : List ℕ) → length l < setupSize → sheetUnder (readVersion1 l) rest ≡ refusedText
-unfolding readVersion1 takeVersion1 if◌then◌else◌ unless◌answer◌then◌
-short-refused l rest h = by_cases (eqb (versionIn l) 2) (λ e. rw e) (λ e. rw (e, no-version-1 l h))
+short-refused : (l rest : List ℕ) → length l < setup_size → sheet_under (read_version1 l) rest ≡ refused_text
+unfolding read_version1 take_version1 if◌then◌else◌ unless◌answer◌then◌
+short-refused l rest h = by_cases (eqb (version_in l) 2) (λ e. rw e) (λ e. rw (e, no-version-1 l h))
 
-short-sheet : (l : List ℕ) → length l < setupSize → sheetOf l ≡ refusedText
-unfolding sheetOf
-short-sheet l h = rw (take_all setupSize l (omega arith)) (short-refused l _ h)
+short-sheet : (l : List ℕ) → length l < setup_size → sheet_of l ≡ refused_text
+unfolding sheet_of
+short-sheet l h = rw (take_all setup_size l (omega arith)) (short-refused l _ h)
 
 -- ---- the end, and nothing more ----
 
 module _ (s : State) (b : List ℕ) (w : Ready s b) where
-  end-in : (ph : Phase) → s.phase ≡ ph → sheetIn ph s b [] ≡ finishedIn ph s
-  unfolding captures.finishedOf
+  end-in : (ph : Phase) → s.phase ≡ ph → sheet_in ph s b [] ≡ finished_in ph s
+  unfolding captures.finished_of
   end-in phase.Setup e =
-      let h : s.have < setupSize = standing-is s phase.Setup e b w in
+      let h : s.have < setup_size = standing-is s phase.Setup e b w in
       let n : length (take s.have b) ≡ s.have = length-take-le s.have b (omega (arith, w.room)) in
       rw append-nil (short-sheet (take s.have b) (omega arith))
   end-in phase.Captures e =
       ap text_of (at-end s.queues s.features s.progress b (standing-is s phase.Captures e b w))
   end-in phase.Refused e = refl
 
-  ends-here : sheetFrom s b [] ≡ finishedOf s
+  ends-here : sheet_from s b [] ≡ finished_of s
   ends-here = end-in s.phase refl
 
-over-in : (ph : Phase) (s : State) (b l : List ℕ) → overIn ph s ≡ true → sheetIn ph s b l ≡ sheetIn ph s b []
+over-in : (ph : Phase) (s : State) (b l : List ℕ) → over_in ph s ≡ true → sheet_in ph s b l ≡ sheet_in ph s b []
 over-in phase.Setup s b l h = cc
 over-in phase.Captures s b l h = ap text_of (stopped-same s.queues s.features s.progress b l h)
 over-in phase.Refused s b l h = refl
@@ -68,21 +68,21 @@ fed-ready none w = w
 fed-ready (next t f) w = fed-ready f t.ready
 
 fed-same : {s r : State} {b after : List ℕ} {chunks : List (List ℕ)} → Fed s b chunks r after → (l : List ℕ)
-    → sheetFrom r after l ≡ sheetFrom s b (joined chunks ++ l)
+    → sheet_from r after l ≡ sheet_from s b (joined chunks ++ l)
 unfolding joined
 fed-same none l = refl
 fed-same {s} {b = b} (next {chunk = c} {chunks = cs} t f) l =
-    fed-same f l ∙ t.same (joined cs ++ l) ∙ ap (sheetFrom s b) (sym (append_assoc c (joined cs) l))
+    fed-same f l ∙ t.same (joined cs ++ l) ∙ ap (sheet_from s b) (sym (append_assoc c (joined cs) l))
 
 start-ready : (b : List ℕ) → length b ≡ longest → Ready (waiting 0) b
 start-ready b h = without-ready phase.Setup 0 b h (omega arith)
 
 module _ (b : List ℕ) (chunks : List (List ℕ)) (r : State) (after : List ℕ) (h : length b ≡ longest)
     (f : Fed (waiting 0) b chunks r after) where
-  ends : finishedOf r ≡ sheetOf (joined chunks)
-  ends = sym (ends-here r after (fed-ready f (start-ready b h))) ∙ fed-same f [] ∙ ap sheetOf (append-nil (joined chunks))
+  ends : finished_of r ≡ sheet_of (joined chunks)
+  ends = sym (ends-here r after (fed-ready f (start-ready b h))) ∙ fed-same f [] ∙ ap sheet_of (append-nil (joined chunks))
 
-  stops : (l : List ℕ) → over r ≡ true → finishedOf r ≡ sheetOf (joined chunks ++ l)
+  stops : (l : List ℕ) → over r ≡ true → finished_of r ≡ sheet_of (joined chunks ++ l)
   stops l o = sym (ends-here r after (fed-ready f (start-ready b h))) ∙ sym (over-in r.phase r after l o) ∙ fed-same f l
 
 pub however-cut : HoweverCut

@@ -7,58 +7,58 @@ use Prim.Native.Nat.{ℕ}
 use lib.ListN.{replicate}
 use Rattle.theory.specs.Logic.{if◌then◌else◌, unless◌answer◌then◌, ◌and◌, ◌or◌, indicator}
 use Rattle.theory.specs.Bytes.{put, same}
-use Rattle.theory.specs.Items.{itemsFrom}
+use Rattle.theory.specs.Items.{items_from}
 use Rattle.theory.proofs.Tests.{same_true}
 use Rattle.wire.specs.Le.{le, bytes, number}
 use Rattle.decimal.specs.Decimal.{digits, decimal, line}
-use Rattle.inventory.specs.Inventory.{row_at, present, selectorOf, is_row, seek, place_of}
-use Rattle.inventory.specs.Inventory.{rows as inventoryRows}
-use Rattle.inventory.specs.Queue.{powerBelow, ringSize, queueAllowed, valueAllowed}
+use Rattle.inventory.specs.Inventory.{row_at, present, selector_of, is_row, seek, place_of}
+use Rattle.inventory.specs.Inventory.{rows as inventory_rows}
+use Rattle.inventory.specs.Queue.{power_below, ring_size, queue_allowed, value_allowed}
 use Rattle.setups.specs.Bits.{bit, bits_at}
-use Rattle.setups.specs.Setup.{noCounts, sixteen}
-use Rattle.setups.specs.Reading.{countsFrom, setupAt, headRight, isVersion1, noSetup, takeVersion1, readVersion1}
+use Rattle.setups.specs.Setup.{no_counts, sixteen}
+use Rattle.setups.specs.Reading.{counts_from, setup_at, head_right, is_version1, no_setup, take_version1, read_version1}
 use Rattle.setups.specs.Examples.{bench, zeros}
 use Rattle.setups.specs.declared.Setup.{Setup}
 use Rattle.setups.specs.declared.ReadAnswer.{ReadAnswer}
 use Rattle.setups.specs.declared.ReadAnswer.TheVariants.{Done, Version2, Refused}
-use Rattle.parts.specs.List.{header_at, stepAt, at_most, partsFrom, whole, among}
-use Rattle.rules.specs.Rules.{known, knownOrSkipped, lengthRight, sizeRight, featuresSame, every, repeated, causeIn}
-use Rattle.tally.specs.Rows.{partsOfType, rows, addsIn}
-use Rattle.sheet.specs.Text.{name_at, numberLine, text_of}
-use Rattle.stream.specs.Stream.{captureThen, capturesIn, is_whole}
-use Rattle.stream.specs.Totals.{total, totals, figuresOf}
-use Rattle.figures.specs.Sheet.{sheetAs, sheetOf}
+use Rattle.parts.specs.List.{header_at, step_at, at_most, parts_from, whole, among}
+use Rattle.rules.specs.Rules.{known, known_or_skipped, length_right, size_right, features_same, every, repeated, cause_in}
+use Rattle.tally.specs.Rows.{parts_of_type, rows, adds_in}
+use Rattle.sheet.specs.Text.{name_at, number_line, text_of}
+use Rattle.stream.specs.Stream.{capture_then, captures_in, is_whole}
+use Rattle.stream.specs.Totals.{total, totals, figures_of}
+use Rattle.figures.specs.Sheet.{sheet_as, sheet_of}
 use Rattle.figures.specs.Encoding.{encoded}
-use Rattle.figures.specs.Examples.{partBytes, common, status, queueOf, notify, twice, otherFeatures, noRing, wrongLength, unknown, cut, eachType, allButFeatures, oneSkipped, captures, everyKind, everyKindSheet, bareSheet, refusedSheet}
+use Rattle.figures.specs.Examples.{part_bytes, common, status, queue_of, notify, twice, other_features, no_ring, wrong_length, unknown, cut, each_type, all_but_features, one_skipped, captures, every_kind, every_kind_sheet, bare_sheet, refused_sheet}
 use Rattle.figures.specs.Claims.{Sheets}
 
 -- what computes where a proof says `unfolding model`
 unfoldable pub model : Unit {0}
-unfolding if◌then◌else◌ unless◌answer◌then◌ ◌and◌ ◌or◌ indicator put same itemsFrom le bytes number digits decimal line
-    inventoryRows row_at present selectorOf is_row seek place_of powerBelow ringSize queueAllowed valueAllowed
-    bit bits_at noCounts sixteen countsFrom setupAt headRight isVersion1 noSetup takeVersion1 readVersion1
-    header_at stepAt at_most partsFrom whole among known knownOrSkipped lengthRight sizeRight featuresSame every repeated causeIn
-    partsOfType rows addsIn name_at numberLine text_of captureThen capturesIn is_whole total totals figuresOf sheetOf
-    encoded partBytes common status queueOf notify twice otherFeatures noRing wrongLength unknown cut
-    eachType allButFeatures oneSkipped captures everyKind
+unfolding if◌then◌else◌ unless◌answer◌then◌ ◌and◌ ◌or◌ indicator put same items_from le bytes number digits decimal line
+    inventory_rows row_at present selector_of is_row seek place_of power_below ring_size queue_allowed value_allowed
+    bit bits_at no_counts sixteen counts_from setup_at head_right is_version1 no_setup take_version1 read_version1
+    header_at step_at at_most parts_from whole among known known_or_skipped length_right size_right features_same every repeated cause_in
+    parts_of_type rows adds_in name_at number_line text_of capture_then captures_in is_whole total totals figures_of sheet_of
+    encoded part_bytes common status queue_of notify twice other_features no_ring wrong_length unknown cut
+    each_type all_but_features one_skipped captures every_kind
 model = tt
 
-bare-sheet : same (sheetOf bench) bareSheet ≡ true
+bare-sheet : same (sheet_of bench) bare_sheet ≡ true
 unfolding model
 bare-sheet = refl
 
-every-line : same (sheetOf everyKind) everyKindSheet ≡ true
+every-line : same (sheet_of every_kind) every_kind_sheet ≡ true
 unfolding model
 every-line = refl
 
-not_done : (a : ReadAnswer) (s : Setup) (l : List ℕ) → a ≢ Done → sheetAs a s l ≡ refusedSheet
+not_done : (a : ReadAnswer) (s : Setup) (l : List ℕ) → a ≢ Done → sheet_as a s l ≡ refused_sheet
 not_done Done s l n = absurd (n refl)
 not_done Version2 s l n = refl
 not_done Refused s l n = refl
 
 pub sheets : Sheets
-unfolding sheetOf
-sheets = record { bare = same_true _ _ bare-sheet; refused = λ l n. not_done _ _ _ n; everyLine = same_true _ _ every-line }
+unfolding sheet_of
+sheets = record { bare = same_true _ _ bare-sheet; refused = λ l n. not_done _ _ _ n; every_line = same_true _ _ every-line }
 
 -- ---- setups that are refused ----
 
@@ -66,14 +66,14 @@ sheets = record { bare = same_true _ _ bare-sheet; refused = λ l n. not_done _ 
 abbrev pub second : List ℕ
 second = 0x21 ∷ 0x04 ∷ 0x40 ∷ 0x00 ∷ zeros
 
-version-2 : sheetOf second ≡ refusedSheet
+version-2 : sheet_of second ≡ refused_sheet
 unfolding model
 version-2 = refl
 
-nothing : sheetOf [] ≡ refusedSheet
+nothing : sheet_of [] ≡ refused_sheet
 unfolding model
 nothing = refl
 
-short : sheetOf (0x11 ∷ 0x04 ∷ 0x40 ∷ replicate 15 0) ≡ refusedSheet
+short : sheet_of (0x11 ∷ 0x04 ∷ 0x40 ∷ replicate 15 0) ≡ refused_sheet
 unfolding model
 short = refl

@@ -13,10 +13,10 @@ use Rattle.setups.specs.declared.Setup.{Setup}
 use Rattle.setups.specs.declared.ReadAnswer.{ReadAnswer}
 use Rattle.setups.specs.declared.ReadAnswer.TheVariants.{Done, Version2, Refused}
 use Rattle.setups.specs.declared.ReadOutcome.{ReadOutcome}
-use Rattle.setups.specs.Setup.{featuresSize}
-use Rattle.setups.specs.Reading.{readNumber, readVersion1}
+use Rattle.setups.specs.Setup.{features_size}
+use Rattle.setups.specs.Reading.{read_number, read_version1}
 use Rattle.tally.specs.Rows.{longest}
-use Rattle.sheet.specs.Text.{text_of, sheetRoom}
+use Rattle.sheet.specs.Text.{text_of, sheet_room}
 use Rattle.sheet.proofs.Lines.{text-short}
 use Rattle.stream.specs.declared.Progress.{Progress}
 use Rattle.stream.specs.Progress.{Counted}
@@ -24,8 +24,8 @@ use Rattle.stream.specs.Progress as captures
 use Rattle.stream.proofs.Feeding.{counts-fit}
 use Rattle.stream.proofs.Rest.{held_more}
 use Rattle.stream.proofs.Ends.{started-ready, from_start}
-use Rattle.figures.specs.Sheet.{setupSize, refusedText, firstCount, sheetAs, sheetUnder, sheetOf}
-use Rattle.figures.specs.State.{without, waiting, refused, counting, sheetIn, sheetFrom, finishedIn, finishedOf, Standing, Ready, Took, TookBehind}
+use Rattle.figures.specs.Sheet.{setup_size, refused_text, first_count, sheet_as, sheet_under, sheet_of}
+use Rattle.figures.specs.State.{without, waiting, refused, counting, sheet_in, sheet_from, finished_in, finished_of, Standing, Ready, Took, TookBehind}
 use Rattle.figures.specs.declared.Phase.{Phase}
 use Rattle.figures.specs.declared.Phase.TheVariants as phase
 use Rattle.figures.specs.declared.State.{State}
@@ -33,7 +33,7 @@ use Rattle.figures.specs.declared.State.{State}
 -- ---- states ----
 
 pub placed : (ph : Phase) (have : ℕ) (p : Progress) → p ≡ captures.started
-    → record { phase = ph; have = have; queues = 0; features = replicate featuresSize 0; progress = p } ≡ without ph have
+    → record { phase = ph; have = have; queues = 0; features = replicate features_size 0; progress = p } ≡ without ph have
 placed ph have p e = rw e
 
 pub without-ready : (ph : Phase) (have : ℕ) (b : List ℕ) → length b ≡ longest → Standing ph have captures.started b → Ready (without ph have) b
@@ -51,70 +51,70 @@ captures-taken q features p b chunk r after t =
 
 -- ---- the setup has come whole ----
 
-refused_as : (a : ReadAnswer) (s : Setup) (l : List ℕ) → (readNumber a ≡ 0 → ⊥) → refusedText ≡ sheetAs a s l
-refused_as Done s l h = absurd (h refl)
-refused_as Version2 s l h = refl
-refused_as Refused s l h = refl
+refused-as : (a : ReadAnswer) (s : Setup) (l : List ℕ) → (read_number a ≡ 0 → ⊥) → refused_text ≡ sheet_as a s l
+refused-as Done s l h = absurd (h refl)
+refused-as Version2 s l h = refl
+refused-as Refused s l h = refl
 
-taken_as : (a : ReadAnswer) (s : Setup) (l : List ℕ) → readNumber a ≡ 0 → sheetAs Done s l ≡ sheetAs a s l
+taken_as : (a : ReadAnswer) (s : Setup) (l : List ℕ) → read_number a ≡ 0 → sheet_as Done s l ≡ sheet_as a s l
 taken_as Done s l h = refl
 taken_as Version2 s l h = absurd (omega arith)
 taken_as Refused s l h = absurd (omega arith)
 
 -- x is a setup, l what follows it
-pub sheet-behind : (x l : List ℕ) → length x ≡ setupSize → sheetOf (x ++ l) ≡ sheetUnder (readVersion1 x) l
-unfolding sheetOf
-sheet-behind x l e = rw (take_at x l setupSize e, drop_at x l setupSize e)
+pub sheet-behind : (x l : List ℕ) → length x ≡ setup_size → sheet_of (x ++ l) ≡ sheet_under (read_version1 x) l
+unfolding sheet_of
+sheet-behind x l e = rw (take_at x l setup_size e, drop_at x l setup_size e)
 
 module _ (b rest : List ℕ) (h : length b ≡ longest) where
-  setup-room : setupSize ≤ length b
+  setup-room : setup_size ≤ length b
   setup-room = omega arith
 
   pub open-ready : (q : ℕ) (features : List ℕ) (p : Progress) → p ≡ captures.started → Ready (counting q features p) b
   open-ready q features p e = rw e (counting-ready q features captures.started b (started-ready b h))
 
-  module _ (o : ReadOutcome) (e : o ≡ readVersion1 (take setupSize b)) (n : ℕ) (f : n ≡ readNumber o.answer) where
-    front : (l : List ℕ) → sheetUnder o l ≡ sheetOf (take setupSize b ++ l)
-    front l = rw e (sym (sheet-behind (take setupSize b) l (length-take-le setupSize b setup-room)))
+  module _ (o : ReadOutcome) (e : o ≡ read_version1 (take setup_size b)) (n : ℕ) (f : n ≡ read_number o.answer) where
+    front : (l : List ℕ) → sheet_under o l ≡ sheet_of (take setup_size b ++ l)
+    front l = rw e (sym (sheet-behind (take setup_size b) l (length-take-le setup_size b setup-room)))
 
     pub open-refused : (r : State) → r ≡ refused → (n ≡ 0 → ⊥) → TookBehind b rest r b
     open-refused r z k = rw z (record {
       ready = without-ready phase.Refused 0 b h tt;
-      same = λ l. refused_as o.answer o.setup (rest ++ l) (λ g. k (f ∙ g)) ∙ front (rest ++ l);
+      same = λ l. refused-as o.answer o.setup (rest ++ l) (λ g. k (f ∙ g)) ∙ front (rest ++ l);
     })
 
     pub open-taken : (p : Progress) (r : State) (after : List ℕ) → p ≡ captures.started
-        → Took (counting (firstCount o.setup) o.setup.features p) b rest r after → n ≡ 0 → TookBehind b rest r after
+        → Took (counting (first_count o.setup) o.setup.features p) b rest r after → n ≡ 0 → TookBehind b rest r after
     open-taken p r after z t k = record {
       ready = t.ready;
       same = λ l.
-          t.same l ∙ ap (λ x. sheetFrom (counting (firstCount o.setup) o.setup.features x) b (rest ++ l)) z
-          ∙ ap text_of (from_start (firstCount o.setup) o.setup.features b (rest ++ l))
+          t.same l ∙ ap (λ x. sheet_from (counting (first_count o.setup) o.setup.features x) b (rest ++ l)) z
+          ∙ ap text_of (from_start (first_count o.setup) o.setup.features b (rest ++ l))
           ∙ taken_as o.answer o.setup (rest ++ l) (sym f ∙ k) ∙ front (rest ++ l);
     }
 
 -- ---- the phase under way ----
 
-finished-short : (ph : Phase) (s : State) → Counted s.progress.counts → length (finishedIn ph s) ≤ sheetRoom
-unfolding captures.finishedOf
+finished-short : (ph : Phase) (s : State) → Counted s.progress.counts → length (finished_in ph s) ≤ sheet_room
+unfolding captures.finished_of
 finished-short phase.Setup s w = omega arith
 finished-short phase.Captures s w = text-short s.progress.counts (counts-fit s.progress.counts w) (captures.ended s.progress)
 finished-short phase.Refused s w = omega arith
 
 module _ (s : State) (ph : Phase) (e : s.phase ≡ ph) where
-  pub sheet-is : (b l : List ℕ) → sheetFrom s b l ≡ sheetIn ph s b l
-  sheet-is b l = ap (λ x. sheetIn x s b l) e
+  pub sheet-is : (b l : List ℕ) → sheet_from s b l ≡ sheet_in ph s b l
+  sheet-is b l = ap (λ x. sheet_in x s b l) e
 
   pub standing-is : (b : List ℕ) → Ready s b → Standing ph s.have s.progress b
   standing-is b w = rw e at w.standing
 
-  pub finish-put : (out after : List ℕ) → after ≡ put 0 (finishedIn ph s) out → after ≡ put 0 (finishedOf s) out
-  finish-put out after f = f ∙ ap (λ x. put 0 (finishedIn x s) out) (sym e)
+  pub finish-put : (out after : List ℕ) → after ≡ put 0 (finished_in ph s) out → after ≡ put 0 (finished_of s) out
+  finish-put out after f = f ∙ ap (λ x. put 0 (finished_in x s) out) (sym e)
 
-  pub finish-length : (r : ℕ) → r ≡ length (finishedIn ph s) → r ≡ length (finishedOf s)
-  finish-length r f = f ∙ ap (λ x. length (finishedIn x s)) (sym e)
+  pub finish-length : (r : ℕ) → r ≡ length (finished_in ph s) → r ≡ length (finished_of s)
+  finish-length r f = f ∙ ap (λ x. length (finished_in x s)) (sym e)
 
-  pub finish-fits : (r : ℕ) → r ≡ length (finishedIn ph s) → Counted s.progress.counts → r ≤ sheetRoom
+  pub finish-fits : (r : ℕ) → r ≡ length (finished_in ph s) → Counted s.progress.counts → r ≤ sheet_room
   finish-fits r f w = rw f (finished-short ph s w)
 
 module _ (s : State) (b chunk : List ℕ) (w : Ready s b) where
@@ -131,17 +131,17 @@ module _ (s : State) (b chunk : List ℕ) (w : Ready s b) where
   -- ---- bytes of the setup ----
 
   module _ (e : s.phase ≡ phase.Setup) where
-    have-less : s.have < setupSize
+    have-less : s.have < setup_size
     have-less = standing-is s phase.Setup e b w
 
-    pub setup-left : s.have ≤ setupSize
+    pub setup-left : s.have ≤ setup_size
     setup-left = omega (arith, have-less)
 
-    short-room : length chunk < setupSize - s.have → s.have + length chunk ≤ length b
+    short-room : length chunk < setup_size - s.have → s.have + length chunk ≤ length b
     short-room k = omega (arith, w.room)
 
     pub setup-more : (after : List ℕ) (r : State) → after ≡ put s.have chunk b → r ≡ waiting (s.have + length chunk)
-        → length chunk < setupSize - s.have → Took s b chunk r after
+        → length chunk < setup_size - s.have → Took s b chunk r after
     setup-more after r put-there z k =
         let held = held_more s.have chunk b after put-there (short-room k) in
         rw z (record {
@@ -149,43 +149,43 @@ module _ (s : State) (b chunk : List ℕ) (w : Ready s b) where
           same = λ l. rw (held, append_assoc) (sym (sheet-is s phase.Setup e b (chunk ++ l)));
         })
 
-    module _ (k : setupSize - s.have ≤ length chunk) where
+    module _ (k : setup_size - s.have ≤ length chunk) where
       -- the part of the chunk that is still of the setup
       abbrev piece : List ℕ
-      piece = take (setupSize - s.have - 0) chunk
+      piece = take (setup_size - s.have - 0) chunk
 
-      piece_is : piece ≡ take (setupSize - s.have) chunk
+      piece_is : piece ≡ take (setup_size - s.have) chunk
       piece_is = rw sub-zero
 
       -- and what follows it
       abbrev rest : List ℕ
-      rest = take (length chunk - (setupSize - s.have)) (drop (setupSize - s.have) chunk)
+      rest = take (length chunk - (setup_size - s.have)) (drop (setup_size - s.have) chunk)
 
-      rest-is : rest ≡ drop (setupSize - s.have) chunk
-      rest-is = tail-is (setupSize - s.have) chunk
+      rest-is : rest ≡ drop (setup_size - s.have) chunk
+      rest-is = tail-is (setup_size - s.have) chunk
 
       chunk-is : piece ++ rest ≡ chunk
-      chunk-is = rw (piece_is, rest-is) (take-append-drop (setupSize - s.have) chunk)
+      chunk-is = rw (piece_is, rest-is) (take-append-drop (setup_size - s.have) chunk)
 
-      piece-long : length piece ≡ setupSize - s.have
-      piece-long = rw sub-zero (length-take-le (setupSize - s.have) chunk k)
+      piece-long : length piece ≡ setup_size - s.have
+      piece-long = rw sub-zero (length-take-le (setup_size - s.have) chunk k)
 
       pub whole_room : s.have + length piece ≤ length b
       whole_room = omega (arith, w.room, piece-long, have-less)
 
       module _ (after : List ℕ) (put-there : after ≡ put s.have piece b) where
-        setup-held : take setupSize after ≡ take s.have b ++ piece
+        setup-held : take setup_size after ≡ take s.have b ++ piece
         setup-held =
-            let n : s.have + length piece ≡ setupSize = omega (arith, piece-long, have-less) in
+            let n : s.have + length piece ≡ setup_size = omega (arith, piece-long, have-less) in
             rw n at (held_more s.have piece b after put-there whole_room)
 
         pub setup-whole : (r : State) (end : List ℕ) → TookBehind after rest r end → Took s b chunk r end
         setup-whole r end t = record {
           ready = t.ready;
-          same = λ l. t.same l ∙ ap sheetOf (joined-there l) ∙ sym (sheet-is s phase.Setup e b (chunk ++ l));
+          same = λ l. t.same l ∙ ap sheet_of (joined-there l) ∙ sym (sheet-is s phase.Setup e b (chunk ++ l));
         }
           where
-            joined-there : (l : List ℕ) → take setupSize after ++ (rest ++ l) ≡ take s.have b ++ (chunk ++ l)
+            joined-there : (l : List ℕ) → take setup_size after ++ (rest ++ l) ≡ take s.have b ++ (chunk ++ l)
             joined-there l =
                 ap (◌++ (rest ++ l)) setup-held ∙ append_assoc (take s.have b) piece (rest ++ l)
                 ∙ ap (take s.have b ++◌) (sym (append_assoc piece rest l) ∙ ap (◌++ l) chunk-is)

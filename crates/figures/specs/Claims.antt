@@ -4,14 +4,14 @@ use Rattle.std.specs.Prelude.{◌≡◌, ◌≢◌, Bool, true, List, [], ◌∷
 use Rattle.theory.specs.Logic.{◌and◌, within}
 use Rattle.decimal.specs.Decimal.{decimal}
 use Rattle.setups.specs.declared.ReadAnswer.TheVariants.{Done}
-use Rattle.setups.specs.Reading.{readVersion1}
+use Rattle.setups.specs.Reading.{read_version1}
 use Rattle.setups.specs.Examples.{bench}
 use Rattle.tally.specs.Rows.{longest}
 use Rattle.stream.specs.Stream.{Captures}
 use Rattle.stream.specs.Totals.{totals}
-use Rattle.figures.specs.Sheet.{sheetOf}
-use Rattle.figures.specs.State.{waiting, finishedOf, over, Ready, Took}
-use Rattle.figures.specs.Examples.{everyKind, everyKindSheet, bareSheet, refusedSheet}
+use Rattle.figures.specs.Sheet.{sheet_of}
+use Rattle.figures.specs.State.{waiting, finished_of, over, Ready, Took}
+use Rattle.figures.specs.Examples.{every_kind, every_kind_sheet, bare_sheet, refused_sheet}
 use Rattle.figures.specs.declared.State.{State}
 
 -- ---- however a stream is cut into chunks, feeding them and finishing gives the sheet of the whole ----
@@ -34,11 +34,11 @@ pub record HoweverCut : Type 0 where
   -- what `finish` writes is the sheet of all the chunks, from the first byte of the setup on
   pub ends : (buffer : List ℕ) (chunks : List (List ℕ)) (r : State) (after : List ℕ)
       → length buffer ≡ longest → Fed (waiting 0) buffer chunks r after
-      → finishedOf r ≡ sheetOf (joined chunks)
+      → finished_of r ≡ sheet_of (joined chunks)
   -- and where `is_over` says so, whatever follows
   pub stops : (buffer : List ℕ) (chunks : List (List ℕ)) (r : State) (after l : List ℕ)
       → length buffer ≡ longest → Fed (waiting 0) buffer chunks r after → over r ≡ true
-      → finishedOf r ≡ sheetOf (joined chunks ++ l)
+      → finished_of r ≡ sheet_of (joined chunks ++ l)
 
 -- ---- the lines add up ----
 
@@ -53,18 +53,18 @@ AddsUp = (queues : ℕ) (features : List ℕ) (cs : Captures)
 
 -- ---- numbers are exact: the digits of each are its decimal digits, without leading zeros ----
 
-unfoldable pub areDigits : List ℕ → Bool
-areDigits [] = true
-areDigits (d ∷ ds) = within 48 57 d and areDigits ds
+unfoldable pub are_digits : List ℕ → Bool
+are_digits [] = true
+are_digits (d ∷ ds) = within 48 57 d and are_digits ds
 
 -- n, then these digits
-unfoldable pub valueFrom : ℕ → List ℕ → ℕ
-valueFrom n [] = n
-valueFrom n (d ∷ ds) = valueFrom (10 * n + (d - 48)) ds
+unfoldable pub value_from : ℕ → List ℕ → ℕ
+value_from n [] = n
+value_from n (d ∷ ds) = value_from (10 * n + (d - 48)) ds
 
 pub record Exact (n : ℕ) : Type 0 where
-  pub digits : areDigits (decimal n) ≡ true
-  pub value : valueFrom 0 (decimal n) ≡ n
+  pub digits : are_digits (decimal n) ≡ true
+  pub value : value_from 0 (decimal n) ≡ n
   pub leading : 0 < n → 48 < get_or (decimal n) 0 0
 
 abbrev pub ExactNumbers : Type 0
@@ -74,9 +74,9 @@ ExactNumbers = (n : ℕ) → Exact n
 
 pub record Sheets : Type 0 where
   -- the setup of 01's bench and nothing after it: all 16 numbers are 0, and the stream is whole
-  pub bare : sheetOf bench ≡ bareSheet
+  pub bare : sheet_of bench ≡ bare_sheet
   -- a setup that the reader of version 1 does not take: `setup refused` alone, whatever follows. Example: version-2 in
   -- ../proofs/Sheets.antt
-  pub refused : (l : List ℕ) → (readVersion1 (take 19 l)).answer ≢ Done → sheetOf l ≡ refusedSheet
+  pub refused : (l : List ℕ) → (read_version1 (take 19 l)).answer ≢ Done → sheet_of l ≡ refused_sheet
   -- captures of each cause, long and accepted ones: no line has the number of another
-  pub everyLine : sheetOf everyKind ≡ everyKindSheet
+  pub every_line : sheet_of every_kind ≡ every_kind_sheet

@@ -6,14 +6,14 @@ use Rattle.theory.specs.Logic.{if◌then◌else◌, ◌and◌, indicator}
 use Rattle.wire.specs.Le.{bytes, number}
 use Rattle.decimal.specs.Decimal.{decimal}
 use Rattle.setups.specs.declared.Setup.{Setup}
-use Rattle.setups.specs.Reading.{readAs, readVersion1}
+use Rattle.setups.specs.Reading.{read_as, read_version1}
 use Rattle.parts.specs.declared.ListForm.TheVariants.{Parts}
 use Rattle.parts.specs.List.{parts_of}
 use Rattle.rules.specs.declared.Cause.{Cause}
 use Rattle.rules.specs.declared.Cause.TheVariants.{Accepted, Cut, Unknown, Length, Size, Features, Twice}
-use Rattle.rules.specs.Rules.{causeOf}
-use Rattle.tally.specs.Rows.{causeLine, partsOfType}
-use Rattle.figures.specs.Sheet.{firstCount, sheetOf}
+use Rattle.rules.specs.Rules.{cause_of}
+use Rattle.tally.specs.Rows.{cause_line, parts_of_type}
+use Rattle.figures.specs.Sheet.{first_count, sheet_of}
 
 -- ---- captures joined ----
 
@@ -30,13 +30,13 @@ pub record Encodable (cs : List (List ℕ)) : Type 0 where
 -- capture
 pub data Left : List ℕ → Bool → Type 0 where
   nothing : Left [] true
-  inLength : {rest : List ℕ} → 0 < length rest → length rest < 4 → Left rest false
-  inCapture : {rest : List ℕ} → 4 ≤ length rest → length rest < 4 + number 0 4 rest → Left rest false
+  in_length : {rest : List ℕ} → 0 < length rest → length rest < 4 → Left rest false
+  in_capture : {rest : List ℕ} → 4 ≤ length rest → length rest < 4 + number 0 4 rest → Left rest false
 
 -- where n captures at most are taken: these are fewer, or as many, and then it is torn whatever follows
 pub data Ending : ℕ → List (List ℕ) → List ℕ → Bool → Type 0 where
   fewer : {n : ℕ} {cs : List (List ℕ)} {rest : List ℕ} {ended : Bool} → length cs < n → Left rest ended → Ending n cs rest ended
-  asMany : {n : ℕ} {cs : List (List ℕ)} {rest : List ℕ} → length cs ≡ n → Ending n cs rest false
+  as_many : {n : ℕ} {cs : List (List ℕ)} {rest : List ℕ} → length cs ≡ n → Ending n cs rest false
 
 -- ---- the sixteen numbers of captures ----
 
@@ -48,36 +48,36 @@ sum_of f (c ∷ cs) = f c + sum_of f cs
 unfoldable pub count_of : (List ℕ → Bool) → List (List ℕ) → ℕ
 count_of test cs = sum_of (λ c. indicator (test c)) cs
 
-unfoldable pub isLong : List ℕ → Bool
-isLong c = ltb 4064 (length c)
+unfoldable pub is_long : List ℕ → Bool
+is_long c = ltb 4064 (length c)
 
 -- it is not long, and this is the first cause that occurs anywhere in it
-unfoldable pub isUnder : ℕ → List ℕ → Cause → List ℕ → Bool
-isUnder queues features k c = not (isLong c) and eqb (causeLine (causeOf queues features c)) (causeLine k)
+unfoldable pub is_under : ℕ → List ℕ → Cause → List ℕ → Bool
+is_under queues features k c = not (is_long c) and eqb (cause_line (cause_of queues features c)) (cause_line k)
 
 -- over accepted captures
-unfoldable pub acceptedSum : ℕ → List ℕ → (List ℕ → ℕ) → List (List ℕ) → ℕ
-acceptedSum queues features f cs = sum_of (λ c. if isUnder queues features Accepted c then f c else 0) cs
+unfoldable pub accepted_sum : ℕ → List ℕ → (List ℕ → ℕ) → List (List ℕ) → ℕ
+accepted_sum queues features f cs = sum_of (λ c. if is_under queues features Accepted c then f c else 0) cs
 
 -- line by line
 unfoldable pub numbers : ℕ → List ℕ → List (List ℕ) → List ℕ
 numbers queues features cs =
     length cs
-    ∷ count_of (isUnder queues features Accepted) cs
-    ∷ count_of (isUnder queues features Cut) cs
-    ∷ count_of (isUnder queues features Unknown) cs
-    ∷ count_of (isUnder queues features Length) cs
-    ∷ count_of (isUnder queues features Size) cs
-    ∷ count_of (isUnder queues features Features) cs
-    ∷ count_of (isUnder queues features Twice) cs
-    ∷ count_of isLong cs
-    ∷ acceptedSum queues features (λ c. partsOfType queues 0x100 (parts_of Parts c)) cs
-    ∷ acceptedSum queues features (λ c. partsOfType queues 0x101 (parts_of Parts c)) cs
-    ∷ acceptedSum queues features (λ c. partsOfType queues 0x102 (parts_of Parts c)) cs
-    ∷ acceptedSum queues features (λ c. partsOfType queues 0x103 (parts_of Parts c)) cs
-    ∷ acceptedSum queues features (λ c. partsOfType queues 0x104 (parts_of Parts c)) cs
-    ∷ acceptedSum queues features (λ c. partsOfType queues 0x105 (parts_of Parts c)) cs
-    ∷ acceptedSum queues features length cs
+    ∷ count_of (is_under queues features Accepted) cs
+    ∷ count_of (is_under queues features Cut) cs
+    ∷ count_of (is_under queues features Unknown) cs
+    ∷ count_of (is_under queues features Length) cs
+    ∷ count_of (is_under queues features Size) cs
+    ∷ count_of (is_under queues features Features) cs
+    ∷ count_of (is_under queues features Twice) cs
+    ∷ count_of is_long cs
+    ∷ accepted_sum queues features (λ c. parts_of_type queues 0x100 (parts_of Parts c)) cs
+    ∷ accepted_sum queues features (λ c. parts_of_type queues 0x101 (parts_of Parts c)) cs
+    ∷ accepted_sum queues features (λ c. parts_of_type queues 0x102 (parts_of Parts c)) cs
+    ∷ accepted_sum queues features (λ c. parts_of_type queues 0x103 (parts_of Parts c)) cs
+    ∷ accepted_sum queues features (λ c. parts_of_type queues 0x104 (parts_of Parts c)) cs
+    ∷ accepted_sum queues features (λ c. parts_of_type queues 0x105 (parts_of Parts c)) cs
+    ∷ accepted_sum queues features length cs
     ∷ []
 
 -- ---- the text ----
@@ -110,15 +110,15 @@ lines_of (x ∷ xs) [] = []
 lines_of (x ∷ xs) (n ∷ ns) = (x ++ (32 ∷ (decimal n ++ (10 ∷ [])))) ++ lines_of xs ns
 
 -- `end whole`, `end torn`
-abbrev pub endWhole : List ℕ
-endWhole = 101 ∷ 110 ∷ 100 ∷ 32 ∷ 119 ∷ 104 ∷ 111 ∷ 108 ∷ 101 ∷ 10 ∷ []
+abbrev pub end_whole : List ℕ
+end_whole = 101 ∷ 110 ∷ 100 ∷ 32 ∷ 119 ∷ 104 ∷ 111 ∷ 108 ∷ 101 ∷ 10 ∷ []
 
-abbrev pub endTorn : List ℕ
-endTorn = 101 ∷ 110 ∷ 100 ∷ 32 ∷ 116 ∷ 111 ∷ 114 ∷ 110 ∷ 10 ∷ []
+abbrev pub end_torn : List ℕ
+end_torn = 101 ∷ 110 ∷ 100 ∷ 32 ∷ 116 ∷ 111 ∷ 114 ∷ 110 ∷ 10 ∷ []
 
-abbrev pub lastLine : Bool → List ℕ
-lastLine true = endWhole
-lastLine false = endTorn
+abbrev pub last_line : Bool → List ℕ
+last_line true = end_whole
+last_line false = end_torn
 
 -- ---- the claims ----
 
@@ -147,14 +147,14 @@ pub record EndsIn (last text : List ℕ) : Type 0 where
 pub record SheetOfCaptures : Type 0 where
   -- the sheet has the numbers of the captures before the end, and says how the stream ended
   pub sheet : (x : List ℕ) (s : Setup) (cs : List (List ℕ)) (rest : List ℕ) (ended : Bool)
-      → length x ≡ 19 → readVersion1 x ≡ readAs s → Encodable cs → Ending 4294967295 cs rest ended
-      → sheetOf (x ++ (encoded cs ++ rest)) ≡ lines_of names (numbers (firstCount s) s.features cs) ++ lastLine ended
+      → length x ≡ 19 → read_version1 x ≡ read_as s → Encodable cs → Ending 4294967295 cs rest ended
+      → sheet_of (x ++ (encoded cs ++ rest)) ≡ lines_of names (numbers (first_count s) s.features cs) ++ last_line ended
   -- there is no other stream
   pub every : (l : List ℕ) → ((i : ℕ) → get_or l i 0 < 256) → Apart 4294967295 l
   -- its last line is `end whole` exactly if it is whole, and else `end torn`
-  pub whole : (x : List ℕ) (s : Setup) (l : List ℕ) → length x ≡ 19 → readVersion1 x ≡ readAs s
-      → Whole l → EndsIn endWhole (sheetOf (x ++ l))
-  pub onlyWhole : (x : List ℕ) (s : Setup) (l : List ℕ) → length x ≡ 19 → readVersion1 x ≡ readAs s
-      → ((i : ℕ) → get_or l i 0 < 256) → EndsIn endWhole (sheetOf (x ++ l)) → Whole l
-  pub torn : (x : List ℕ) (s : Setup) (l : List ℕ) → length x ≡ 19 → readVersion1 x ≡ readAs s
-      → ((i : ℕ) → get_or l i 0 < 256) → (Whole l → ⊥) → EndsIn endTorn (sheetOf (x ++ l))
+  pub whole : (x : List ℕ) (s : Setup) (l : List ℕ) → length x ≡ 19 → read_version1 x ≡ read_as s
+      → Whole l → EndsIn end_whole (sheet_of (x ++ l))
+  pub only_whole : (x : List ℕ) (s : Setup) (l : List ℕ) → length x ≡ 19 → read_version1 x ≡ read_as s
+      → ((i : ℕ) → get_or l i 0 < 256) → EndsIn end_whole (sheet_of (x ++ l)) → Whole l
+  pub torn : (x : List ℕ) (s : Setup) (l : List ℕ) → length x ≡ 19 → read_version1 x ≡ read_as s
+      → ((i : ℕ) → get_or l i 0 < 256) → (Whole l → ⊥) → EndsIn end_torn (sheet_of (x ++ l))

@@ -8,70 +8,70 @@ use Rattle.figures.specs.Encoding.{encoded}
 -- ---- a stream with captures of every kind ----
 
 -- a setup of version 1: two members with four queues, G 1, S 1
-abbrev pub fourQueues : List ℕ
-fourQueues = 0x11 ∷ 0xc4 ∷ 0x40 ∷ features
+abbrev pub four_queues : List ℕ
+four_queues = 0x11 ∷ 0xc4 ∷ 0x40 ∷ features
 
 -- a part: type, flags, selector, length, value
-unfoldable pub partBytes : ℕ → ℕ → ℕ → List ℕ → List ℕ
-partBytes t flags s value = bytes 2 t ++ (flags ∷ 0 ∷ (bytes 8 s ++ (bytes 4 (length value) ++ value)))
+unfoldable pub part_bytes : ℕ → ℕ → ℕ → List ℕ → List ℕ
+part_bytes t flags s value = bytes 2 t ++ (flags ∷ 0 ∷ (bytes 8 s ++ (bytes 4 (length value) ++ value)))
 
 unfoldable pub common : ℕ → ℕ → List ℕ
-common offset size = partBytes 0x102 0 offset (replicate size 0)
+common offset size = part_bytes 0x102 0 offset (replicate size 0)
 
 unfoldable pub status : List ℕ
-status = partBytes 0x103 0 0 (15 ∷ [])
+status = part_bytes 0x103 0 0 (15 ∷ [])
 
-unfoldable pub queueOf : ℕ → ℕ → List ℕ
-queueOf size k = partBytes 0x104 0 k (size ∷ replicate 31 0)
+unfoldable pub queue_of : ℕ → ℕ → List ℕ
+queue_of size k = part_bytes 0x104 0 k (size ∷ replicate 31 0)
 
 unfoldable pub notify : ℕ → List ℕ
-notify k = partBytes 0x105 0 k (replicate 8 0)
+notify k = part_bytes 0x105 0 k (replicate 8 0)
 
 -- captures that are refused, by the last cause first; each has all the causes after its own too, and earlier in it
 unfoldable pub twice : List ℕ
 twice = status ++ status
 
-unfoldable pub otherFeatures : List ℕ
-otherFeatures = twice ++ partBytes 0x100 0 0 (replicate 16 0)
+unfoldable pub other_features : List ℕ
+other_features = twice ++ part_bytes 0x100 0 0 (replicate 16 0)
 
-unfoldable pub noRing : List ℕ
-noRing = otherFeatures ++ queueOf 3 0
+unfoldable pub no_ring : List ℕ
+no_ring = other_features ++ queue_of 3 0
 
-unfoldable pub wrongLength : List ℕ
-wrongLength = noRing ++ partBytes 0x103 0 0 []
+unfoldable pub wrong_length : List ℕ
+wrong_length = no_ring ++ part_bytes 0x103 0 0 []
 
 unfoldable pub unknown : List ℕ
-unknown = wrongLength ++ partBytes 0x106 0 0 []
+unknown = wrong_length ++ part_bytes 0x106 0 0 []
 
 unfoldable pub cut : List ℕ
 cut = unknown ++ (7 ∷ [])
 
 -- captures that are accepted: with a part of each type; with all but the device features; with one part that is skipped, of a
 -- queue that the members have not got
-unfoldable pub eachType : List ℕ
-eachType =
-    partBytes 0x100 0 0 features ++ (partBytes 0x101 0 0 features ++ (common 16 2 ++ (status ++ (queueOf 8 0 ++ notify 0))))
+unfoldable pub each_type : List ℕ
+each_type =
+    part_bytes 0x100 0 0 features ++ (part_bytes 0x101 0 0 features ++ (common 16 2 ++ (status ++ (queue_of 8 0 ++ notify 0))))
 
-unfoldable pub allButFeatures : List ℕ
-allButFeatures =
-    partBytes 0x101 0 0 features ++ (common 0 4 ++ (common 8 4 ++ (common 16 2 ++ (common 22 2 ++ (status
-    ++ (queueOf 8 0 ++ (queueOf 8 1 ++ (queueOf 8 2 ++ (queueOf 8 3 ++ (notify 0 ++ (notify 1 ++ (notify 2 ++ notify 3))))))))))))
+unfoldable pub all_but_features : List ℕ
+all_but_features =
+    part_bytes 0x101 0 0 features ++ (common 0 4 ++ (common 8 4 ++ (common 16 2 ++ (common 22 2 ++ (status
+    ++ (queue_of 8 0 ++ (queue_of 8 1 ++ (queue_of 8 2 ++ (queue_of 8 3 ++ (notify 0 ++ (notify 1 ++ (notify 2 ++ notify 3))))))))))))
 
-unfoldable pub oneSkipped : List ℕ
-oneSkipped = status ++ (queueOf 8 3 ++ (notify 0 ++ (notify 1 ++ partBytes 0x104 1 4 (9 ∷ []))))
+unfoldable pub one_skipped : List ℕ
+one_skipped = status ++ (queue_of 8 3 ++ (notify 0 ++ (notify 1 ++ part_bytes 0x104 1 4 (9 ∷ []))))
 
 -- so many of each kind that no two lines have the same number; the first is long, the last is empty
 unfoldable pub captures : List (List ℕ)
 captures =
     replicate 4065 0
-    ∷ (replicate 2 cut ++ (replicate 3 unknown ++ (replicate 4 wrongLength ++ (replicate 5 noRing ++ (replicate 6 otherFeatures
-    ++ (replicate 7 twice ++ (replicate 8 eachType ++ (allButFeatures ∷ oneSkipped ∷ [] ∷ []))))))))
+    ∷ (replicate 2 cut ++ (replicate 3 unknown ++ (replicate 4 wrong_length ++ (replicate 5 no_ring ++ (replicate 6 other_features
+    ++ (replicate 7 twice ++ (replicate 8 each_type ++ (all_but_features ∷ one_skipped ∷ [] ∷ []))))))))
 
-unfoldable pub everyKind : List ℕ
-everyKind = fourQueues ++ encoded captures
+unfoldable pub every_kind : List ℕ
+every_kind = four_queues ++ encoded captures
 
-abbrev pub everyKindSheet : List ℕ
-everyKindSheet =
+abbrev pub every_kind_sheet : List ℕ
+every_kind_sheet =
     114 ∷ 101 ∷ 97 ∷ 100 ∷ 32 ∷ 51 ∷ 57 ∷ 10  -- read 39
     ∷ 97 ∷ 99 ∷ 99 ∷ 101 ∷ 112 ∷ 116 ∷ 101 ∷ 100 ∷ 32 ∷ 49 ∷ 49 ∷ 10  -- accepted 11
     ∷ 99 ∷ 117 ∷ 116 ∷ 32 ∷ 50 ∷ 10  -- cut 2
@@ -93,8 +93,8 @@ everyKindSheet =
 
 -- ---- the sheets that 02 gives ----
 
-abbrev pub bareSheet : List ℕ
-bareSheet =
+abbrev pub bare_sheet : List ℕ
+bare_sheet =
     114 ∷ 101 ∷ 97 ∷ 100 ∷ 32 ∷ 48 ∷ 10  -- read 0
     ∷ 97 ∷ 99 ∷ 99 ∷ 101 ∷ 112 ∷ 116 ∷ 101 ∷ 100 ∷ 32 ∷ 48 ∷ 10  -- accepted 0
     ∷ 99 ∷ 117 ∷ 116 ∷ 32 ∷ 48 ∷ 10  -- cut 0
@@ -115,6 +115,6 @@ bareSheet =
     ∷ []
 
 -- `setup refused`
-abbrev pub refusedSheet : List ℕ
-refusedSheet =
+abbrev pub refused_sheet : List ℕ
+refused_sheet =
     115 ∷ 101 ∷ 116 ∷ 117 ∷ 112 ∷ 32 ∷ 114 ∷ 101 ∷ 102 ∷ 117 ∷ 115 ∷ 101 ∷ 100 ∷ 10 ∷ []

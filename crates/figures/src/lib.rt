@@ -3,11 +3,11 @@
 ghost use Rattle.std.specs.Prelude.{◌≡◌, ◌≤◌, length};
 ghost use Rattle.theory.specs.Bytes.{put};
 ghost use Rattle.tally.specs.Rows.{longest};
-ghost use Rattle.sheet.specs.Text.{sheetRoom};
+ghost use Rattle.sheet.specs.Text.{sheet_room};
 ghost use Rattle.stream.specs.Progress.{Counted};
 ghost use Rattle.figures.specs.declared.Phase.TheVariants.{Setup};
-ghost use Rattle.figures.specs.Sheet.{refusedText};
-ghost use Rattle.figures.specs.State.{waiting, refused, counting, over, finishedOf, Ready, Took, TookBehind};
+ghost use Rattle.figures.specs.Sheet.{refused_text};
+ghost use Rattle.figures.specs.State.{waiting, refused, counting, over, finished_of, Ready, Took, TookBehind};
 
 use setups::FEATURES_SIZE;
 use stream::Progress;
@@ -156,8 +156,8 @@ pub fn is_over(s: State) -> bool
 
 // That the setup is refused, from the start of the buffer. Answers how long that is.
 fn write_refused(out: &mut [u8]) -> usize
-    requires { sheetRoom ≤ length out.old }
-    ensures { (out.new ≡ put 0 refusedText out.old) × (result ≡ length refusedText) }
+    requires { sheet_room ≤ length out.old }
+    ensures { (out.new ≡ put 0 refused_text out.old) × (result ≡ length refused_text) }
 {
     wire::copy(out, 0, b"setup refused\n");
     14
@@ -165,8 +165,8 @@ fn write_refused(out: &mut [u8]) -> usize
 
 // The stream has ended: its sheet, from the start of the buffer. Answers how long it is.
 pub fn finish(s: State, out: &mut [u8]) -> usize
-    requires { Counted s.progress.counts × (sheetRoom ≤ length out.old) }
-    ensures { (out.new ≡ put 0 (finishedOf s) out.old) × (result ≡ length (finishedOf s)) × (result ≤ sheetRoom) }
+    requires { Counted s.progress.counts × (sheet_room ≤ length out.old) }
+    ensures { (out.new ≡ put 0 (finished_of s) out.old) × (result ≡ length (finished_of s)) × (result ≤ sheet_room) }
 {
     let phase = s.phase;
     let progress = s.progress;

@@ -17,20 +17,20 @@ use Rattle.wire.specs.Le.{le, number}
 use Rattle.protocol.specs.declared.Answer.TheVariants.{BadField}
 use Rattle.protocol.specs.declared.ObjectKind.TheVariants.{Set}
 use Rattle.protocol.specs.declared.Metadata.TheVariants.{HeaderList}
-use Rattle.protocol.specs.Opcodes.{opcodeRows, supported, supportedOnly, fixedSize, namesMember}
+use Rattle.protocol.specs.Opcodes.{opcode_rows, supported, supported_only, fixed_size, names_member}
 use Rattle.protocol.proofs.Rows.{supported-is, data-long}
 use Rattle.frame.specs.declared.Ask.{Ask}
 use Rattle.frame.specs.declared.Ask.TheVariants.{Refused, UseList}
-use Rattle.frame.specs.Frame.{dataAt, longest, opcode_of, group_of, target_of, data_of}
-use Rattle.frame.specs.Fields.{kindIn, metadataIs, modeIn, useIn, fields_of}
-use Rattle.frame.specs.Ask.{usable, framedOf, askOf}
+use Rattle.frame.specs.Frame.{data_at, longest, opcode_of, group_of, target_of, data_of}
+use Rattle.frame.specs.Fields.{kind_in, metadata_is, mode_in, use_in, fields_of}
+use Rattle.frame.specs.Ask.{usable, framed_of, ask_of}
 
 -- a byte other than those before
-pub kind-set : (b : ℕ) → (b ≡ 0 → ⊥) → Set ≡ kindIn b
+pub kind-set : (b : ℕ) → (b ≡ 0 → ⊥) → Set ≡ kind_in b
 kind-set zero n = absurd (n refl)
 kind-set (suc b) n = refl
 
-pub metadata-list : (b : ℕ) → (b ≡ 0 → ⊥) → (b ≡ 1 → ⊥) → HeaderList ≡ metadataIs b
+pub metadata-list : (b : ℕ) → (b ≡ 0 → ⊥) → (b ≡ 1 → ⊥) → HeaderList ≡ metadata_is b
 metadata-list zero n o = absurd (n refl)
 metadata-list (suc zero) n o = absurd (o refl)
 metadata-list (suc (suc b)) n o = refl
@@ -53,16 +53,16 @@ module _ (d : List ℕ) (at i : ℕ) (e : eqb (le (drop at d)) 0 ≡ eqb (le (dr
 
 -- the long mask: a bit after the first word is not supported, and without one the word is the mask
 module _ (d : List ℕ) (t : Bool) (e : t ≡ eqb (le (drop 8 d)) 0) where
-  pub mask-long : not t ≡ true → Refused BadField ≡ useIn d
-  unfolding useIn supportedOnly
+  pub mask-long : not t ≡ true → Refused BadField ≡ use_in d
+  unfolding use_in supported_only
   mask-long h =
       let n : eqb (le (drop 8 d)) 0 ≡ false = said-false _ t e h in
       let over : ltb (le d) (2 ^ 18) ≡ false = omega (tests, le_split 8 d) in
       stop _ _ _ _ (and_right _ _ over) refl
 
   pub mask-read : (mask : ℕ) (x : Ask) → not t ≡ false → mask ≡ number 0 8 d
-      → x ≡ unless supportedOnly mask answer Refused BadField then UseList mask → x ≡ useIn d
-  unfolding useIn
+      → x ≡ unless supported_only mask answer Refused BadField then UseList mask → x ≡ use_in d
+  unfolding use_in
   mask-read mask x h r k =
       let z : eqb (le (drop 8 d)) 0 ≡ true = said-true _ t e h in
       let m : le d ≡ mask = omega (tests, le_split 8 d) in
@@ -73,7 +73,7 @@ pub at-opcode : (ids m op o : ℕ) (d : List ℕ) (x : Ask) → op ≡ o → x �
 at-opcode ids m op o d x e h = rw e h
 
 -- and at the last one, which none of the others is
-pub names-one : (op : ℕ) → supported op ≡ true → (op ≡ 0x00 → ⊥) → (op ≡ 0x01 → ⊥) → namesMember op ≡ true
+pub names-one : (op : ℕ) → supported op ≡ true → (op ≡ 0x00 → ⊥) → (op ≡ 0x01 → ⊥) → names_member op ≡ true
 names-one op s n0 n1 = either (ltb op 2) _ (sym (supported-is op) ∙ s) (λ e. absurd (omega tests)) (λ e. e)
 
 past : (op k : ℕ) → k ≤ op → (op ≡ k → ⊥) → suc k ≤ op
@@ -83,17 +83,17 @@ module _ (op : ℕ) (s : supported op ≡ true) (n0 : op ≡ 0x00 → ⊥) (n1 :
     (nb : op ≡ 0x0b → ⊥) (nc : op ≡ 0x0c → ⊥) (nd : op ≡ 0x0d → ⊥) (ne : op ≡ 0x0e → ⊥) (nf : op ≡ 0x0f → ⊥)
     (ng : op ≡ 0x10 → ⊥) where
   is_last : op ≡ 0x11
-  unfolding namesMember
+  unfolding names_member
   is_last =
       let n = names-one op s n0 n1 in
       le_antisymm (within-high _ _ _ n)
       (past _ _ (past _ _ (past _ _ (past _ _ (past _ _ (past _ _ (past _ _ (within_low _ _ _ n) na) nb) nc) nd) ne) nf) ng)
 
-  pub last-long : (n : ℕ) → fixedSize op ≤ n → 1 ≤ n
-  unfolding opcodeRows
+  pub last-long : (n : ℕ) → fixed_size op ≤ n → 1 ≤ n
+  unfolding opcode_rows
   last-long n f = data-long op 0x11 n 1 f is_last tt
 
-  pub at-last-opcode : (ids m : ℕ) (d : List ℕ) (x : Ask) → x ≡ modeIn m d → x ≡ fields_of ids m op d
+  pub at-last-opcode : (ids m : ℕ) (d : List ℕ) (x : Ask) → x ≡ mode_in m d → x ≡ fields_of ids m op d
   unfolding fields_of if◌then◌else◌
   at-last-opcode ids m d x h = rw is_last h
 
@@ -102,9 +102,9 @@ unfolding usable
 usable-supported used op b e h = (both _ _ (sym e ∙ not-false b h)).0
 
 -- the numbers that were read, and the data
-pub framed_is : (members ids used g op m : ℕ) (marked : Bool) (r : List ℕ) (x : Ask) → dataAt ≤ length r → length r ≤ longest
+pub framed_is : (members ids used g op m : ℕ) (marked : Bool) (r : List ℕ) (x : Ask) → data_at ≤ length r → length r ≤ longest
     → g ≡ group_of r → op ≡ opcode_of r → m ≡ target_of r
-    → x ≡ framedOf members ids used marked g op m (take (length r - dataAt) (data_of r)) → x ≡ askOf members ids used marked r
-unfolding askOf
+    → x ≡ framed_of members ids used marked g op m (take (length r - data_at) (data_of r)) → x ≡ ask_of members ids used marked r
+unfolding ask_of
 framed_is members ids used g op m marked r x a b eg eo em h =
-    pass _ _ _ x (inside dataAt longest (length r) a b) (h ∙ rw (eg, eo, em, tail-is dataAt r))
+    pass _ _ _ x (inside data_at longest (length r) a b) (h ∙ rw (eg, eo, em, tail-is data_at r))

@@ -4,35 +4,35 @@
 use Rattle.std.specs.Prelude.{Bool, not, List, ℕ, eqb, length}
 use Rattle.theory.specs.Logic.{unless◌answer◌then◌, ◌and◌, ◌or◌, within}
 use Rattle.protocol.specs.declared.Answer.TheVariants.{BadLength, BadGroup, BadOpcode, NoMember, Marked}
-use Rattle.protocol.specs.Opcodes.{supported, bit, namesMember}
+use Rattle.protocol.specs.Opcodes.{supported, bit, names_member}
 use Rattle.frame.specs.declared.Ask.{Ask}
 use Rattle.frame.specs.declared.Ask.TheVariants.{Refused}
-use Rattle.frame.specs.Frame.{dataAt, longest, opcode_of, group_of, target_of, data_of}
+use Rattle.frame.specs.Frame.{data_at, longest, opcode_of, group_of, target_of, data_of}
 use Rattle.frame.specs.Fields.{fields_of}
 
 -- step 4: supported and in use
 unfoldable pub usable : ℕ → ℕ → Bool
-usable inUse op = supported op and bit inUse op
+usable in_use op = supported op and bit in_use op
 
 -- step 5: a command that names a member names one of 1 to N
 unfoldable pub reaches : ℕ → ℕ → ℕ → Bool
-reaches members op m = not (namesMember op) or within 1 members m
+reaches members op m = not (names_member op) or within 1 members m
 
 -- right after step 5 (02, request 10): a command that names a member names one that is not marked
 unfoldable pub attended : Bool → ℕ → Bool
-attended marked op = not marked or not (namesMember op)
+attended marked op = not marked or not (names_member op)
 
 -- steps 3 to 7, on the fields of the frame: the first that applies; marked says whether member m is
-unfoldable pub framedOf : ℕ → ℕ → ℕ → Bool → ℕ → ℕ → ℕ → List ℕ → Ask
-framedOf members ids inUse marked group op m d =
+unfoldable pub framed_of : ℕ → ℕ → ℕ → Bool → ℕ → ℕ → ℕ → List ℕ → Ask
+framed_of members ids in_use marked group op m d =
     unless eqb group 1 answer Refused BadGroup then  -- 3
-    unless usable inUse op answer Refused BadOpcode then  -- 4
+    unless usable in_use op answer Refused BadOpcode then  -- 4
     unless reaches members op m answer Refused NoMember then  -- 5
     unless attended marked op answer Refused Marked then
     fields_of ids m op d  -- 7
 
 -- steps 2 to 7, on the bytes of a request; ids is G + S
-unfoldable pub askOf : ℕ → ℕ → ℕ → Bool → List ℕ → Ask
-askOf members ids inUse marked r =
-    unless within dataAt longest (length r) answer Refused BadLength then  -- 2
-    framedOf members ids inUse marked (group_of r) (opcode_of r) (target_of r) (data_of r)
+unfoldable pub ask_of : ℕ → ℕ → ℕ → Bool → List ℕ → Ask
+ask_of members ids in_use marked r =
+    unless within data_at longest (length r) answer Refused BadLength then  -- 2
+    framed_of members ids in_use marked (group_of r) (opcode_of r) (target_of r) (data_of r)

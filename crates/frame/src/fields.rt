@@ -4,9 +4,9 @@ ghost use Rattle.std.specs.Prelude.{◌≡◌, true, ◌≤◌, ◌<◌, leb, eq
 ghost use Rattle.theory.specs.Logic.{if◌then◌else◌};
 ghost use Rattle.theory.specs.Bytes.{put};
 ghost use Rattle.wire.specs.Le.{le};
-ghost use Rattle.protocol.specs.Opcodes.{supported, fixedSize, longestFixed};
-ghost use Rattle.frame.specs.Frame.{objectSize, kind_at, headersAt};
-ghost use Rattle.frame.specs.Fields.{id_of, objectValid, flagsValid, kindValid, kindIn, metadataIs, createIn, modifyIn, queryIn, destroyIn, metadataIn, getIn, setIn, modeIn, useIn, fields_of};
+ghost use Rattle.protocol.specs.Opcodes.{supported, fixed_size, longest_fixed};
+ghost use Rattle.frame.specs.Frame.{object_size, kind_at, headers_at};
+ghost use Rattle.frame.specs.Fields.{id_of, object_valid, flags_valid, kind_valid, kind_in, metadata_is, create_in, modify_in, query_in, destroy_in, metadata_in, get_in, set_in, mode_in, use_in, fields_of};
 
 use super::{Ask, FLAGS_AT, HEADERS_AT, ID_AT, KIND_AT, TYPE_AT};
 use protocol::{Answer, ChangeOp, Metadata, ObjectKind, ReadOp};
@@ -16,8 +16,8 @@ const WORD_SIZE: usize = 8;
 
 // The object header: type 0, and an id below G + S.
 fn object_valid(ids: u8, d: &[u8]) -> bool
-    requires { objectSize ≤ length d.now }
-    ensures { result ≡ objectValid ids d.now }
+    requires { object_size ≤ length d.now }
+    ensures { result ≡ object_valid ids d.now }
 {
     if wire::read_u16(d, 0) != 0 {
         return false;
@@ -27,14 +27,14 @@ fn object_valid(ids: u8, d: &[u8]) -> bool
 
 fn flags_valid(d: &[u8]) -> bool
     requires { kind_at ≤ length d.now }
-    ensures { result ≡ flagsValid d.now }
+    ensures { result ≡ flags_valid d.now }
 {
     wire::read_u64(d, FLAGS_AT) == 0
 }
 
 fn kind_valid(ids: u8, d: &[u8]) -> bool
     requires { kind_at < length d.now }
-    ensures { result ≡ kindValid ids d.now }
+    ensures { result ≡ kind_valid ids d.now }
 {
     if !object_valid(ids, d) {
         return false;
@@ -46,14 +46,14 @@ fn kind_valid(ids: u8, d: &[u8]) -> bool
 }
 
 fn id_of(d: &[u8]) -> usize
-    requires { objectSize ≤ length d.now }
+    requires { object_size ≤ length d.now }
     ensures { result ≡ id_of d.now }
 {
     wire::read_u32(d, ID_AT) as usize
 }
 
 fn kind_in(b: u8) -> ObjectKind
-    ensures { result ≡ kindIn b }
+    ensures { result ≡ kind_in b }
 {
     if b == 0 {
         ObjectKind::Get
@@ -64,7 +64,7 @@ fn kind_in(b: u8) -> ObjectKind
 
 fn create_in(ids: u8, m: u64, d: &[u8]) -> Ask
     requires { kind_at < length d.now }
-    ensures { result ≡ createIn ids m d.now }
+    ensures { result ≡ create_in ids m d.now }
 {
     if !kind_valid(ids, d) {
         return Ask::Refused(Answer::BadField);
@@ -74,7 +74,7 @@ fn create_in(ids: u8, m: u64, d: &[u8]) -> Ask
 
 fn modify_in(ids: u8, m: u64, d: &[u8]) -> Ask
     requires { kind_at < length d.now }
-    ensures { result ≡ modifyIn ids m d.now }
+    ensures { result ≡ modify_in ids m d.now }
 {
     if !kind_valid(ids, d) {
         return Ask::Refused(Answer::BadField);
@@ -84,7 +84,7 @@ fn modify_in(ids: u8, m: u64, d: &[u8]) -> Ask
 
 fn query_in(ids: u8, m: u64, d: &[u8]) -> Ask
     requires { kind_at ≤ length d.now }
-    ensures { result ≡ queryIn ids m d.now }
+    ensures { result ≡ query_in ids m d.now }
 {
     if !object_valid(ids, d) {
         return Ask::Refused(Answer::BadField);
@@ -96,8 +96,8 @@ fn query_in(ids: u8, m: u64, d: &[u8]) -> Ask
 }
 
 fn destroy_in(ids: u8, m: u64, d: &[u8]) -> Ask
-    requires { objectSize ≤ length d.now }
-    ensures { result ≡ destroyIn ids m d.now }
+    requires { object_size ≤ length d.now }
+    ensures { result ≡ destroy_in ids m d.now }
 {
     if !object_valid(ids, d) {
         return Ask::Refused(Answer::BadField);
@@ -106,7 +106,7 @@ fn destroy_in(ids: u8, m: u64, d: &[u8]) -> Ask
 }
 
 fn metadata_is(b: u8) -> Metadata
-    ensures { result ≡ metadataIs b }
+    ensures { result ≡ metadata_is b }
 {
     match b {
         0 => Metadata::Size,
@@ -116,8 +116,8 @@ fn metadata_is(b: u8) -> Metadata
 }
 
 fn metadata_in(ids: u8, m: u64, d: &[u8]) -> Ask
-    requires { headersAt ≤ length d.now }
-    ensures { result ≡ metadataIn ids m d.now }
+    requires { headers_at ≤ length d.now }
+    ensures { result ≡ metadata_in ids m d.now }
 {
     if !object_valid(ids, d) {
         return Ask::Refused(Answer::BadField);
@@ -129,8 +129,8 @@ fn metadata_in(ids: u8, m: u64, d: &[u8]) -> Ask
 }
 
 fn get_in(ids: u8, m: u64, d: &[u8]) -> Ask
-    requires { headersAt ≤ length d.now }
-    ensures { result ≡ getIn ids m d.now }
+    requires { headers_at ≤ length d.now }
+    ensures { result ≡ get_in ids m d.now }
 {
     if !object_valid(ids, d) {
         return Ask::Refused(Answer::BadField);
@@ -148,8 +148,8 @@ fn get_in(ids: u8, m: u64, d: &[u8]) -> Ask
 }
 
 fn set_in(ids: u8, m: u64, d: &[u8]) -> Ask
-    requires { objectSize ≤ length d.now }
-    ensures { result ≡ setIn ids m d.now }
+    requires { object_size ≤ length d.now }
+    ensures { result ≡ set_in ids m d.now }
 {
     if !object_valid(ids, d) {
         return Ask::Refused(Answer::BadField);
@@ -159,7 +159,7 @@ fn set_in(ids: u8, m: u64, d: &[u8]) -> Ask
 
 fn mode_in(m: u64, d: &[u8]) -> Ask
     requires { 1 ≤ length d.now }
-    ensures { result ≡ modeIn m d.now }
+    ensures { result ≡ mode_in m d.now }
 {
     if 1 < d[0] {
         return Ask::Refused(Answer::BadField);
@@ -183,7 +183,7 @@ fn is_zero_from(d: &[u8], at: usize) -> bool
 
 fn use_in(d: &[u8]) -> Ask
     requires { 8 ≤ length d.now }
-    ensures { result ≡ useIn d.now }
+    ensures { result ≡ use_in d.now }
 {
     if !is_zero_from(d, WORD_SIZE) {
         return Ask::Refused(Answer::BadField);
@@ -197,7 +197,7 @@ fn use_in(d: &[u8]) -> Ask
 
 // Step 7 of data that holds all fixed fields of its command.
 fn whole_fields(ids: u8, m: u64, op: usize, d: &[u8]) -> Ask
-    requires { (supported op ≡ true) × (fixedSize op ≤ length d.now) }
+    requires { (supported op ≡ true) × (fixed_size op ≤ length d.now) }
     ensures { result ≡ fields_of ids m op d.now }
 {
     match op {
@@ -216,8 +216,8 @@ fn whole_fields(ids: u8, m: u64, op: usize, d: &[u8]) -> Ask
 
 // Data that ends within the fixed fields, over zeros. Other data is not copied.
 fn padded(fixed: usize, d: &[u8]) -> [u8; protocol::LONGEST_FIXED]
-    requires { fixed ≤ longestFixed }
-    ensures { result ≡ (if leb fixed (length d.now) then replicate longestFixed 0 else put 0 d.now (replicate longestFixed 0)) }
+    requires { fixed ≤ longest_fixed }
+    ensures { result ≡ (if leb fixed (length d.now) then replicate longest_fixed 0 else put 0 d.now (replicate longest_fixed 0)) }
 {
     let mut zeros = [0u8; protocol::LONGEST_FIXED];
     if fixed <= d.len() {

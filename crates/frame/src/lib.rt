@@ -3,8 +3,8 @@ mod fields;
 
 ghost use Rattle.std.specs.Prelude.{◌≡◌, leb, length};
 ghost use Rattle.theory.specs.Logic.{if◌then◌else◌};
-ghost use Rattle.frame.specs.Frame.{dataAt, target_of};
-ghost use Rattle.frame.specs.Ask.{usable, reaches, attended, framedOf, askOf};
+ghost use Rattle.frame.specs.Frame.{data_at, target_of};
+ghost use Rattle.frame.specs.Ask.{usable, reaches, attended, framed_of, ask_of};
 
 use protocol::{Answer, ChangeOp, ReadOp};
 
@@ -90,7 +90,7 @@ fn framed(
     m: u64,
     d: &[u8],
 ) -> Ask
-    ensures { result ≡ framedOf members ids in_use marked group op m d.now }
+    ensures { result ≡ framed_of members ids in_use marked group op m d.now }
 {
     if group != 1 {
         return Ask::Refused(Answer::BadGroup);
@@ -109,7 +109,7 @@ fn framed(
 
 // The member field of a request; 0, which is no member, where it is too short to be one.
 pub fn member_of(request: &[u8]) -> u64
-    ensures { result ≡ (if leb dataAt (length request.now) then target_of request.now else 0) }
+    ensures { result ≡ (if leb data_at (length request.now) then target_of request.now else 0) }
 {
     if request.len() < DATA_AT {
         return 0;
@@ -119,7 +119,7 @@ pub fn member_of(request: &[u8]) -> u64
 
 // Steps 2 to 7: what a request asks of a card with these members, ids and opcodes in use; marked says whether its member is.
 pub fn decode(members: u8, ids: u8, in_use: u64, marked: bool, request: &[u8]) -> Ask
-    ensures { result ≡ askOf members ids in_use marked request.now }
+    ensures { result ≡ ask_of members ids in_use marked request.now }
 {
     if request.len() < DATA_AT {
         return Ask::Refused(Answer::BadLength);

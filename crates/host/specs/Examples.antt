@@ -6,8 +6,8 @@ use Rattle.host.specs.declared.Command.{Command}
 use Rattle.host.specs.declared.Command.TheVariants.{ListQuery, ListUse, Create, Modify, Query, Destroy, Metadata, Get, Set, SetMode}
 use Rattle.host.specs.declared.Outcome.{Outcome}
 use Rattle.host.specs.declared.Outcome.TheVariants.{Refused}
-use Rattle.host.specs.Request.{requestOf}
-use Rattle.host.specs.Reply.{answered, readReply}
+use Rattle.host.specs.Request.{request_of}
+use Rattle.host.specs.Reply.{answered, read_reply}
 
 abbrev pub zeros : ℕ → List ℕ
 zeros n = replicate n 0
@@ -36,16 +36,16 @@ abbrev pub frame : ℕ → List ℕ → List ℕ
 frame op d = (op ∷ 0 ∷ 1 ∷ 0 ∷ zeros 12) ++ ((0x10 ∷ 0x11 ∷ 0x12 ∷ 0x13 ∷ 0x14 ∷ 0x15 ∷ 0x16 ∷ 0x17 ∷ []) ++ d)
 
 -- the list commands have member 0
-abbrev pub listFrame : ℕ → List ℕ → List ℕ
-listFrame op d = (op ∷ 0 ∷ 1 ∷ 0 ∷ zeros 20) ++ d
+abbrev pub list_frame : ℕ → List ℕ → List ℕ
+list_frame op d = (op ∷ 0 ∷ 1 ∷ 0 ∷ zeros 20) ++ d
 
 abbrev pub object : List ℕ → List ℕ
 object d = (0 ∷ 0 ∷ 0 ∷ 0 ∷ 4 ∷ 5 ∷ 6 ∷ 7 ∷ []) ++ d
 
 unfoldable pub requests : List Built
 requests =
-    built ListQuery [] (listFrame 0x00 [])
-    ∷ built (ListUse 0x0807060504030201) [] (listFrame 0x01 (1 ∷ 2 ∷ 3 ∷ 4 ∷ 5 ∷ 6 ∷ 7 ∷ 8 ∷ []))
+    built ListQuery [] (list_frame 0x00 [])
+    ∷ built (ListUse 0x0807060504030201) [] (list_frame 0x01 (1 ∷ 2 ∷ 3 ∷ 4 ∷ 5 ∷ 6 ∷ 7 ∷ 8 ∷ []))
     ∷ built (Create member id 9) [] (frame 0x0a (object (zeros 8 ++ (9 ∷ zeros 7))))
     ∷ built (Modify member id 9) [] (frame 0x0b (object (zeros 8 ++ (9 ∷ zeros 7))))
     ∷ built (Query member id) [] (frame 0x0c (object (zeros 8)))
@@ -57,7 +57,7 @@ requests =
     ∷ []
 
 abbrev pub RequestsBuilt : Type 0
-RequestsBuilt = map (λ (b : Built). requestOf b.command b.list) requests ≡ map (λ (b : Built). b.bytes) requests
+RequestsBuilt = map (λ (b : Built). request_of b.command b.list) requests ≡ map (λ (b : Built). b.bytes) requests
 
 -- ---- replies ----
 
@@ -75,8 +75,8 @@ abbrev pub reply : ℕ → ℕ → List ℕ → List ℕ
 reply status qualifier result = (status ∷ 0 ∷ qualifier ∷ 0 ∷ zeros 4) ++ result
 
 -- the header of a part of type 0xffff whose value has n bytes
-abbrev pub partHeader : ℕ → List ℕ
-partHeader n = 0xff ∷ 0xff ∷ zeros 10 ++ (n ∷ zeros 3)
+abbrev pub part_header : ℕ → List ℕ
+part_header n = 0xff ∷ 0xff ∷ zeros 10 ++ (n ∷ zeros 3)
 
 unfoldable pub replies : List ReadBack
 replies =
@@ -112,10 +112,10 @@ replies =
     ∷ reads 0x0e 2 (reply 0 0 []) Refused
     -- parts get: none, whole ones, a value that is missing, a header that is cut
     ∷ reads 0x0f 0 (reply 0 0 []) (answered 0 0 0 0)
-    ∷ reads 0x0f 1 (reply 0 0 (partHeader 1 ++ (5 ∷ partHeader 0))) (answered 0 0 0 0)
-    ∷ reads 0x0f 0 (reply 0 0 (partHeader 1)) Refused
-    ∷ reads 0x0f 0 (reply 0 0 (partHeader 0 ++ zeros 15)) Refused
+    ∷ reads 0x0f 1 (reply 0 0 (part_header 1 ++ (5 ∷ part_header 0))) (answered 0 0 0 0)
+    ∷ reads 0x0f 0 (reply 0 0 (part_header 1)) Refused
+    ∷ reads 0x0f 0 (reply 0 0 (part_header 0 ++ zeros 15)) Refused
     ∷ []
 
 abbrev pub RepliesRead : Type 0
-RepliesRead = map (λ (r : ReadBack). readReply r.opcode r.type r.reply) replies ≡ map (λ (r : ReadBack). r.outcome) replies
+RepliesRead = map (λ (r : ReadBack). read_reply r.opcode r.type r.reply) replies ≡ map (λ (r : ReadBack). r.outcome) replies

@@ -3,10 +3,10 @@ use Rattle.std.specs.Prelude.{Bool, List, ℕ, ◌+◌, ◌*◌, leb, eqb, lengt
 use Rattle.theory.specs.Logic.{if◌then◌else◌, unless◌answer◌then◌, ◌or◌}
 use Rattle.wire.specs.Le.{number}
 use Rattle.protocol.specs.Opcodes.{supported}
-use Rattle.inventory.specs.Header.{headerSize}
+use Rattle.inventory.specs.Header.{header_size}
 use Rattle.parts.specs.declared.ListForm.TheVariants.{Parts}
 use Rattle.parts.specs.List.{parts_of, whole}
-use Rattle.reply.specs.Reply.{headSize}
+use Rattle.reply.specs.Reply.{head_size}
 use Rattle.host.specs.declared.ResultForm.{ResultForm}
 use Rattle.host.specs.declared.ResultForm.TheVariants.{Exactly, Counted, WholeParts}
 use Rattle.host.specs.declared.Outcome.{Outcome}
@@ -15,14 +15,14 @@ use Rattle.host.specs.declared.Outcome.TheVariants.{Refused, Answered}
 -- ---- the length of a reply ----
 
 -- status 2 bytes, qualifier 2, four bytes that are not looked at, result
-abbrev pub statusIn : List ℕ → ℕ
-statusIn r = number 0 2 r
+abbrev pub status_in : List ℕ → ℕ
+status_in r = number 0 2 r
 
-abbrev pub qualifierIn : List ℕ → ℕ
-qualifierIn r = number 2 2 r
+abbrev pub qualifier_in : List ℕ → ℕ
+qualifier_in r = number 2 2 r
 
-abbrev pub resultIn : List ℕ → List ℕ
-resultIn r = drop headSize r
+abbrev pub result_in : List ℕ → List ℕ
+result_in r = drop head_size r
 
 -- how long the result of a success is. what is the type byte of a metadata command, of which 2 asks for a list; it is
 -- not read with another command
@@ -35,48 +35,48 @@ form_of op what =
     Exactly 0
 
 -- a metadata list: a count of 4 bytes, 4 bytes more, and as many headers as the count says
-unfoldable pub countFits : List ℕ → Bool
-countFits x = eqb (length x) (8 + headerSize * number 0 4 x)
+unfoldable pub count_fits : List ℕ → Bool
+count_fits x = eqb (length x) (8 + header_size * number 0 4 x)
 
 -- a result of parts ends where a part ends
-unfoldable pub resultFits : ResultForm → List ℕ → Bool
-resultFits (Exactly n) x = eqb (length x) n
-resultFits Counted x = countFits x
-resultFits WholeParts x = whole (parts_of Parts x)
+unfoldable pub result_fits : ResultForm → List ℕ → Bool
+result_fits (Exactly n) x = eqb (length x) n
+result_fits Counted x = count_fits x
+result_fits WholeParts x = whole (parts_of Parts x)
 
 -- a success has a result of its form, any other status none
-unfoldable pub lengthRight : ResultForm → ℕ → List ℕ → Bool
-lengthRight form status r = if eqb status 0 then resultFits form (resultIn r) else eqb (length r) headSize
+unfoldable pub length_right : ResultForm → ℕ → List ℕ → Bool
+length_right form status r = if eqb status 0 then result_fits form (result_in r) else eqb (length r) head_size
 
 -- ---- status and qualifier ----
 
 -- the statuses of SPEC 6.2
-unfoldable pub knownStatus : ℕ → Bool
-knownStatus n = eqb n 0 or eqb n 6 or eqb n 11 or eqb n 12 or eqb n 17 or eqb n 22 or eqb n 28
+unfoldable pub known_status : ℕ → Bool
+known_status n = eqb n 0 or eqb n 6 or eqb n 11 or eqb n 12 or eqb n 17 or eqb n 22 or eqb n 28
 
 -- a status that is not known is handled as 22, and a qualifier that is not known as 1
-unfoldable pub handledStatus : ℕ → ℕ
-handledStatus n = if knownStatus n then n else 22
+unfoldable pub handled_status : ℕ → ℕ
+handled_status n = if known_status n then n else 22
 
-unfoldable pub handledQualifier : ℕ → ℕ
-handledQualifier n = if leb n 7 then n else 1
+unfoldable pub handled_qualifier : ℕ → ℕ
+handled_qualifier n = if leb n 7 then n else 1
 
 -- ---- what is read ----
 
 -- status and qualifier to act on, beside the numbers that were sent
 abbrev pub answered : ℕ → ℕ → ℕ → ℕ → Outcome
-answered status qualifier sentStatus sentQualifier = Answered (record {
+answered status qualifier sent_status sent_qualifier = Answered (record {
   status = status;
   qualifier = qualifier;
-  sent_status = sentStatus;
-  sent_qualifier = sentQualifier;
+  sent_status = sent_status;
+  sent_qualifier = sent_qualifier;
 })
 
 -- refused is a reply under 8 bytes or of the wrong length for its command and status; an opcode that is none of the ten
--- is no command. The result is resultIn
-unfoldable pub readReply : ℕ → ℕ → List ℕ → Outcome
-readReply op what r =
+-- is no command. The result is result_in
+unfoldable pub read_reply : ℕ → ℕ → List ℕ → Outcome
+read_reply op what r =
     unless supported op answer Refused then
-    unless leb headSize (length r) answer Refused then
-    unless lengthRight (form_of op what) (statusIn r) r answer Refused then
-    answered (handledStatus (statusIn r)) (handledQualifier (qualifierIn r)) (statusIn r) (qualifierIn r)
+    unless leb head_size (length r) answer Refused then
+    unless length_right (form_of op what) (status_in r) r answer Refused then
+    answered (handled_status (status_in r)) (handled_qualifier (qualifier_in r)) (status_in r) (qualifier_in r)

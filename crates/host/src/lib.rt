@@ -1,10 +1,10 @@
 // The host's half: the request of a command from its fields, and a reply read as the answer to the command sent.
 ghost use Rattle.std.specs.Prelude.{◌≡◌, true, [], ◌+◌, ◌≤◌, length};
 ghost use Rattle.theory.specs.Bytes.{put};
-ghost use Rattle.protocol.specs.Opcodes.{opcodeRow};
-ghost use Rattle.reply.specs.Reply.{headSize};
-ghost use Rattle.host.specs.Request.{sent, sentOf, startWith, start_of, StartFits, begun, built};
-ghost use Rattle.host.specs.Reply.{resultIn, form_of, countFits, resultFits, lengthRight, knownStatus, handledStatus, handledQualifier, readReply};
+ghost use Rattle.protocol.specs.Opcodes.{opcode_row};
+ghost use Rattle.reply.specs.Reply.{head_size};
+ghost use Rattle.host.specs.Request.{sent, sent_of, start_with, start_of, StartFits, begun, built};
+ghost use Rattle.host.specs.Reply.{result_in, form_of, count_fits, result_fits, length_right, known_status, handled_status, handled_qualifier, read_reply};
 
 use frame::{DATA_AT, FLAGS_AT, KIND_AT, LONGEST, MEMBER_AT, OBJECT_SIZE, TYPE_AT};
 use parts::ListForm;
@@ -73,7 +73,7 @@ fn fields(opcode: u16, member: u64, id: u32, place: usize, value: u64) -> Sent
 }
 
 fn sent_of(command: Command) -> Sent
-    ensures { result ≡ sentOf command }
+    ensures { result ≡ sent_of command }
 {
     match command {
         Command::ListQuery => fields(0x00, 0, 0, 0, 0),
@@ -92,7 +92,7 @@ fn sent_of(command: Command) -> Sent
 // The frame and the fixed fields, in as many bytes as they have.
 fn write_start(out: &mut [u8], s: Sent, fixed: usize)
     requires { StartFits s fixed out.old }
-    ensures { out.new ≡ put 0 (startWith s) out.old }
+    ensures { out.new ≡ put 0 (start_with s) out.old }
 {
     wire::write(out, 0, MEMBER_AT, 0x10000 + s.opcode as u64);
     wire::write(out, MEMBER_AT, 8, s.member);
@@ -118,7 +118,7 @@ fn begin(out: &mut [u8], command: Command, list: usize) -> usize
 }
 
 fn with_list(out: &mut [u8], command: Command, list: &[u8]) -> usize
-    requires { (opcodeRow (sentOf command).opcode).listed ≡ true }
+    requires { (opcode_row (sent_of command).opcode).listed ≡ true }
     ensures { (result, out.new) ≡ built command list.now out.old }
 {
     let n = begin(out, command, list.len());
@@ -219,7 +219,7 @@ fn form_of(op: u16, what: u8) -> ResultForm
 }
 
 fn count_fits(res: &[u8]) -> bool
-    ensures { result ≡ countFits res.now }
+    ensures { result ≡ count_fits res.now }
 {
     if res.len() < 8 {
         return false;
@@ -229,7 +229,7 @@ fn count_fits(res: &[u8]) -> bool
 }
 
 fn result_fits(form: ResultForm, res: &[u8]) -> bool
-    ensures { result ≡ resultFits form res.now }
+    ensures { result ≡ result_fits form res.now }
 {
     match form {
         ResultForm::Exactly(n) => res.len() == n,
@@ -240,15 +240,15 @@ fn result_fits(form: ResultForm, res: &[u8]) -> bool
 
 // The result of a reply, as a part of it.
 pub fn result(reply: &[u8]) -> &[u8]
-    requires { headSize ≤ length reply.now }
-    ensures { result.now ≡ resultIn reply.now }
+    requires { head_size ≤ length reply.now }
+    ensures { result.now ≡ result_in reply.now }
 {
     &reply[reply::HEAD_SIZE..]
 }
 
 fn length_right(form: ResultForm, status: u16, reply: &[u8]) -> bool
-    requires { headSize ≤ length reply.now }
-    ensures { result ≡ lengthRight form status reply.now }
+    requires { head_size ≤ length reply.now }
+    ensures { result ≡ length_right form status reply.now }
 {
     if status == 0 {
         return result_fits(form, result(reply));
@@ -257,25 +257,25 @@ fn length_right(form: ResultForm, status: u16, reply: &[u8]) -> bool
 }
 
 fn known_status(n: u16) -> bool
-    ensures { result ≡ knownStatus n }
+    ensures { result ≡ known_status n }
 {
     (n == 0) | (n == 6) | (n == 11) | (n == 12) | (n == 17) | (n == 22) | (n == 28)
 }
 
 fn handled_status(n: u16) -> u16
-    ensures { result ≡ handledStatus n }
+    ensures { result ≡ handled_status n }
 {
     if known_status(n) { n } else { 22 }
 }
 
 fn handled_qualifier(n: u16) -> u16
-    ensures { result ≡ handledQualifier n }
+    ensures { result ≡ handled_qualifier n }
 {
     if n <= 7 { n } else { 1 }
 }
 
 pub fn read_reply(op: u16, what: u8, reply: &[u8]) -> Outcome
-    ensures { result ≡ readReply op what reply.now }
+    ensures { result ≡ read_reply op what reply.now }
 {
     if !protocol::supported(op as usize) {
         return Outcome::Refused;

@@ -7,10 +7,10 @@ use lib.Dec.{eqb}
 use lib.ListN.{get_or, get_or-map}
 use Rattle.theory.specs.Logic.{◌and◌}
 use Rattle.theory.proofs.Table.{every, at}
-use Rattle.inventory.specs.Inventory.{Row, row, rows, row_at, rowCount, offset_of, present}
+use Rattle.inventory.specs.Inventory.{Row, row, rows, row_at, row_count, offset_of, present}
 
 abbrev pub types : List ℕ
-types = map (λ (r : Row). r.partType) rows
+types = map (λ (r : Row). r.part_type) rows
 
 abbrev pub selectors : List ℕ
 selectors = map (λ (r : Row). r.selector) rows
@@ -21,9 +21,9 @@ sizes = map (λ (r : Row). r.size) rows
 abbrev pub offsets : List ℕ
 offsets = 0 ∷ 16 ∷ 32 ∷ 36 ∷ 40 ∷ 42 ∷ 44 ∷ 45 ∷ 77 ∷ 109 ∷ 141 ∷ 173 ∷ 181 ∷ 189 ∷ 197 ∷ []
 
-pub type_at : (i : ℕ) → get_or types i 0 ≡ (row_at i).partType
+pub type_at : (i : ℕ) → get_or types i 0 ≡ (row_at i).part_type
 unfolding row_at
-type_at i = get_or-map (λ (r : Row). r.partType) rows i (row 0 0 0)
+type_at i = get_or-map (λ (r : Row). r.part_type) rows i (row 0 0 0)
 
 pub selector-at : (i : ℕ) → get_or selectors i 0 ≡ (row_at i).selector
 unfolding row_at
@@ -42,6 +42,6 @@ pub present-at : (q i : ℕ) → present q (row (get_or types i 0) (get_or selec
 unfolding present
 present-at q i = rw (type_at i, selector-at i)
 
-pub offset_at : (i : ℕ) → i < rowCount → get_or offsets i 0 ≡ offset_of i
+pub offset-at : (i : ℕ) → i < row_count → get_or offsets i 0 ≡ offset_of i
 unfolding rows offset_of every ◌and◌
-offset_at i h = eqb-true _ _ (at (λ k x. eqb x (offset_of k)) 0 offsets refl i h)
+offset-at i h = eqb-true _ _ (at (λ k x. eqb x (offset_of k)) 0 offsets refl i h)

@@ -11,7 +11,7 @@ use lib.ListN.{length, get_or}
 use Rattle.theory.specs.Logic.{if◌then◌else◌}
 use Rattle.theory.proofs.Tests.{by_cases, both, never}
 use Rattle.theory.proofs.Table.{every}
-use Rattle.inventory.specs.Inventory.{Row, row, rows, row_at, rowCount, present, is_row, seek, place_of}
+use Rattle.inventory.specs.Inventory.{Row, row, rows, row_at, row_count, present, is_row, seek, place_of}
 use Rattle.inventory.specs.declared.Place.{Place}
 use Rattle.inventory.specs.declared.Place.TheVariants.{At, Absent}
 use Rattle.inventory.proofs.Rules.{table, every-row, every-count}
@@ -20,12 +20,12 @@ use Rattle.inventory.proofs.Rules.{table, every-row, every-count}
 
 -- row i is there, and has this type and selector
 pub record Found (q t s i : ℕ) : Type 0 where
-  pub below : i < rowCount
-  pub type-is : (row_at i).partType ≡ t
+  pub below : i < row_count
+  pub type-is : (row_at i).part_type ≡ t
   pub selector-is : (row_at i).selector ≡ s
   pub there : present q (row_at i) ≡ true
 
-found : (q t s i : ℕ) → i < rowCount → is_row q t s (row_at i) ≡ true → Found q t s i
+found : (q t s i : ℕ) → i < row_count → is_row q t s (row_at i) ≡ true → Found q t s i
 unfolding is_row
 found q t s i h e =
     let a = both _ _ e in
@@ -33,7 +33,7 @@ found q t s i h e =
     record { below = h; type-is = eqb-true _ _ b.0; selector-is = eqb-true _ _ b.1; there = a.1 }
 
 -- in rows that are those of the table from k on
-seek_found : (q t s : ℕ) (rs : List Row) (k i : ℕ) → k + length rs ≡ rowCount → ((j : ℕ) → get_or rs j (row 0 0 0) ≡ row_at (k + j))
+seek_found : (q t s : ℕ) (rs : List Row) (k i : ℕ) → k + length rs ≡ row_count → ((j : ℕ) → get_or rs j (row 0 0 0) ≡ row_at (k + j))
     → seek q t s rs k ≡ At i → Found q t s i
 unfolding seek if◌then◌else◌
 seek_found q t s [] k i n same e = never cc
@@ -57,24 +57,24 @@ is_at : ℕ → Place → Bool
 is_at k (At i) = eqb i k
 is_at k Absent = false
 
-isAt-is : (k : ℕ) (p : Place) → is_at k p ≡ true → p ≡ At k
+is_at-is : (k : ℕ) (p : Place) → is_at k p ≡ true → p ≡ At k
 unfolding is_at
-isAt-is k (At i) e = ap At (eqb-true i k e)
-isAt-is k Absent e = cc
+is_at-is k (At i) e = ap At (eqb-true i k e)
+is_at-is k Absent e = cc
 
-pub own-place : (q i : ℕ) → q < 5 → i < rowCount → present q (row_at i) ≡ true → place_of q (row_at i).partType (row_at i).selector ≡ At i
+pub own-place : (q i : ℕ) → q < 5 → i < row_count → present q (row_at i) ≡ true → place_of q (row_at i).part_type (row_at i).selector ≡ At i
 unfolding table is_at
 own-place q i h l p =
-    let t = every-count (λ q. every (λ k r. if present q r then is_at k (place_of q r.partType r.selector) else true) 0 rows) refl q h in
-    let u = every-row (λ k r. if present q r then is_at k (place_of q r.partType r.selector) else true) t i l in
-    isAt-is i _ (rw p at u)
+    let t = every-count (λ q. every (λ k r. if present q r then is_at k (place_of q r.part_type r.selector) else true) 0 rows) refl q h in
+    let u = every-row (λ k r. if present q r then is_at k (place_of q r.part_type r.selector) else true) t i l in
+    is_at-is i _ (rw p at u)
 
 -- with four queues every row is there, so no two rows have one type and selector
-pub all-present : (i : ℕ) → i < rowCount → present 4 (row_at i) ≡ true
+pub all-present : (i : ℕ) → i < row_count → present 4 (row_at i) ≡ true
 unfolding table
 all-present i h = every-row (λ k r. present 4 r) refl i h
 
-pub rows-distinct : (i j : ℕ) → i < rowCount → j < rowCount → (row_at i).partType ≡ (row_at j).partType → (row_at i).selector ≡ (row_at j).selector
+pub rows-distinct : (i j : ℕ) → i < row_count → j < row_count → (row_at i).part_type ≡ (row_at j).part_type → (row_at i).selector ≡ (row_at j).selector
     → i ≡ j
 rows-distinct i j h l e f =
     let a = own-place 4 i (omega arith) h (all-present i h) in

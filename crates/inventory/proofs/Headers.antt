@@ -13,8 +13,8 @@ use Rattle.theory.proofs.Tests.{bool-byte, indicator-le}
 use Rattle.theory.proofs.Bytes.{put-append, put-comm}
 use Rattle.wire.specs.Le.{bytes, number}
 use Rattle.wire.proofs.Le.{le_bytes, bytes-append}
-use Rattle.inventory.specs.Inventory.{row, row_at, rowCount, deviceFeatures}
-use Rattle.inventory.specs.Header.{flagsAt, selectorAt, length_at, headerOf, flags_of}
+use Rattle.inventory.specs.Inventory.{row, row_at, row_count, device_features}
+use Rattle.inventory.specs.Header.{flags_at, selector_at, length_at, header_of, flags_of}
 use Rattle.inventory.proofs.Rules.{type-below, selector-below, size_below}
 
 -- ---- made of two words ----
@@ -29,12 +29,12 @@ flags-two false = refl
 
 module _ (t s n : ℕ) (h : t < 2 ^ 16) (k : s < 2 ^ 32) where
   abbrev flags : ℕ
-  flags = indicator (eqb t deviceFeatures)
+  flags = indicator (eqb t device_features)
 
   first_word : bytes 8 (t + 2 ^ 16 * (flags + 2 ^ 16 * s)) ≡ bytes 2 t ++ (flags ∷ 0 ∷ bytes 4 s)
   first_word =
       bytes-append 2 6 t (flags + 2 ^ 16 * s) h
-      ∙ ap (bytes 2 t ++◌) (bytes-append 2 4 flags s (omega (arith, indicator-le (eqb t deviceFeatures))) ∙ rw (flags-two (eqb t deviceFeatures)))
+      ∙ ap (bytes 2 t ++◌) (bytes-append 2 4 flags s (omega (arith, indicator-le (eqb t device_features))) ∙ rw (flags-two (eqb t device_features)))
 
   second_word : bytes 8 (2 ^ 32 * n) ≡ bytes 4 0 ++ bytes 4 n
   second_word = ap (bytes 8) (omega arith) ∙ bytes-append 4 4 0 n (omega arith)
@@ -42,12 +42,12 @@ module _ (t s n : ℕ) (h : t < 2 ^ 16) (k : s < 2 ^ 32) where
   selector-wide : bytes 8 s ≡ bytes 4 s ++ bytes 4 0
   selector-wide = ap (bytes 8) (omega arith) ∙ bytes-append 4 4 s 0 (omega arith)
 
-  header_is : bytes 8 (t + 2 ^ 16 * (flags + 2 ^ 16 * s)) ++ bytes 8 (2 ^ 32 * n) ≡ headerOf (row t s n)
-  unfolding headerOf
+  header_is : bytes 8 (t + 2 ^ 16 * (flags + 2 ^ 16 * s)) ++ bytes 8 (2 ^ 32 * n) ≡ header_of (row t s n)
+  unfolding header_of
   header_is = rw (first_word, second_word, selector-wide) (simp append_assoc)
 
   pub header-put : (at : ℕ) (out out₁ out₂ : List ℕ) (w : ℕ) → w ≡ t + 2 ^ 16 * (flags + 2 ^ 16 * s)
-      → out₁ ≡ put (at + 8) (bytes 8 (2 ^ 32 * n)) out → out₂ ≡ put at (bytes 8 w) out₁ → out₂ ≡ put at (headerOf (row t s n)) out
+      → out₁ ≡ put (at + 8) (bytes 8 (2 ^ 32 * n)) out → out₂ ≡ put at (bytes 8 w) out₁ → out₂ ≡ put at (header_of (row t s n)) out
   unfolding bytes
   header-put at out out₁ out₂ w e p q =
       let x = bytes 8 (t + 2 ^ 16 * (flags + 2 ^ 16 * s)) in
@@ -56,19 +56,19 @@ module _ (t s n : ℕ) (h : t < 2 ^ 16) (k : s < 2 ^ 32) where
 
 -- ---- read back from the front of a list ----
 
-module _ (i : ℕ) (h : i < rowCount) (rest : List ℕ) where
-  pub read-type : number 0 2 (headerOf (row_at i) ++ rest) ≡ (row_at i).partType
-  unfolding headerOf bytes number
-  read-type = le_bytes 2 (row_at i).partType (type-below i h)
+module _ (i : ℕ) (h : i < row_count) (rest : List ℕ) where
+  pub read-type : number 0 2 (header_of (row_at i) ++ rest) ≡ (row_at i).part_type
+  unfolding header_of bytes number
+  read-type = le_bytes 2 (row_at i).part_type (type-below i h)
 
-  pub read_flags : get_or (headerOf (row_at i) ++ rest) flagsAt 0 ≡ flags_of (row_at i)
-  unfolding headerOf bytes
+  pub read_flags : get_or (header_of (row_at i) ++ rest) flags_at 0 ≡ flags_of (row_at i)
+  unfolding header_of bytes
   read_flags = refl
 
-  pub read-selector : number selectorAt 8 (headerOf (row_at i) ++ rest) ≡ (row_at i).selector
-  unfolding headerOf bytes number
+  pub read-selector : number selector_at 8 (header_of (row_at i) ++ rest) ≡ (row_at i).selector
+  unfolding header_of bytes number
   read-selector = le_bytes 8 (row_at i).selector (omega (arith, selector-below i h))
 
-  pub read-size : number length_at 4 (headerOf (row_at i) ++ rest) ≡ (row_at i).size
-  unfolding headerOf bytes number
+  pub read-size : number length_at 4 (header_of (row_at i) ++ rest) ≡ (row_at i).size
+  unfolding header_of bytes number
   read-size = le_bytes 4 (row_at i).size (omega (arith, size_below i h))

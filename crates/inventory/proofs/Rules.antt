@@ -9,24 +9,24 @@ use lib.ListN.{length}
 use Rattle.theory.specs.Logic.{◌and◌, ◌or◌, indicator, if◌then◌else◌}
 use Rattle.theory.proofs.Table.{every, at}
 use Rattle.wire.specs.Le.{bytes}
-use Rattle.inventory.specs.Inventory.{Row, row, rows, row_at, rowCount, featuresRow, deviceFeatures, featuresSize, present, offset_of, valuesSize, selectorOf, is_row, seek, place_of}
-use Rattle.inventory.specs.Header.{headerOf, headerSize}
+use Rattle.inventory.specs.Inventory.{Row, row, rows, row_at, row_count, features_row, device_features, features_size, present, offset_of, values_size, selector_of, is_row, seek, place_of}
+use Rattle.inventory.specs.Header.{header_of, header_size}
 
 -- what computes where a proof says `unfolding table`
 unfoldable pub table : Unit {0}
-unfolding rows row_at present offset_of selectorOf is_row seek place_of every ◌and◌ ◌or◌ indicator if◌then◌else◌
+unfolding rows row_at present offset_of selector_of is_row seek place_of every ◌and◌ ◌or◌ indicator if◌then◌else◌
 table = tt
 
 -- ---- the numbers of the table ----
 
-row_count : length rows ≡ rowCount
+row-count : length rows ≡ row_count
 unfolding rows
-row_count = refl
+row-count = refl
 
 -- a test of each row and its index holds at each
-pub every-row : (f : ℕ → Row → Bool) → every f 0 rows ≡ true → (i : ℕ) → i < rowCount → f i (row_at i) ≡ true
+pub every-row : (f : ℕ → Row → Bool) → every f 0 rows ≡ true → (i : ℕ) → i < row_count → f i (row_at i) ≡ true
 unfolding row_at
-every-row f t i h = at f (row 0 0 0) rows t i (rw row_count h)
+every-row f t i h = at f (row 0 0 0) rows t i (rw row-count h)
 
 -- and of each queue count
 abbrev counts : List ℕ
@@ -37,10 +37,10 @@ every-count f t q h = at (λ q x. f q) 0 counts t q h
 
 -- ---- numbers of a row ----
 
-module _ (i : ℕ) (h : i < rowCount) where
-  pub type-below : (row_at i).partType < 2 ^ 16
+module _ (i : ℕ) (h : i < row_count) where
+  pub type-below : (row_at i).part_type < 2 ^ 16
   unfolding table
-  type-below = ltb-true _ _ (every-row (λ k r. ltb r.partType (2 ^ 16)) refl i h)
+  type-below = ltb-true _ _ (every-row (λ k r. ltb r.part_type (2 ^ 16)) refl i h)
 
   pub selector-below : (row_at i).selector < 256
   unfolding table
@@ -51,9 +51,9 @@ module _ (i : ℕ) (h : i < rowCount) where
   size_below = ltb-true _ _ (every-row (λ k r. ltb r.size 256) refl i h)
 
   -- a row's selector is read whole
-  pub selector-own : selectorOf (row_at i).partType (row_at i).selector ≡ (row_at i).selector
+  pub selector-own : selector_of (row_at i).part_type (row_at i).selector ≡ (row_at i).selector
   unfolding table
-  selector-own = eqb-true _ _ (every-row (λ k r. eqb (selectorOf r.partType r.selector) r.selector) refl i h)
+  selector-own = eqb-true _ _ (every-row (λ k r. eqb (selector_of r.part_type r.selector) r.selector) refl i h)
 
   -- ---- places of values: running sums ----
 
@@ -61,12 +61,12 @@ module _ (i : ℕ) (h : i < rowCount) where
   unfolding table
   offset-next = eqb-true _ _ (every-row (λ k r. eqb (offset_of (k + 1)) (offset_of k + r.size)) refl i h)
 
-  pub row_within : offset_of i + (row_at i).size ≤ valuesSize
+  pub row_within : offset_of i + (row_at i).size ≤ values_size
   unfolding table
-  row_within = leb-true _ _ (every-row (λ k r. leb (offset_of k + r.size) valuesSize) refl i h)
+  row_within = leb-true _ _ (every-row (λ k r. leb (offset_of k + r.size) values_size) refl i h)
 
   -- no two overlap
-  pub rows_apart : (j : ℕ) → j < rowCount → i < j → offset_of i + (row_at i).size ≤ offset_of j
+  pub rows_apart : (j : ℕ) → j < row_count → i < j → offset_of i + (row_at i).size ≤ offset_of j
   unfolding table
   rows_apart j l a =
       let t = every-row (λ m s. every (λ k r. leb m k or leb (offset_of k + r.size) (offset_of m)) 0 rows) refl j l in
@@ -75,22 +75,22 @@ module _ (i : ℕ) (h : i < rowCount) where
 
   -- ---- device features ----
 
-  pub features-row : (row_at i).partType ≡ deviceFeatures → i ≡ featuresRow
+  pub features-row : (row_at i).part_type ≡ device_features → i ≡ features_row
   unfolding table
   features-row e =
-      let t = every-row (λ k r. not (eqb r.partType deviceFeatures) or eqb k 0) refl i h in
+      let t = every-row (λ k r. not (eqb r.part_type device_features) or eqb k 0) refl i h in
       eqb-true i 0 (rw (eq-eqb _ _ e) at t)
 
-pub row_zero : row_at featuresRow ≡ row deviceFeatures 0 featuresSize
+pub row_zero : row_at features_row ≡ row device_features 0 features_size
 unfolding table
 row_zero = refl
 
-pub offset-zero : offset_of featuresRow ≡ 0
+pub offset-zero : offset_of features_row ≡ 0
 unfolding table
 offset-zero = refl
 
 -- ---- headers ----
 
-pub length-header : (r : Row) → length (headerOf r) ≡ headerSize
-unfolding headerOf bytes
+pub length-header : (r : Row) → length (header_of r) ≡ header_size
+unfolding header_of bytes
 length-header r = refl

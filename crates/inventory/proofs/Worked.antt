@@ -9,8 +9,8 @@ use borrow.Author.Tests.{eqb-true, eqb-false, ne_eqb, ltb-true, ltb-false, lt-lt
 use lib.Dec.{ltb, eqb}
 use Rattle.theory.specs.Logic.{if◌then◌else◌, ◌and◌}
 use Rattle.theory.proofs.Tests.{by_cases}
-use Rattle.inventory.specs.Inventory.{deviceFeatures, driverFeatures, pciCommon, deviceStatus, queue, queueNotify, place_of}
-use Rattle.inventory.specs.Worked.{nth_of, field_at, queueRows}
+use Rattle.inventory.specs.Inventory.{device_features, driver_features, pci_common, device_status, queue, queue_notify, place_of}
+use Rattle.inventory.specs.Worked.{nth_of, field_at, queue_rows}
 use Rattle.inventory.specs.declared.Place.{Place}
 use Rattle.inventory.specs.declared.Place.TheVariants.{At, Absent}
 use Rattle.inventory.proofs.Rules.{table}
@@ -22,15 +22,15 @@ turned k n h = ne_eqb k n (λ e. h (sym e))
 -- ---- the types of a queue ----
 
 -- a number below 4 is that of a queue with rows if it is that of a queue; no other one is
-below_rows : (q n : ℕ) → n < 4 → ltb n (queueRows q) ≡ ltb n q
-unfolding queueRows if◌then◌else◌
+below_rows : (q n : ℕ) → n < 4 → ltb n (queue_rows q) ≡ ltb n q
+unfolding queue_rows if◌then◌else◌
 below_rows q n h =
     by_cases (ltb q 4)
     (λ e. rw e)
     (λ e. rw (e, lt-ltb n 4 h, lt-ltb n q (omega (arith, ltb-false q 4 e))))
 
-past-rows : (q n : ℕ) → 4 ≤ n → ltb n (queueRows q) ≡ false
-unfolding queueRows if◌then◌else◌
+past-rows : (q n : ℕ) → 4 ≤ n → ltb n (queue_rows q) ≡ false
+unfolding queue_rows if◌then◌else◌
 past-rows q n h =
     by_cases (ltb q 4)
     (λ e. rw e (le-ltb n q (omega (arith, ltb-true q 4 e))))
@@ -45,12 +45,12 @@ among first q n =
     if eqb 3 n and ltb 3 q then At (first + 3) else
     Absent
 
-among-past : (first q n : ℕ) → 4 ≤ n → nth_of first (queueRows q) n ≡ among first q n
+among-past : (first q n : ℕ) → 4 ≤ n → nth_of first (queue_rows q) n ≡ among first q n
 unfolding among nth_of if◌then◌else◌ ◌and◌
 among-past first q n h =
     rw (past-rows q n h, turned 0 n (λ e. omega arith), turned 1 n (λ e. omega arith), turned 2 n (λ e. omega arith), turned 3 n (λ e. omega arith))
 
-among-is : (first q n : ℕ) → nth_of first (queueRows q) n ≡ among first q n
+among-is : (first q n : ℕ) → nth_of first (queue_rows q) n ≡ among first q n
 unfolding among nth_of if◌then◌else◌ ◌and◌
 among-is first q zero = rw (below_rows q 0 (omega arith))
 among-is first q (suc zero) = rw (below_rows q 1 (omega arith))
@@ -71,28 +71,28 @@ alone-is first (suc n) = rw (le-ltb (suc n) 1 (omega arith), turned 0 (suc n) (�
 -- ---- what the code works out: r is what a callee answered for a type and selector ----
 
 module _ (q t n k : ℕ) (r : Place) where
-  pub in-queues : k ≡ queueRows q → r ≡ nth_of 7 k n → t ≡ queue → r ≡ place_of q t n
+  pub in-queues : k ≡ queue_rows q → r ≡ nth_of 7 k n → t ≡ queue → r ≡ place_of q t n
   unfolding among table
   in-queues e h i = h ∙ rw (e, i) (among-is 7 q n)
 
-  pub in-notifies : k ≡ queueRows q → r ≡ nth_of 11 k n → t ≡ queueNotify → r ≡ place_of q t n
+  pub in-notifies : k ≡ queue_rows q → r ≡ nth_of 11 k n → t ≡ queue_notify → r ≡ place_of q t n
   unfolding among table
   in-notifies e h i = h ∙ rw (e, i) (among-is 11 q n)
 
 module _ (q t n : ℕ) (r : Place) where
-  pub in-status : r ≡ nth_of 6 1 n → t ≡ deviceStatus → r ≡ place_of q t n
+  pub in-status : r ≡ nth_of 6 1 n → t ≡ device_status → r ≡ place_of q t n
   unfolding alone table
   in-status h i = h ∙ rw i (alone-is 6 n)
 
-  pub in-driver : r ≡ nth_of 1 1 n → t ≡ driverFeatures → r ≡ place_of q t n
+  pub in-driver : r ≡ nth_of 1 1 n → t ≡ driver_features → r ≡ place_of q t n
   unfolding alone table
   in-driver h i = h ∙ rw i (alone-is 1 n)
 
-  pub in-features : r ≡ nth_of 0 1 n → t ≡ deviceFeatures → r ≡ place_of q t n
+  pub in-features : r ≡ nth_of 0 1 n → t ≡ device_features → r ≡ place_of q t n
   unfolding alone table
   in-features h i = h ∙ rw i (alone-is 0 n)
 
-  pub in-fields : r ≡ field_at n → t ≡ pciCommon → r ≡ place_of q t n
+  pub in-fields : r ≡ field_at n → t ≡ pci_common → r ≡ place_of q t n
   unfolding field_at table
   in-fields h i =
       h ∙ rw i
@@ -103,7 +103,7 @@ module _ (q t n : ℕ) (r : Place) where
       rw (e₀, e₁, e₂, e₃, turned 0 n (eqb-false n 0 e₀), turned 8 n (eqb-false n 8 e₁), turned 16 n (eqb-false n 16 e₂), turned 22 n (eqb-false n 22 e₃)))
 
 -- no other type has rows
-pub no_rows : (q t n : ℕ) → t ≢ queue → t ≢ queueNotify → t ≢ pciCommon → t ≢ deviceStatus → t ≢ driverFeatures → t ≢ deviceFeatures
+pub no_rows : (q t n : ℕ) → t ≢ queue → t ≢ queue_notify → t ≢ pci_common → t ≢ device_status → t ≢ driver_features → t ≢ device_features
     → Absent ≡ place_of q t n
 unfolding table
 no_rows q t n a b c d e f = rw (turned _ t a, turned _ t b, turned _ t c, turned _ t d, turned _ t e, turned _ t f)

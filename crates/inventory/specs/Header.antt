@@ -2,24 +2,24 @@
 use Rattle.std.specs.Prelude.{List, ◌∷◌, ◌++◌, ℕ, eqb}
 use Rattle.theory.specs.Logic.{indicator}
 use Rattle.wire.specs.Le.{bytes}
-use Rattle.inventory.specs.Inventory.{Row, deviceFeatures}
+use Rattle.inventory.specs.Inventory.{Row, device_features}
 
 -- type 2 bytes, flags 1, reserved 1, selector 8, length 4
-abbrev pub flagsAt : ℕ
-flagsAt = 2
+abbrev pub flags_at : ℕ
+flags_at = 2
 
-abbrev pub selectorAt : ℕ
-selectorAt = 4
+abbrev pub selector_at : ℕ
+selector_at = 4
 
 abbrev pub length_at : ℕ
 length_at = 12
 
-abbrev pub headerSize : ℕ
-headerSize = 16
+abbrev pub header_size : ℕ
+header_size = 16
 
 -- 1 for the device features, 0 for every other part
 abbrev pub flags_of : Row → ℕ
-flags_of r = indicator (eqb r.partType deviceFeatures)
+flags_of r = indicator (eqb r.part_type device_features)
 
-unfoldable pub headerOf : Row → List ℕ
-headerOf r = bytes 2 r.partType ++ (flags_of r ∷ 0 ∷ (bytes 8 r.selector ++ bytes 4 r.size))
+unfoldable pub header_of : Row → List ℕ
+header_of r = bytes 2 r.part_type ++ (flags_of r ∷ 0 ∷ (bytes 8 r.selector ++ bytes 4 r.size))

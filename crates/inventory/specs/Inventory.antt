@@ -6,61 +6,61 @@ use Rattle.inventory.specs.declared.Place.{Place}
 use Rattle.inventory.specs.declared.Place.TheVariants.{At, Absent}
 
 -- the types of parts
-abbrev pub deviceFeatures : ℕ
-deviceFeatures = 0x100
+abbrev pub device_features : ℕ
+device_features = 0x100
 
-abbrev pub driverFeatures : ℕ
-driverFeatures = 0x101
+abbrev pub driver_features : ℕ
+driver_features = 0x101
 
-abbrev pub pciCommon : ℕ
-pciCommon = 0x102
+abbrev pub pci_common : ℕ
+pci_common = 0x102
 
-abbrev pub deviceStatus : ℕ
-deviceStatus = 0x103
+abbrev pub device_status : ℕ
+device_status = 0x103
 
 abbrev pub queue : ℕ
 queue = 0x104
 
-abbrev pub queueNotify : ℕ
-queueNotify = 0x105
+abbrev pub queue_notify : ℕ
+queue_notify = 0x105
 
 -- the bytes of a feature set
-abbrev pub featuresSize : ℕ
-featuresSize = 16
+abbrev pub features_size : ℕ
+features_size = 16
 
 -- a part's type and selector, and the length of its value
 pub record Row : Type 0 where
-  pub partType : ℕ
+  pub part_type : ℕ
   pub selector : ℕ
   pub size : ℕ
 
 abbrev pub row : ℕ → ℕ → ℕ → Row
-row t s n = record { partType = t; selector = s; size = n }
+row t s n = record { part_type = t; selector = s; size = n }
 
 -- the table of a member with four queues, by type, then selector
 unfoldable pub rows : List Row
 rows =
-    row deviceFeatures 0 featuresSize
-    ∷ row driverFeatures 0 featuresSize
-    ∷ row pciCommon 0 4 ∷ row pciCommon 8 4 ∷ row pciCommon 16 2 ∷ row pciCommon 22 2  -- by offset
-    ∷ row deviceStatus 0 1
+    row device_features 0 features_size
+    ∷ row driver_features 0 features_size
+    ∷ row pci_common 0 4 ∷ row pci_common 8 4 ∷ row pci_common 16 2 ∷ row pci_common 22 2  -- by offset
+    ∷ row device_status 0 1
     ∷ row queue 0 32 ∷ row queue 1 32 ∷ row queue 2 32 ∷ row queue 3 32  -- by index
-    ∷ row queueNotify 0 8 ∷ row queueNotify 1 8 ∷ row queueNotify 2 8 ∷ row queueNotify 3 8  -- by index
+    ∷ row queue_notify 0 8 ∷ row queue_notify 1 8 ∷ row queue_notify 2 8 ∷ row queue_notify 3 8  -- by index
     ∷ []
 
-abbrev pub rowCount : ℕ
-rowCount = 15
+abbrev pub row_count : ℕ
+row_count = 15
 
 -- the row of the device features
-abbrev pub featuresRow : ℕ
-featuresRow = 0
+abbrev pub features_row : ℕ
+features_row = 0
 
 unfoldable pub row_at : ℕ → Row
 row_at i = get_or rows i (row 0 0 0)
 
 -- a member with so many queues has the part of a row: all but those of queues that it has not got
 unfoldable pub present : ℕ → Row → Bool
-present queues r = ltb r.partType queue or ltb r.selector queues
+present queues r = ltb r.part_type queue or ltb r.selector queues
 
 -- a member's values stand one after the other, in the order of the table for four queues
 abbrev pub total : List ℕ → ℕ
@@ -70,8 +70,8 @@ total (n ∷ ns) = n + total ns
 unfoldable pub offset_of : ℕ → ℕ
 offset_of i = total (take i (map (λ (r : Row). r.size) rows))
 
-abbrev pub valuesSize : ℕ
-valuesSize = 205
+abbrev pub values_size : ℕ
+values_size = 205
 
 -- row i's value among them
 abbrev pub value_of : List ℕ → ℕ → List ℕ
@@ -81,23 +81,23 @@ value_of values i = bytes_at (offset_of i) (row_at i).size values
 abbrev pub part_count : ℕ → ℕ
 part_count queues = 7 + 2 * queues
 
-abbrev pub partsSize : ℕ → ℕ
-partsSize queues = 157 + 72 * queues
+abbrev pub parts_size : ℕ → ℕ
+parts_size queues = 157 + 72 * queues
 
 -- the n low bytes of a number, as a number
 abbrev pub low_bytes : ℕ → ℕ → ℕ
 low_bytes n x = x % 256 ^ n
 
 -- of the eight selector bytes, as a number, those that the type names: an offset 4, a queue index 2, else none
-unfoldable pub selectorOf : ℕ → ℕ → ℕ
-selectorOf t s =
-    if eqb t pciCommon then low_bytes 4 s else
-    if eqb t queue or eqb t queueNotify then low_bytes 2 s else
+unfoldable pub selector_of : ℕ → ℕ → ℕ
+selector_of t s =
+    if eqb t pci_common then low_bytes 4 s else
+    if eqb t queue or eqb t queue_notify then low_bytes 2 s else
     0
 
 -- the row of a type and selector that a member with so many queues has
 unfoldable pub is_row : ℕ → ℕ → ℕ → Row → Bool
-is_row queues t s r = eqb r.partType t and eqb r.selector s and present queues r
+is_row queues t s r = eqb r.part_type t and eqb r.selector s and present queues r
 
 unfoldable pub seek : ℕ → ℕ → ℕ → List Row → ℕ → Place
 seek queues t s [] i = Absent
@@ -107,6 +107,6 @@ unfoldable pub place_of : ℕ → ℕ → ℕ → Place
 place_of queues t s = seek queues t s rows 0
 
 -- f of the row that has a part, or a where the member has not got the part
-abbrev pub onPlace {ℓ} : {A : Type ℓ} → Place → (ℕ → A) → A → A
-onPlace (At i) f a = f i
-onPlace Absent f a = a
+abbrev pub on_place {ℓ} : {A : Type ℓ} → Place → (ℕ → A) → A → A
+on_place (At i) f a = f i
+on_place Absent f a = a

@@ -4,7 +4,7 @@ use Rattle.std.specs.Prelude.{Bool, List, ℕ, ◌+◌, ◌-◌, ◌%◌, ◌^�
 use Rattle.theory.specs.Logic.{if◌then◌else◌, ◌and◌, ◌or◌}
 use Rattle.wire.specs.Le.{number}
 use Rattle.inventory.specs.Inventory.{offset_of}
-use Rattle.inventory.specs.Queue.{powerBelow, queueRow}
+use Rattle.inventory.specs.Queue.{power_below, queue_row}
 use Rattle.inventory.specs.declared.Place.{Place}
 use Rattle.inventory.specs.declared.Place.TheVariants.{At, Absent}
 
@@ -22,19 +22,19 @@ field_at offset =
     Absent
 
 -- the table has rows for four queues
-unfoldable pub queueRows : ℕ → ℕ
-queueRows queues = if ltb queues 4 then queues else 4
+unfoldable pub queue_rows : ℕ → ℕ
+queue_rows queues = if ltb queues 4 then queues else 4
 
 -- the number before n in eight bytes, where all bits stand before 0
-unfoldable pub numberBefore : ℕ → ℕ
-numberBefore n = if eqb n 0 then 2 ^ 64 - 1 else n - 1
+unfoldable pub number_before : ℕ → ℕ
+number_before n = if eqb n 0 then 2 ^ 64 - 1 else n - 1
 
 -- the first eight bytes of a queue's value, as a number: all are 0, or the size, which is the first two, is a power of two
-unfoldable pub plainQueue : ℕ → Bool
-plainQueue first = eqb first 0 or powerBelow 16 (first % 2 ^ 16)
+unfoldable pub plain_queue : ℕ → Bool
+plain_queue first = eqb first 0 or power_below 16 (first % 2 ^ 16)
 
-abbrev pub plainAt : ℕ → List ℕ → Bool
-plainAt k values = plainQueue (number (offset_of (queueRow k)) 8 values)
+abbrev pub plain_at : ℕ → List ℕ → Bool
+plain_at k values = plain_queue (number (offset_of (queue_row k)) 8 values)
 
-unfoldable pub plainQueues : List ℕ → Bool
-plainQueues values = plainAt 0 values and plainAt 1 values and plainAt 2 values and plainAt 3 values
+unfoldable pub plain_queues : List ℕ → Bool
+plain_queues values = plain_at 0 values and plain_at 1 values and plain_at 2 values and plain_at 3 values

@@ -5,10 +5,10 @@ mod rings;
 ghost use Rattle.std.specs.Prelude.{◌≡◌, ◌+◌, ◌*◌, ◌^◌, ◌≤◌, ◌<◌, eqb, length};
 ghost use Rattle.theory.specs.Logic.{indicator};
 ghost use Rattle.theory.specs.Bytes.{put};
-ghost use Rattle.inventory.specs.Inventory.{row, row_at, rowCount, deviceFeatures, offset_of, present, selectorOf, place_of, part_count, partsSize, valuesSize};
-ghost use Rattle.inventory.specs.Worked.{nth_of, field_at, queueRows};
-ghost use Rattle.inventory.specs.Header.{headerOf, headerSize};
-ghost use Rattle.inventory.specs.Queue.{valueAllowed, queuesAllowed};
+ghost use Rattle.inventory.specs.Inventory.{row, row_at, row_count, device_features, offset_of, present, selector_of, place_of, part_count, parts_size, values_size};
+ghost use Rattle.inventory.specs.Worked.{nth_of, field_at, queue_rows};
+ghost use Rattle.inventory.specs.Header.{header_of, header_size};
+ghost use Rattle.inventory.specs.Queue.{value_allowed, queues_allowed};
 
 // The types of parts.
 pub const DEVICE_FEATURES: u16 = 0x100;
@@ -91,14 +91,14 @@ pub enum Place {
 }
 
 pub fn size_of(i: usize) -> usize
-    requires { i < rowCount }
+    requires { i < row_count }
     ensures { result ≡ (row_at i).size }
 {
     SIZES[i] as usize
 }
 
 pub fn offset_of(i: usize) -> usize
-    requires { i < rowCount }
+    requires { i < row_count }
     ensures { result ≡ offset_of i }
 {
     OFFSETS[i] as usize
@@ -116,7 +116,7 @@ pub fn is_present(queues: u8, row_type: u16, row_selector: u8) -> bool
 
 // Of the eight selector bytes those that the type names.
 pub fn selector_of(t: u16, s: u64) -> u64
-    ensures { result ≡ selectorOf t s }
+    ensures { result ≡ selector_of t s }
 {
     if t == PCI_COMMON {
         return s % FOUR_BYTES;
@@ -132,7 +132,7 @@ pub fn selector_of(t: u16, s: u64) -> u64
 
 // The row of a type's rows, which stand one after another from the first, by its number among them; none past their count.
 fn nth_of(first: usize, count: u8, n: u64) -> Place
-    requires { first < rowCount }
+    requires { first < row_count }
     ensures { result ≡ nth_of first count n }
 {
     if n < count as u64 {
@@ -162,7 +162,7 @@ fn field_at(offset: u64) -> Place
 
 // The queues that have rows, of a member with so many.
 fn queue_rows(queues: u8) -> u8
-    ensures { result ≡ queueRows queues }
+    ensures { result ≡ queue_rows queues }
 {
     if queues < MOST_QUEUES {
         return queues;
@@ -197,7 +197,7 @@ pub fn place_of(queues: u8, t: u16, selector: u64) -> Place
 
 // The first eight bytes of a header, as a number: type, flags and selector, which takes no more than four of its bytes.
 fn first_word(row_type: u16, row_selector: u32) -> u64
-    ensures { result ≡ row_type + 2 ^ 16 * (indicator (eqb row_type deviceFeatures) + 2 ^ 16 * row_selector) }
+    ensures { result ≡ row_type + 2 ^ 16 * (indicator (eqb row_type device_features) + 2 ^ 16 * row_selector) }
 {
     let flags = (row_type == DEVICE_FEATURES) as u64;
     row_type as u64 + TWO_BYTES * (flags + TWO_BYTES * (row_selector as u64))
@@ -205,8 +205,8 @@ fn first_word(row_type: u16, row_selector: u32) -> u64
 
 // The header of a row's part, written at a place: two words, the second first, since the compiler then needs fewer stores.
 pub fn write_header(out: &mut [u8], at: usize, row_type: u16, row_selector: u32, size: u8)
-    requires { at + headerSize ≤ length out.old }
-    ensures { out.new ≡ put at (headerOf (row row_type row_selector size)) out.old }
+    requires { at + header_size ≤ length out.old }
+    ensures { out.new ≡ put at (header_of (row row_type row_selector size)) out.old }
 {
     wire::write(out, at + 8, 8, FOUR_BYTES * (size as u64));
     wire::write(out, at, 8, first_word(row_type, row_selector));
@@ -221,7 +221,7 @@ pub fn part_count(queues: u8) -> u32
 
 // Their bytes, headers included.
 pub fn parts_size(queues: u8) -> u32
-    ensures { result ≡ partsSize queues }
+    ensures { result ≡ parts_size queues }
 {
     157 + 72 * (queues as u32)
 }
@@ -233,7 +233,7 @@ const QUEUE_SIZE: usize = 32;
 
 // Whether a part of this type may have this value.
 pub fn is_value_allowed(t: u16, value: &[u8]) -> bool
-    ensures { result ≡ valueAllowed t value.now }
+    ensures { result ≡ value_allowed t value.now }
 {
     if t != QUEUE {
         return true;
@@ -247,8 +247,8 @@ pub fn is_value_allowed(t: u16, value: &[u8]) -> bool
 // Whether the values of a member with so many queues have an allowed one for each. If there is no doubt of any of the four,
 // which is so but for a size of 0 beside other bytes, it does not matter which of them are there.
 pub fn are_queues_allowed(queues: u8, values: &[u8]) -> bool
-    requires { length values.now ≡ valuesSize }
-    ensures { result ≡ queuesAllowed queues values.now }
+    requires { length values.now ≡ values_size }
+    ensures { result ≡ queues_allowed queues values.now }
 {
     if rings::doubts(values) == 0 {
         return true;

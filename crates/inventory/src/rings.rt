@@ -2,9 +2,9 @@
 ghost use Rattle.std.specs.Prelude.{◌≡◌, ◌+◌, ◌*◌, ◌≤◌, ◌<◌, eqb, length};
 ghost use Rattle.theory.specs.Bytes.{bytes_at};
 ghost use Rattle.wire.specs.Le.{number};
-ghost use Rattle.inventory.specs.Inventory.{valuesSize};
-ghost use Rattle.inventory.specs.Worked.{numberBefore, plainQueue, plainQueues};
-ghost use Rattle.inventory.specs.Queue.{ringSize, queueSize, queueAllowed, queuesAllowed};
+ghost use Rattle.inventory.specs.Inventory.{values_size};
+ghost use Rattle.inventory.specs.Worked.{number_before, plain_queue, plain_queues};
+ghost use Rattle.inventory.specs.Queue.{ring_size, queue_size, queue_allowed, queues_allowed};
 
 use super::{QUEUE_SIZE, TWO_BYTES};
 
@@ -21,15 +21,15 @@ const BEFORE_ZERO: u64 = 0xffff_ffff;
 // the number before it exactly if it is a power of two. The enabled field stands above the size, where the number before 0
 // alone has bits.
 fn fault(size: u16, enabled: u16) -> u64
-    ensures { eqb result 0 ≡ ringSize size enabled }
+    ensures { eqb result 0 ≡ ring_size size enabled }
 {
     (TWO_BYTES * (enabled as u64) + size as u64) & (size as u64 + BEFORE_ZERO)
 }
 
 // Whether the value of a queue that stands at a place is allowed.
 pub fn is_queue_allowed(values: &[u8], at: usize) -> bool
-    requires { at + queueSize ≤ length values.now }
-    ensures { result ≡ queueAllowed (bytes_at at queueSize values.now) }
+    requires { at + queue_size ≤ length values.now }
+    ensures { result ≡ queue_allowed (bytes_at at queue_size values.now) }
 {
     let size = wire::read_u16(values, at);
     let enabled = wire::read_u16(values, at + ENABLED_AT);
@@ -38,8 +38,8 @@ pub fn is_queue_allowed(values: &[u8], at: usize) -> bool
 
 // Whether each queue of a member with so many has an allowed value.
 pub fn is_each_allowed(queues: u8, values: &[u8]) -> bool
-    requires { length values.now ≡ valuesSize }
-    ensures { result ≡ queuesAllowed queues values.now }
+    requires { length values.now ≡ values_size }
+    ensures { result ≡ queues_allowed queues values.now }
 {
     let count = super::queue_rows(queues);
     let mut k: u8 = 0;
@@ -54,7 +54,7 @@ pub fn is_each_allowed(queues: u8, values: &[u8]) -> bool
 
 // The number before one, that before 0 with all bits: one subtraction, since the compiler drops the test.
 fn before(n: u64) -> u64
-    ensures { result ≡ numberBefore n }
+    ensures { result ≡ number_before n }
 {
     if n == 0 {
         return 0xffff_ffff_ffff_ffff;
@@ -65,8 +65,8 @@ fn before(n: u64) -> u64
 // The bits that cast doubt on the queue at a place: its first eight bytes, and the number before its size. None, if the size
 // is a power of two, or all eight bytes are 0. One load, and no branch.
 fn doubt(values: &[u8], at: usize) -> u64
-    requires { at + queueSize ≤ length values.now }
-    ensures { eqb result 0 ≡ plainQueue (number at 8 values.now) }
+    requires { at + queue_size ≤ length values.now }
+    ensures { eqb result 0 ≡ plain_queue (number at 8 values.now) }
 {
     let first = wire::read_u64(values, at);
     first & before(first % TWO_BYTES)
@@ -74,8 +74,8 @@ fn doubt(values: &[u8], at: usize) -> u64
 
 // Those of all queues, whose values start where OFFSETS says.
 pub fn doubts(values: &[u8]) -> u64
-    requires { length values.now ≡ valuesSize }
-    ensures { eqb result 0 ≡ plainQueues values.now }
+    requires { length values.now ≡ values_size }
+    ensures { eqb result 0 ≡ plain_queues values.now }
 {
     doubt(values, 45) | doubt(values, 77) | doubt(values, 109) | doubt(values, 141)
 }

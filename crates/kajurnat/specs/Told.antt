@@ -6,6 +6,6 @@ use Rattle.host.specs.declared.Outcome.TheVariants.{Refused, Answered}
 
 -- status and qualifier to act on, and as they were sent
 unfoldable pub told : Outcome → ℕ → ℕ → ℕ → ℕ → ℕ × (ℕ × (ℕ × (ℕ × ℕ)))
-told Refused status qualifier sentStatus sentQualifier = (1, (status, (qualifier, (sentStatus, sentQualifier))))
-told (Answered h) status qualifier sentStatus sentQualifier =
+told Refused status qualifier sent_status sent_qualifier = (1, (status, (qualifier, (sent_status, sent_qualifier))))
+told (Answered h) status qualifier sent_status sent_qualifier =
     (0, (h.status, (h.qualifier, (h.sent_status, h.sent_qualifier))))

@@ -2,23 +2,23 @@
 // equation: what it answers and leaves is what a definition gives of what it was lent.
 ghost use Rattle.std.specs.Prelude.{◌≡◌, []};
 ghost use Rattle.theory.specs.Logic.{indicator};
-ghost use Rattle.card.specs.Layout.{version, cardBytes};
-ghost use Rattle.card.specs.Sound.{isSound};
-ghost use Rattle.setups.specs.Reading.{readVersion1, readSetup};
-ghost use Rattle.setups.specs.Member.{memberSetup};
+ghost use Rattle.card.specs.Layout.{version, card_bytes};
+ghost use Rattle.card.specs.Sound.{is_sound};
+ghost use Rattle.setups.specs.Reading.{read_version1, read_setup};
+ghost use Rattle.setups.specs.Member.{member_setup};
 ghost use Rattle.setups.specs.Writing.{written};
-ghost use Rattle.events.specs.Events.{numbered, setUp, setUpFrom, handBack, wipe, resetCard, store};
-ghost use Rattle.loads.specs.Loads.{load, memberTold, configurationTold, setupOfCard};
-ghost use Rattle.admin.specs.Command.{commandOf};
+ghost use Rattle.events.specs.Events.{numbered, set_up, set_up_from, hand_back, wipe, reset_card, store};
+ghost use Rattle.loads.specs.Loads.{load, member_told, configuration_told, setup_of_card};
+ghost use Rattle.admin.specs.Command.{command_of};
 ghost use Rattle.host.specs.Request.{built};
-ghost use Rattle.host.specs.Reply.{readReply};
-ghost use Rattle.staging.specs.Staging.{beginOf, feedOf, finishOf, dropOf};
-ghost use Rattle.message.specs.Message.{messageOf};
-ghost use Rattle.difference.specs.Difference.{lookupTold};
-ghost use Rattle.difference.specs.Under.{lookupUnder, mergeUnder};
-ghost use Rattle.salvage.specs.Salvage.{salvage, salvageUnder};
+ghost use Rattle.host.specs.Reply.{read_reply};
+ghost use Rattle.staging.specs.Staging.{begin_of, feed_of, finish_of, drop_of};
+ghost use Rattle.message.specs.Message.{message_of};
+ghost use Rattle.difference.specs.Difference.{lookup_told};
+ghost use Rattle.difference.specs.Under.{lookup_under, merge_under};
+ghost use Rattle.salvage.specs.Salvage.{salvage, salvage_under};
 ghost use Rattle.kajurnat.specs.Told.{told};
-ghost use Rattle.kajurnat.specs.SetupTold.{setupTold};
+ghost use Rattle.kajurnat.specs.SetupTold.{setup_told};
 
 use host::{Command, Outcome};
 use setups::ReadOutcome;
@@ -34,7 +34,7 @@ pub extern "C" fn kajurnat_card_version() -> u32
 // Whether the bytes are a sound card: 1, or 0.
 #[unsafe(no_mangle)]
 pub extern "C" fn kajurnat_is_sound(card: &[u8]) -> u8
-    ensures { result ≡ indicator (isSound card.now) }
+    ensures { result ≡ indicator (is_sound card.now) }
 {
     card::is_sound(card) as u8
 }
@@ -42,7 +42,7 @@ pub extern "C" fn kajurnat_is_sound(card: &[u8]) -> u8
 // The exact length of a card, 0 if members is not 1 to 16.
 #[unsafe(no_mangle)]
 pub extern "C" fn kajurnat_card_bytes(members: u64) -> usize
-    ensures { result ≡ cardBytes members }
+    ensures { result ≡ card_bytes members }
 {
     card::card_bytes(members)
 }
@@ -57,7 +57,7 @@ pub extern "C" fn kajurnat_setup(
     sets: u64,
     features: &[u8],
 ) -> u8
-    ensures { (result, card.new) ≡ numbered (setUp card.old members queues.now gets sets features.now) }
+    ensures { (result, card.new) ≡ numbered (set_up card.old members queues.now gets sets features.now) }
 {
     protocol::event_number(events::set_up(card, members, queues, gets, sets, features))
 }
@@ -65,7 +65,7 @@ pub extern "C" fn kajurnat_setup(
 // The same of a packed setup, of either version.
 #[unsafe(no_mangle)]
 pub extern "C" fn kajurnat_setup_from(card: &mut [u8], setup: &[u8]) -> u8
-    ensures { (result, card.new) ≡ numbered (setUpFrom card.old setup.now) }
+    ensures { (result, card.new) ≡ numbered (set_up_from card.old setup.now) }
 {
     protocol::event_number(events::set_up_from(card, setup))
 }
@@ -96,7 +96,7 @@ fn tell_setup(
     sets: &mut u8,
     features: &mut [u8],
 ) -> u8
-    ensures { (result, (members.new, (queues.new, (gets.new, (sets.new, features.new))))) ≡ setupTold read members.old queues.old gets.old sets.old features.old }
+    ensures { (result, (members.new, (queues.new, (gets.new, (sets.new, features.new))))) ≡ setup_told read members.old queues.old gets.old sets.old features.old }
 {
     let answer = read.answer;
     let number = setups::read_number(answer);
@@ -131,7 +131,7 @@ pub extern "C" fn kajurnat_setup_read(
     sets: &mut u8,
     features: &mut [u8],
 ) -> u8
-    ensures { (result, (members.new, (queues.new, (gets.new, (sets.new, features.new))))) ≡ setupTold (readSetup setup.now) members.old queues.old gets.old sets.old features.old }
+    ensures { (result, (members.new, (queues.new, (gets.new, (sets.new, features.new))))) ≡ setup_told (read_setup setup.now) members.old queues.old gets.old sets.old features.old }
 {
     tell_setup(setups::read(setup), members, queues, gets, sets, features)
 }
@@ -146,7 +146,7 @@ pub extern "C" fn kajurnat_setup_read_v1(
     sets: &mut u8,
     features: &mut [u8],
 ) -> u8
-    ensures { (result, (members.new, (queues.new, (gets.new, (sets.new, features.new))))) ≡ setupTold (readVersion1 setup.now) members.old queues.old gets.old sets.old features.old }
+    ensures { (result, (members.new, (queues.new, (gets.new, (sets.new, features.new))))) ≡ setup_told (read_version1 setup.now) members.old queues.old gets.old sets.old features.old }
 {
     tell_setup(
         setups::read_version_1(setup),
@@ -161,7 +161,7 @@ pub extern "C" fn kajurnat_setup_read_v1(
 // One group administration command: the bytes written to the reply, the card and the reply buffer after it.
 #[unsafe(no_mangle)]
 pub extern "C" fn kajurnat_command(card: &mut [u8], request: &[u8], reply: &mut [u8]) -> usize
-    ensures { (result, (card.new, reply.new)) ≡ commandOf card.old request.now reply.old }
+    ensures { (result, (card.new, reply.new)) ≡ command_of card.old request.now reply.old }
 {
     admin::command(card, request, reply)
 }
@@ -170,7 +170,7 @@ pub extern "C" fn kajurnat_command(card: &mut [u8], request: &[u8], reply: &mut 
 // card reset are given the generation that the member, or every member, starts from.
 #[unsafe(no_mangle)]
 pub extern "C" fn kajurnat_hand_back(card: &mut [u8], member: u64) -> u8
-    ensures { (result, card.new) ≡ numbered (handBack card.old member) }
+    ensures { (result, card.new) ≡ numbered (hand_back card.old member) }
 {
     protocol::event_number(events::hand_back(card, member))
 }
@@ -184,7 +184,7 @@ pub extern "C" fn kajurnat_wipe(card: &mut [u8], member: u64, generation: u32) -
 
 #[unsafe(no_mangle)]
 pub extern "C" fn kajurnat_reset_card(card: &mut [u8], generation: u32) -> u8
-    ensures { (result, card.new) ≡ numbered (resetCard card.old generation) }
+    ensures { (result, card.new) ≡ numbered (reset_card card.old generation) }
 {
     protocol::event_number(events::reset_card(card, generation))
 }
@@ -230,7 +230,7 @@ pub extern "C" fn kajurnat_member(
     sets: &mut u8,
     held: &mut u16,
 ) -> u8
-    ensures { (result, (state.new, (queues.new, (gets.new, (sets.new, held.new))))) ≡ numbered (memberTold card.now member (state.old, (queues.old, (gets.old, (sets.old, held.old))))) }
+    ensures { (result, (state.new, (queues.new, (gets.new, (sets.new, held.new))))) ≡ numbered (member_told card.now member (state.old, (queues.old, (gets.old, (sets.old, held.old))))) }
 {
     protocol::event_number(loads::member(card, member, state, queues, gets, sets, held))
 }
@@ -243,7 +243,7 @@ pub extern "C" fn kajurnat_configuration(
     bytes: &mut [u8],
     generation: &mut u32,
 ) -> u8
-    ensures { (result, (bytes.new, generation.new)) ≡ numbered (configurationTold card.now member (bytes.old, generation.old)) }
+    ensures { (result, (bytes.new, generation.new)) ≡ numbered (configuration_told card.now member (bytes.old, generation.old)) }
 {
     protocol::event_number(loads::configuration(card, member, bytes, generation))
 }
@@ -252,7 +252,7 @@ pub extern "C" fn kajurnat_configuration(
 // the buffer too short.
 #[unsafe(no_mangle)]
 pub extern "C" fn kajurnat_setup_of(card: &[u8], setup: &mut [u8]) -> usize
-    ensures { (result, setup.new) ≡ setupOfCard card.now setup.old }
+    ensures { (result, setup.new) ≡ setup_of_card card.now setup.old }
 {
     loads::setup_of(card, setup)
 }
@@ -368,7 +368,7 @@ pub extern "C" fn kajurnat_reply_read(
     sent_status: &mut u16,
     sent_qualifier: &mut u16,
 ) -> u8
-    ensures { (result, (status.new, (qualifier.new, (sent_status.new, sent_qualifier.new)))) ≡ told (readReply opcode what reply.now) status.old qualifier.old sent_status.old sent_qualifier.old }
+    ensures { (result, (status.new, (qualifier.new, (sent_status.new, sent_qualifier.new)))) ≡ told (read_reply opcode what reply.now) status.old qualifier.old sent_status.old sent_qualifier.old }
 {
     match host::read_reply(opcode, what, reply) {
         Outcome::Refused => 1,
@@ -386,7 +386,7 @@ pub extern "C" fn kajurnat_reply_read(
 // qualifier, and 9 for an unsound card.
 #[unsafe(no_mangle)]
 pub extern "C" fn kajurnat_restore_begin(card: &mut [u8], member: u64) -> u32
-    ensures { (result, card.new) ≡ beginOf card.old member }
+    ensures { (result, card.new) ≡ begin_of card.old member }
 {
     staging::begin(card, member)
 }
@@ -394,7 +394,7 @@ pub extern "C" fn kajurnat_restore_begin(card: &mut [u8], member: u64) -> u32
 // A fragment, of any length, goes behind those that were fed; over 1,024 bytes in all end the holding place.
 #[unsafe(no_mangle)]
 pub extern "C" fn kajurnat_restore_feed(card: &mut [u8], member: u64, fragment: &[u8]) -> u32
-    ensures { (result, card.new) ≡ feedOf card.old member fragment.now }
+    ensures { (result, card.new) ≡ feed_of card.old member fragment.now }
 {
     staging::feed(card, member, fragment)
 }
@@ -402,7 +402,7 @@ pub extern "C" fn kajurnat_restore_feed(card: &mut [u8], member: u64, fragment: 
 // One parts set of the bytes that were fed, through the set object of this id; then the holding place is gone.
 #[unsafe(no_mangle)]
 pub extern "C" fn kajurnat_restore_finish(card: &mut [u8], member: u64, id: u32) -> u32
-    ensures { (result, card.new) ≡ finishOf card.old member id }
+    ensures { (result, card.new) ≡ finish_of card.old member id }
 {
     staging::finish(card, member, id)
 }
@@ -410,7 +410,7 @@ pub extern "C" fn kajurnat_restore_finish(card: &mut [u8], member: u64, id: u32)
 // The holding place is gone, and nothing is set.
 #[unsafe(no_mangle)]
 pub extern "C" fn kajurnat_restore_drop(card: &mut [u8], member: u64) -> u32
-    ensures { (result, card.new) ≡ dropOf card.old member }
+    ensures { (result, card.new) ≡ drop_of card.old member }
 {
     staging::discard(card, member)
 }
@@ -418,7 +418,7 @@ pub extern "C" fn kajurnat_restore_drop(card: &mut [u8], member: u64) -> u32
 // Configuration by message, SPEC 13.3: the bytes of the response, 0 in the bus outcome, the card and the reply buffer after it.
 #[unsafe(no_mangle)]
 pub extern "C" fn kajurnat_message(card: &mut [u8], message: &[u8], reply: &mut [u8]) -> usize
-    ensures { (result, (card.new, reply.new)) ≡ messageOf card.old message.now reply.old }
+    ensures { (result, (card.new, reply.new)) ≡ message_of card.old message.now reply.old }
 {
     message::message(card, message, reply)
 }
@@ -438,7 +438,7 @@ pub extern "C" fn kajurnat_difference_find(
     at: &mut usize,
     len: &mut usize,
 ) -> u8
-    ensures { (result, (list.new, (at.new, len.new))) ≡ lookupTold (lookupUnder (memberSetup setup.now member) full.now later.now part_type selector) }
+    ensures { (result, (list.new, (at.new, len.new))) ≡ lookup_told (lookup_under (member_setup setup.now member) full.now later.now part_type selector) }
 {
     difference::find_place(
         setup, member, full, later, part_type, selector, list, at, len,
@@ -456,7 +456,7 @@ pub extern "C" fn kajurnat_difference_merge<'a>(
     merged: &mut [u8],
     written: &mut usize,
 ) -> u8
-    ensures { (result, (written.new, merged.new)) ≡ mergeUnder (memberSetup setup.now member) full.now later.now merged.old }
+    ensures { (result, (written.new, merged.new)) ≡ merge_under (member_setup setup.now member) full.now later.now merged.old }
 {
     difference::merge(setup, member, full, later, merged, written)
 }
@@ -473,7 +473,7 @@ pub extern "C" fn kajurnat_salvage(
     dropped: &mut [u32],
     left: &mut usize,
 ) -> usize
-    ensures { salvage result list.new kept.new dropped.new left.new ≡ salvageUnder (memberSetup setup.now member) damaged.now (salvage 0 list.old kept.old dropped.old left.old) }
+    ensures { salvage result list.new kept.new dropped.new left.new ≡ salvage_under (member_setup setup.now member) damaged.now (salvage 0 list.old kept.old dropped.old left.old) }
 {
     salvage::salvage(setup, member, damaged, list, kept, dropped, left)
 }

@@ -12,11 +12,11 @@ use Rattle.theory.specs.Logic.{if◌then◌else◌}
 use Rattle.theory.proofs.Tests.{bool-byte, indicator-le}
 use Rattle.protocol.specs.declared.Mode.{Mode}
 use Rattle.protocol.specs.declared.Mode.TheVariants.{Running, Stopped}
-use Rattle.objects.specs.Objects.{objectsSize, objectByte, count}
+use Rattle.objects.specs.Objects.{objects_size, object_byte, count}
 use Rattle.objects.proofs.Counts.{count-on}
 use Rattle.member.specs.declared.Member.{Member}
 use Rattle.loads.specs.declared.Summary.{Summary}
-use Rattle.loads.specs.Loads.{state_of, live_of, summaryOf}
+use Rattle.loads.specs.Loads.{state_of, live_of, summary_of}
 
 module _ (mode : Mode) (marked : Bool) where
   pub state-marked : marked ≡ true → 2 ≡ state_of mode marked
@@ -41,7 +41,7 @@ module _ (n i : ℕ) (h : n ≤ i) (t : Bool) where
   pub more-low : n + bool_byte t ≤ i + 1
   more-low = omega (arith, one_at_most t)
 
-  pub more-fits : (bs : List ℕ) → length bs ≡ objectsSize → i < length bs → Fits w8 (n + bool_byte t)
+  pub more-fits : (bs : List ℕ) → length bs ≡ objects_size → i < length bs → Fits w8 (n + bool_byte t)
   more-fits bs l k = record { fits = omega (arith, one_at_most t) }
 
 pub count-more : (v : ℕ) (bs : List ℕ) (i n : ℕ) → count v bs ≡ n + count v (drop i bs) → i < length bs
@@ -50,8 +50,8 @@ count-more v bs i n e h = count-on v bs i n e _ (bool-byte _) h
 
 -- ---- all numbers ----
 
-pub summed : (x : Member) (bs : List ℕ) (s g k : ℕ) → s ≡ state_of x.mode x.marked → bs ≡ map objectByte x.objects
+pub summed : (x : Member) (bs : List ℕ) (s g k : ℕ) → s ≡ state_of x.mode x.marked → bs ≡ map object_byte x.objects
     → g ≡ count 1 bs → k ≡ count 2 bs
-    → ◌≡◌ {A = Summary} (record { state = s; queues = x.queues; gets = g; sets = k; held = x.held }) (summaryOf x)
-unfolding summaryOf live_of
+    → ◌≡◌ {A = Summary} (record { state = s; queues = x.queues; gets = g; sets = k; held = x.held }) (summary_of x)
+unfolding summary_of live_of
 summed x bs s g k e f p q = rw (e, p, q, f)

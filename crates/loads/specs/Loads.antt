@@ -6,28 +6,28 @@ use Rattle.theory.specs.Logic.{if◌then◌else◌, unless◌answer◌then◌}
 use Rattle.protocol.specs.declared.EventAnswer.{EventAnswer}
 use Rattle.protocol.specs.declared.EventAnswer.TheVariants.{Done, NoPart, WrongLength}
 use Rattle.protocol.specs.declared.Mode.{Mode}
-use Rattle.protocol.specs.Answers.{isEventDone}
-use Rattle.inventory.specs.Inventory.{row_at, value_of, selectorOf, place_of, onPlace}
+use Rattle.protocol.specs.Answers.{is_event_done}
+use Rattle.inventory.specs.Inventory.{row_at, value_of, selector_of, place_of, on_place}
 use Rattle.objects.specs.declared.Slot.TheVariants.{Get, Set}
-use Rattle.objects.specs.Objects.{slotByte, objectByte, count}
+use Rattle.objects.specs.Objects.{slot_byte, object_byte, count}
 use Rattle.member.specs.declared.Member.{Member}
-use Rattle.member.specs.Record.{modeByte}
+use Rattle.member.specs.Record.{mode_byte}
 use Rattle.setups.specs.Writing.{written}
-use Rattle.card.specs.Layout.{configurationSize, setupOf, memberIn, countsOf, configurationIn, generationIn}
-use Rattle.card.specs.Sound.{isSound}
-use Rattle.events.specs.Events.{memberAnswer, ifDone}
+use Rattle.card.specs.Layout.{configuration_size, setup_of, member_in, counts_of, configuration_in, generation_in}
+use Rattle.card.specs.Sound.{is_sound}
+use Rattle.events.specs.Events.{member_answer, if_done}
 use Rattle.loads.specs.declared.Summary.{Summary}
 
 -- ---- a part ----
 
 -- member x's value of a part; none where it has not got the part
 unfoldable pub part_of : Member → ℕ → ℕ → List ℕ
-part_of x t s = onPlace (place_of x.queues t s) (λ i. value_of x.values i) []
+part_of x t s = on_place (place_of x.queues t s) (λ i. value_of x.values i) []
 
 -- a load of a part into a buffer, which is as long as the value. Every part of the inventory is loaded, the device features too
-unfoldable pub loadIn : Member → ℕ → ℕ → List ℕ → EventAnswer × List ℕ
-loadIn x t s buffer =
-    onPlace (place_of x.queues t s)
+unfoldable pub load_in : Member → ℕ → ℕ → List ℕ → EventAnswer × List ℕ
+load_in x t s buffer =
+    on_place (place_of x.queues t s)
     (λ i.
     unless eqb (length buffer) (row_at i).size answer (WrongLength, buffer) then
     (Done, value_of x.values i))
@@ -35,30 +35,30 @@ loadIn x t s buffer =
 
 -- s is the 8 selector bytes as a number, as for a store
 unfoldable pub load : List ℕ → ℕ → ℕ → ℕ → List ℕ → EventAnswer × List ℕ
-load c m t s buffer = ifDone (memberAnswer c m) (loadIn (memberIn c m) t (selectorOf t s) buffer) buffer
+load c m t s buffer = if_done (member_answer c m) (load_in (member_in c m) t (selector_of t s) buffer) buffer
 
 -- the value where it stands in the record, for a caller that borrows the card: none where there is no such part
 unfoldable pub lent : List ℕ → ℕ → ℕ → ℕ → List ℕ
-lent c m t s = unless isEventDone (memberAnswer c m) answer [] then part_of (memberIn c m) t (selectorOf t s)
+lent c m t s = unless is_event_done (member_answer c m) answer [] then part_of (member_in c m) t (selector_of t s)
 
 -- ---- a member ----
 
 -- 0 running, 1 stopped, 2 marked
 unfoldable pub state_of : Mode → Bool → ℕ
-state_of mode marked = if marked then 2 else modeByte mode
+state_of mode marked = if marked then 2 else mode_byte mode
 
 -- how many of a member's objects are live, of the kind whose byte this is
 unfoldable pub live_of : ℕ → Member → ℕ
-live_of kind x = count kind (map objectByte x.objects)
+live_of kind x = count kind (map object_byte x.objects)
 
 -- held is 0 where no holding place is open, else 1 more than the bytes that it holds
-unfoldable pub summaryOf : Member → Summary
-summaryOf x =
+unfoldable pub summary_of : Member → Summary
+summary_of x =
     record {
       state = state_of x.mode x.marked;
       queues = x.queues;
-      gets = live_of (slotByte Get) x;
-      sets = live_of (slotByte Set) x;
+      gets = live_of (slot_byte Get) x;
+      sets = live_of (slot_byte Set) x;
       held = x.held;
     }
 
@@ -66,28 +66,28 @@ summaryOf x =
 abbrev pub Numbers : Type 0
 Numbers = ℕ × (ℕ × (ℕ × (ℕ × ℕ)))
 
-abbrev pub numbersOf : Summary → Numbers
-numbersOf s = (s.state, (s.queues, (s.gets, (s.sets, s.held))))
+abbrev pub numbers_of : Summary → Numbers
+numbers_of s = (s.state, (s.queues, (s.gets, (s.sets, s.held))))
 
-unfoldable pub memberTold : List ℕ → ℕ → Numbers → EventAnswer × Numbers
-memberTold c m numbers = ifDone (memberAnswer c m) (Done, numbersOf (summaryOf (memberIn c m))) numbers
+unfoldable pub member_told : List ℕ → ℕ → Numbers → EventAnswer × Numbers
+member_told c m numbers = if_done (member_answer c m) (Done, numbers_of (summary_of (member_in c m))) numbers
 
 -- ---- its configuration ----
 
 -- into 12 bytes, and the generation
-unfoldable pub configurationFor : List ℕ → ℕ → List ℕ × ℕ → EventAnswer × (List ℕ × ℕ)
-configurationFor c m (buffer, generation) =
-    unless eqb (length buffer) configurationSize answer (WrongLength, (buffer, generation)) then
-    (Done, (configurationIn c m, generationIn c m))
+unfoldable pub configuration_for : List ℕ → ℕ → List ℕ × ℕ → EventAnswer × (List ℕ × ℕ)
+configuration_for c m (buffer, generation) =
+    unless eqb (length buffer) configuration_size answer (WrongLength, (buffer, generation)) then
+    (Done, (configuration_in c m, generation_in c m))
 
-unfoldable pub configurationTold : List ℕ → ℕ → List ℕ × ℕ → EventAnswer × (List ℕ × ℕ)
-configurationTold c m lent = ifDone (memberAnswer c m) (configurationFor c m lent) lent
+unfoldable pub configuration_told : List ℕ → ℕ → List ℕ × ℕ → EventAnswer × (List ℕ × ℕ)
+configuration_told c m lent = if_done (member_answer c m) (configuration_for c m lent) lent
 
 -- ---- the setup ----
 
 -- packed at the front of a buffer as the writer of setups packs it, and its length: equal queue counts as version 1, others as
 -- version 2; 0 where the card is not sound or the buffer too short
-unfoldable pub setupOfCard : List ℕ → List ℕ → ℕ × List ℕ
-setupOfCard c buffer =
-    unless isSound c answer (0, buffer) then
-    written buffer (setupOf c).members (countsOf c) (setupOf c).gets (setupOf c).sets (setupOf c).features
+unfoldable pub setup_of_card : List ℕ → List ℕ → ℕ × List ℕ
+setup_of_card c buffer =
+    unless is_sound c answer (0, buffer) then
+    written buffer (setup_of c).members (counts_of c) (setup_of c).gets (setup_of c).sets (setup_of c).features

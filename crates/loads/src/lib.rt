@@ -1,11 +1,11 @@
 // What the card's own firmware reads of it, SPEC 14: a part, a member, its configuration, the setup. The card is lent and
 // stays as it is; no host reaches these.
 ghost use Rattle.std.specs.Prelude.{◌≡◌, true, map, ◌≤◌, length};
-ghost use Rattle.objects.specs.Objects.{objectsSize, objectByte, count};
-ghost use Rattle.member.specs.Record.{memberSize, memberOf};
-ghost use Rattle.setups.specs.Setup.{mostMembers, sixteen};
-ghost use Rattle.card.specs.Layout.{cardSize, countsFrom};
-ghost use Rattle.loads.specs.Loads.{part_of, loadIn, load, lent, state_of, summaryOf, memberTold, configurationTold, setupOfCard};
+ghost use Rattle.objects.specs.Objects.{objects_size, object_byte, count};
+ghost use Rattle.member.specs.Record.{member_size, member_of};
+ghost use Rattle.setups.specs.Setup.{most_members, sixteen};
+ghost use Rattle.card.specs.Layout.{card_size, counts_from};
+ghost use Rattle.loads.specs.Loads.{part_of, load_in, load, lent, state_of, summary_of, member_told, configuration_told, setup_of_card};
 
 use card::CONFIGURATION_SIZE;
 use inventory::Place;
@@ -28,8 +28,8 @@ pub struct Summary {
 
 // The value of a part, among a member's bytes; an empty slice where the member has not got the part.
 fn part_in<'a>(bytes: &'a [u8], t: u16, selector: u64) -> &'a [u8]
-    requires { length bytes.now ≡ memberSize }
-    ensures { result.now ≡ part_of (memberOf bytes.now) t selector }
+    requires { length bytes.now ≡ member_size }
+    ensures { result.now ≡ part_of (member_of bytes.now) t selector }
 {
     let Place::At(i) = inventory::place_of(member::queues_of(bytes), t, selector) else {
         return &bytes[0..0];
@@ -41,8 +41,8 @@ fn part_in<'a>(bytes: &'a [u8], t: u16, selector: u64) -> &'a [u8]
 
 // It is copied out where the buffer is as long. No part's value is empty.
 fn load_in(bytes: &[u8], t: u16, selector: u64, value: &mut [u8]) -> EventAnswer
-    requires { length bytes.now ≡ memberSize }
-    ensures { (result, value.new) ≡ loadIn (memberOf bytes.now) t selector value.old }
+    requires { length bytes.now ≡ member_size }
+    ensures { (result, value.new) ≡ load_in (member_of bytes.now) t selector value.old }
 {
     let own = part_in(bytes, t, selector);
     if own.len() == 0 {
@@ -102,7 +102,7 @@ fn state_of(mode: Mode, marked: bool) -> u8
 
 // How many of the sixteen object bytes are v.
 fn count_of(v: u8, bytes: &[u8]) -> u8
-    requires { length bytes.now ≡ objectsSize }
+    requires { length bytes.now ≡ objects_size }
     ensures { result ≡ count v bytes.now }
 {
     let mut n: u8 = 0;
@@ -115,7 +115,7 @@ fn count_of(v: u8, bytes: &[u8]) -> u8
 }
 
 fn summary_of(x: Member) -> Summary
-    ensures { result ≡ summaryOf x }
+    ensures { result ≡ summary_of x }
 {
     let mode = x.mode;
     let objects = x.objects;
@@ -139,7 +139,7 @@ pub fn member(
     sets: &mut u8,
     held: &mut u16,
 ) -> EventAnswer
-    ensures { (result, (state.new, (queues.new, (gets.new, (sets.new, held.new))))) ≡ memberTold card.now m (state.old, (queues.old, (gets.old, (sets.old, held.old)))) }
+    ensures { (result, (state.new, (queues.new, (gets.new, (sets.new, held.new))))) ≡ member_told card.now m (state.old, (queues.old, (gets.old, (sets.old, held.old)))) }
 {
     let a = events::member_answer(card, m);
     if !protocol::is_event_done(a) {
@@ -158,7 +158,7 @@ pub fn member(
 
 // The twelve bytes and the generation.
 pub fn configuration(card: &[u8], m: u64, bytes: &mut [u8], generation: &mut u32) -> EventAnswer
-    ensures { (result, (bytes.new, generation.new)) ≡ configurationTold card.now m (bytes.old, generation.old) }
+    ensures { (result, (bytes.new, generation.new)) ≡ configuration_told card.now m (bytes.old, generation.old) }
 {
     let a = events::member_answer(card, m);
     if !protocol::is_event_done(a) {
@@ -176,8 +176,8 @@ pub fn configuration(card: &[u8], m: u64, bytes: &mut [u8], generation: &mut u32
 
 // The queue counts of members 1 to n.
 fn counts_of(card: &[u8], n: u64) -> [u8; MOST_MEMBERS]
-    requires { (length card.now ≡ cardSize n) × (n ≤ mostMembers) }
-    ensures { result ≡ sixteen (countsFrom card.now 1 n) }
+    requires { (length card.now ≡ card_size n) × (n ≤ most_members) }
+    ensures { result ≡ sixteen (counts_from card.now 1 n) }
 {
     let mut counts = [0u8; MOST_MEMBERS];
     let mut i: u64 = 0;
@@ -191,7 +191,7 @@ fn counts_of(card: &[u8], n: u64) -> [u8; MOST_MEMBERS]
 // The card's setup, packed at the front of `setup`, and how many bytes that is; 0, with nothing written, where the card is not
 // sound or `setup` too short.
 pub fn setup_of(card: &[u8], setup: &mut [u8]) -> usize
-    ensures { (result, setup.new) ≡ setupOfCard card.now setup.old }
+    ensures { (result, setup.new) ≡ setup_of_card card.now setup.old }
 {
     if !card::is_sound(card) {
         return 0;

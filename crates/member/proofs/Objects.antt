@@ -11,22 +11,22 @@ use Rattle.objects.specs.declared.Slot.{Slot}
 use Rattle.objects.specs.declared.ObjectRecord.{ObjectRecord}
 use Rattle.objects.specs.declared.Found.{Found}
 use Rattle.objects.specs.declared.Found.TheVariants.{Live, Nothing}
-use Rattle.objects.specs.Objects.{free, foundIn, onFound}
+use Rattle.objects.specs.Objects.{free, found_in, on_found}
 use Rattle.member.specs.declared.Member.{Member}
-use Rattle.member.specs.Objects.{lookupOf, withObject}
-use Rattle.member.specs.Member.{withValues}
+use Rattle.member.specs.Objects.{lookup_of, with_object}
+use Rattle.member.specs.Member.{with_values}
 
-pub values-in : (m : Member) (v w : List ℕ) → v ≡ w → withValues m v ≡ withValues m w
+pub values-in : (m : Member) (v w : List ℕ) → v ≡ w → with_values m v ≡ with_values m w
 values-in m v w e = rw e
 
 module _ (m : Member) (id : ℕ) where
-  pub lookup-in : (f : Found) → f ≡ foundIn (get_or m.objects id free).slot → f ≡ lookupOf m id
-  unfolding lookupOf
+  pub lookup-in : (f : Found) → f ≡ found_in (get_or m.objects id free).slot → f ≡ lookup_of m id
+  unfolding lookup_of
   lookup-in f e = e
 
   pub object-in : (s : Slot) (l : List ObjectRecord) → l ≡ set m.objects id (record { slot = s })
-      → record { mode = m.mode; marked = m.marked; queues = m.queues; objects = l; held = m.held; values = m.values } ≡ withObject m id s
-  unfolding withObject
+      → record { mode = m.mode; marked = m.marked; queues = m.queues; objects = l; held = m.held; values = m.values } ≡ with_object m id s
+  unfolding with_object
   object-in s l e = rw e
 
   -- an id that none of the n records has
@@ -34,18 +34,18 @@ module _ (m : Member) (id : ℕ) where
     out : length m.objects ≤ id
     out = omega arith
 
-    pub lookup-out : Nothing ≡ lookupOf m id
-    unfolding lookupOf
+    pub lookup-out : Nothing ≡ lookup_of m id
+    unfolding lookup_of
     lookup-out = rw (get_or-eq_default m.objects free out)
 
-    pub object-out : (s : Slot) → m ≡ withObject m id s
-    unfolding withObject
+    pub object-out : (s : Slot) → m ≡ with_object m id s
+    unfolding with_object
     object-out s = rw (set_out m.objects id (record { slot = s }) out)
 
 -- f is what the lookup answered
-module _ {A : Type 0} (m : Member) (id : ℕ) (g : ObjectKind → A) (z o : A) (f : Found) (e : f ≡ lookupOf m id) where
-  pub on-live : (k : ObjectKind) → f ≡ Live k → o ≡ g k → o ≡ onFound (lookupOf m id) g z
+module _ {A : Type 0} (m : Member) (id : ℕ) (g : ObjectKind → A) (z o : A) (f : Found) (e : f ≡ lookup_of m id) where
+  pub on-live : (k : ObjectKind) → f ≡ Live k → o ≡ g k → o ≡ on_found (lookup_of m id) g z
   on-live k n h = rw (sym e ∙ n) h
 
-  pub on-nothing : f ≡ Nothing → o ≡ z → o ≡ onFound (lookupOf m id) g z
+  pub on-nothing : f ≡ Nothing → o ≡ z → o ≡ on_found (lookup_of m id) g z
   on-nothing n h = rw (sym e ∙ n) h

@@ -2,18 +2,18 @@
 use Rattle.std.specs.Prelude.{Bool, map, ℕ, get_or, set}
 use Rattle.objects.specs.declared.Slot.{Slot}
 use Rattle.objects.specs.declared.Found.{Found}
-use Rattle.objects.specs.Objects.{objectByte, free, foundIn, withinLimits}
+use Rattle.objects.specs.Objects.{object_byte, free, found_in, within_limits}
 use Rattle.member.specs.declared.Member.{Member}
 
 -- the live object of an id
-unfoldable pub lookupOf : Member → ℕ → Found
-lookupOf m id = foundIn (get_or m.objects id free).slot
+unfoldable pub lookup_of : Member → ℕ → Found
+lookup_of m id = found_in (get_or m.objects id free).slot
 
 -- the member with this at the id, and all else kept
-unfoldable pub withObject : Member → ℕ → Slot → Member
-withObject m id s =
+unfoldable pub with_object : Member → ℕ → Slot → Member
+with_object m id s =
     record { mode = m.mode; marked = m.marked; queues = m.queues; objects = set m.objects id (record { slot = s }); held = m.held; values = m.values }
 
 -- at most G get and S set objects
-abbrev pub roomIn : ℕ → ℕ → Member → Bool
-roomIn gets sets m = withinLimits gets sets (map objectByte m.objects)
+abbrev pub room_in : ℕ → ℕ → Member → Bool
+room_in gets sets m = within_limits gets sets (map object_byte m.objects)

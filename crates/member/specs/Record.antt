@@ -4,61 +4,61 @@ use Rattle.std.specs.Prelude.{List, [], ◌∷◌, ◌++◌, map, ℕ, ◌+◌, 
 use Rattle.theory.specs.Logic.{indicator}
 use Rattle.theory.specs.Bytes.{bytes_at}
 use Rattle.wire.specs.Le.{bytes, number}
-use Rattle.inventory.specs.Inventory.{valuesSize}
+use Rattle.inventory.specs.Inventory.{values_size}
 use Rattle.protocol.specs.declared.Mode.{Mode}
 use Rattle.protocol.specs.declared.Mode.TheVariants.{Running, Stopped}
 use Rattle.protocol.specs.Answers.{mode_of}
-use Rattle.objects.specs.Objects.{objectsSize, objectOf, objectByte}
+use Rattle.objects.specs.Objects.{objects_size, object_of, object_byte}
 use Rattle.member.specs.declared.Member.{Member}
 
-abbrev pub modeAt : ℕ
-modeAt = 0
+abbrev pub mode_at : ℕ
+mode_at = 0
 
 -- mark (02's term, request 10): 1 for a member that is handed back and not yet wiped, else 0
-abbrev pub markAt : ℕ
-markAt = modeAt + 1
+abbrev pub mark_at : ℕ
+mark_at = mode_at + 1
 
 -- Q of this member (02, request 9)
-abbrev pub queuesAt : ℕ
-queuesAt = markAt + 1
+abbrev pub queues_at : ℕ
+queues_at = mark_at + 1
 
-abbrev pub objectsAt : ℕ
-objectsAt = queuesAt + 1
+abbrev pub objects_at : ℕ
+objects_at = queues_at + 1
 
 abbrev pub held_at : ℕ
-held_at = objectsAt + objectsSize
+held_at = objects_at + objects_size
 
-abbrev pub valuesAt : ℕ
-valuesAt = held_at + 2
+abbrev pub values_at : ℕ
+values_at = held_at + 2
 
-abbrev pub memberSize : ℕ
-memberSize = valuesAt + valuesSize
+abbrev pub member_size : ℕ
+member_size = values_at + values_size
 
 -- the bytes of a holding place (02's term), which stand behind the member's; what it holds is 0 for none, k + 1 for an
 -- open one of k bytes
-abbrev pub holdingSize : ℕ
-holdingSize = 1024
+abbrev pub holding_size : ℕ
+holding_size = 1024
 
 -- 0 running, 1 stopped
-abbrev pub modeByte : Mode → ℕ
-modeByte Running = 0
-modeByte Stopped = 1
+abbrev pub mode_byte : Mode → ℕ
+mode_byte Running = 0
+mode_byte Stopped = 1
 
-abbrev pub objectBytes : List ℕ → List ℕ
-objectBytes r = bytes_at objectsAt objectsSize r
+abbrev pub object_bytes : List ℕ → List ℕ
+object_bytes r = bytes_at objects_at objects_size r
 
 -- the member that bytes hold, and the bytes that hold a member
-unfoldable pub memberOf : List ℕ → Member
-memberOf r =
+unfoldable pub member_of : List ℕ → Member
+member_of r =
     record {
-      mode = mode_of (get_or r modeAt 0);
-      marked = eqb (get_or r markAt 0) 1;
-      queues = get_or r queuesAt 0;
-      objects = map objectOf (objectBytes r);
+      mode = mode_of (get_or r mode_at 0);
+      marked = eqb (get_or r mark_at 0) 1;
+      queues = get_or r queues_at 0;
+      objects = map object_of (object_bytes r);
       held = number held_at 2 r;
-      values = bytes_at valuesAt valuesSize r;
+      values = bytes_at values_at values_size r;
     }
 
-unfoldable pub memberBytes : Member → List ℕ
-memberBytes m =
-    (modeByte m.mode ∷ indicator m.marked ∷ m.queues ∷ []) ++ (map objectByte m.objects ++ (bytes 2 m.held ++ m.values))
+unfoldable pub member_bytes : Member → List ℕ
+member_bytes m =
+    (mode_byte m.mode ∷ indicator m.marked ∷ m.queues ∷ []) ++ (map object_byte m.objects ++ (bytes 2 m.held ++ m.values))

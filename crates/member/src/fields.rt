@@ -2,10 +2,10 @@
 ghost use Rattle.std.specs.Prelude.{◌≡◌, ◌+◌, ◌≤◌, [], ◌∷◌, map, length};
 ghost use Rattle.theory.specs.Logic.{indicator};
 ghost use Rattle.theory.specs.Bytes.{bytes_at, put};
-ghost use Rattle.inventory.specs.Inventory.{valuesSize};
-ghost use Rattle.objects.specs.Objects.{objectByte, objectsSize};
-ghost use Rattle.member.specs.Record.{modeAt, queuesAt, objectsAt, valuesAt, memberSize, modeByte, objectBytes};
-ghost use Rattle.member.specs.Sound.{soundEnd, soundFront};
+ghost use Rattle.inventory.specs.Inventory.{values_size};
+ghost use Rattle.objects.specs.Objects.{object_byte, objects_size};
+ghost use Rattle.member.specs.Record.{mode_at, queues_at, objects_at, values_at, member_size, mode_byte, object_bytes};
+ghost use Rattle.member.specs.Sound.{sound_end, sound_front};
 
 use super::{
     HELD_AT, MARK_AT, MEMBER_SIZE, MODE_AT, OBJECTS_AT, QUEUES_AT, VALUES_AT, VALUES_SIZE,
@@ -15,8 +15,8 @@ use protocol::Mode;
 
 // The mark of a member that is stopped with no holding place and no live object.
 fn is_end_sound(bytes: &[u8]) -> bool
-    requires { length bytes.now ≡ memberSize }
-    ensures { result ≡ soundEnd bytes.now }
+    requires { length bytes.now ≡ member_size }
+    ensures { result ≡ sound_end bytes.now }
 {
     if bytes[MARK_AT] != 1 {
         return false;
@@ -32,8 +32,8 @@ fn is_end_sound(bytes: &[u8]) -> bool
 
 // The mode, the queue count and the mark. Mode and mark are one number, at most 1 if there is no mark.
 pub fn is_front_sound(bytes: &[u8]) -> bool
-    requires { length bytes.now ≡ memberSize }
-    ensures { result ≡ soundFront bytes.now }
+    requires { length bytes.now ≡ member_size }
+    ensures { result ≡ sound_front bytes.now }
 {
     if bytes[QUEUES_AT] < 1 {
         return false;
@@ -48,8 +48,8 @@ pub fn is_front_sound(bytes: &[u8]) -> bool
 }
 
 pub fn object_bytes_in(bytes: &[u8]) -> [u8; IDS]
-    requires { length bytes.now ≡ memberSize }
-    ensures { result ≡ objectBytes bytes.now }
+    requires { length bytes.now ≡ member_size }
+    ensures { result ≡ object_bytes bytes.now }
 {
     let mut own = [0u8; IDS];
     wire::copy(&mut own, 0, &bytes[OBJECTS_AT..HELD_AT]);
@@ -57,8 +57,8 @@ pub fn object_bytes_in(bytes: &[u8]) -> [u8; IDS]
 }
 
 pub fn values_in(bytes: &[u8]) -> [u8; VALUES_SIZE]
-    requires { length bytes.now ≡ memberSize }
-    ensures { result ≡ bytes_at valuesAt valuesSize bytes.now }
+    requires { length bytes.now ≡ member_size }
+    ensures { result ≡ bytes_at values_at values_size bytes.now }
 {
     let mut own = [0u8; VALUES_SIZE];
     wire::copy(&mut own, 0, &bytes[VALUES_AT..MEMBER_SIZE]);
@@ -66,7 +66,7 @@ pub fn values_in(bytes: &[u8]) -> [u8; VALUES_SIZE]
 }
 
 fn mode_byte(mode: Mode) -> u8
-    ensures { result ≡ modeByte mode }
+    ensures { result ≡ mode_byte mode }
 {
     match mode {
         Mode::Running => 0,
@@ -75,16 +75,16 @@ fn mode_byte(mode: Mode) -> u8
 }
 
 pub fn save_front(mode: Mode, marked: bool, queues: u8, bytes: &mut [u8])
-    requires { queuesAt + 1 ≤ length bytes.old }
-    ensures { bytes.new ≡ put modeAt (modeByte mode ∷ indicator marked ∷ queues ∷ []) bytes.old }
+    requires { queues_at + 1 ≤ length bytes.old }
+    ensures { bytes.new ≡ put mode_at (mode_byte mode ∷ indicator marked ∷ queues ∷ []) bytes.old }
 {
     let front = [mode_byte(mode), marked as u8, queues];
     wire::copy(bytes, MODE_AT, &front);
 }
 
 pub fn save_objects(objects: [ObjectRecord; IDS], bytes: &mut [u8])
-    requires { objectsAt + objectsSize ≤ length bytes.old }
-    ensures { bytes.new ≡ put objectsAt (map objectByte objects) bytes.old }
+    requires { objects_at + objects_size ≤ length bytes.old }
+    ensures { bytes.new ≡ put objects_at (map object_byte objects) bytes.old }
 {
     let own = objects::object_bytes(objects);
     wire::copy(bytes, OBJECTS_AT, &own);

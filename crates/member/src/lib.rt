@@ -5,11 +5,11 @@ ghost use Rattle.std.specs.Prelude.{◌≡◌, ◌+◌, ◌≤◌, length};
 ghost use Rattle.parts.specs.declared.ListForm.TheVariants.{Parts};
 ghost use Rattle.parts.specs.List.{parts_of};
 ghost use Rattle.values.specs.Apply.{applied};
-ghost use Rattle.objects.specs.Objects.{objectsSize, most_of};
-ghost use Rattle.member.specs.Record.{memberSize, memberOf, memberBytes};
-ghost use Rattle.member.specs.Objects.{lookupOf, withObject, roomIn};
-ghost use Rattle.member.specs.Member.{fresh_of, withMode, withValues, withHeld, handedBack, withPart};
-ghost use Rattle.member.specs.Sound.{soundRecord};
+ghost use Rattle.objects.specs.Objects.{objects_size, most_of};
+ghost use Rattle.member.specs.Record.{member_size, member_of, member_bytes};
+ghost use Rattle.member.specs.Objects.{lookup_of, with_object, room_in};
+ghost use Rattle.member.specs.Member.{fresh_of, with_mode, with_values, with_held, handed_back, with_part};
+ghost use Rattle.member.specs.Sound.{sound_record};
 
 use objects::{Found, IDS, ObjectRecord, Slot};
 use protocol::Mode;
@@ -76,7 +76,7 @@ impl Member {
 
     // Hand back and wipe, SPEC 7.3: the two halves of a reset, of which none changes the queue count.
     pub fn hand_back(self) -> Member
-        ensures { result ≡ handedBack self }
+        ensures { result ≡ handed_back self }
     {
         let objects = [ObjectRecord { slot: Slot::Free }; IDS];
         let values = self.values;
@@ -98,7 +98,7 @@ impl Member {
 
     // A field that is an enum cannot be stored to, so the struct is made anew.
     fn with_mode(self, mode: Mode) -> Member
-        ensures { result ≡ withMode self mode }
+        ensures { result ≡ with_mode self mode }
     {
         let objects = self.objects;
         let values = self.values;
@@ -114,27 +114,27 @@ impl Member {
 
     // Another number of bytes held: begin, feed and the end of a holding place.
     pub fn with_held(mut self, held: u16) -> Member
-        ensures { result ≡ withHeld self held }
+        ensures { result ≡ with_held self held }
     {
         self.held = held;
         self
     }
 
     pub fn stop(self) -> Member
-        ensures { result ≡ withMode self Mode.Stopped }
+        ensures { result ≡ with_mode self Mode.Stopped }
     {
         self.with_mode(Mode::Stopped)
     }
 
     pub fn resume(self) -> Member
-        ensures { result ≡ withMode self Mode.Running }
+        ensures { result ≡ with_mode self Mode.Running }
     {
         self.with_mode(Mode::Running)
     }
 
     // A card store, SPEC 7.5: one part of the member, where it can be stored.
     pub fn store(mut self, t: u16, selector: u64, value: &[u8]) -> Member
-        ensures { result ≡ withPart self t selector value.now }
+        ensures { result ≡ with_part self t selector value.now }
     {
         let mut values = self.values;
         values::store_part(&mut values, self.queues, t, selector, value);
@@ -144,7 +144,7 @@ impl Member {
 
     // The parts of an accepted list.
     pub fn set_parts(mut self, list: &[u8]) -> Member
-        ensures { result ≡ withValues self (applied self.queues (parts_of Parts list.now) self.values) }
+        ensures { result ≡ with_values self (applied self.queues (parts_of Parts list.now) self.values) }
     {
         let mut values = self.values;
         values::apply(&mut values, self.queues, list);
@@ -156,7 +156,7 @@ impl Member {
 
     // The live object of an id.
     pub fn lookup(self, id: usize) -> Found
-        ensures { result ≡ lookupOf self id }
+        ensures { result ≡ lookup_of self id }
     {
         if IDS <= id {
             return Found::Nothing;
@@ -168,7 +168,7 @@ impl Member {
 
     // The member with this at the id; an id that no record has changes nothing.
     pub fn with_object(mut self, id: usize, slot: Slot) -> Member
-        ensures { result ≡ withObject self id slot }
+        ensures { result ≡ with_object self id slot }
     {
         if IDS <= id {
             return self;
@@ -179,7 +179,7 @@ impl Member {
 
     // The member without the object of the id, whose id and room are free again.
     pub fn without_object(mut self, id: usize) -> Member
-        ensures { result ≡ withObject self id Slot.Free }
+        ensures { result ≡ with_object self id Slot.Free }
     {
         if IDS <= id {
             return self;
@@ -192,7 +192,7 @@ impl Member {
 
     // Whether the member has at most so many get and set objects.
     pub fn has_room(self, gets: u8, sets: u8) -> bool
-        ensures { result ≡ roomIn gets sets self }
+        ensures { result ≡ room_in gets sets self }
     {
         let objects = self.objects;
         let bytes = objects::object_bytes(objects);
@@ -204,8 +204,8 @@ impl Member {
 
 // The live object of an id. A command that reads has no need of the member by value.
 pub fn lookup_in(bytes: &[u8], id: usize) -> Found
-    requires { length bytes.now ≡ memberSize }
-    ensures { result ≡ lookupOf (memberOf bytes.now) id }
+    requires { length bytes.now ≡ member_size }
+    ensures { result ≡ lookup_of (member_of bytes.now) id }
 {
     if IDS <= id {
         return Found::Nothing;
@@ -214,22 +214,22 @@ pub fn lookup_in(bytes: &[u8], id: usize) -> Found
 }
 
 pub fn values_of(bytes: &[u8]) -> &[u8]
-    requires { length bytes.now ≡ memberSize }
-    ensures { result.now ≡ (memberOf bytes.now).values }
+    requires { length bytes.now ≡ member_size }
+    ensures { result.now ≡ (member_of bytes.now).values }
 {
     &bytes[VALUES_AT..MEMBER_SIZE]
 }
 
 pub fn is_marked(bytes: &[u8]) -> bool
-    requires { length bytes.now ≡ memberSize }
-    ensures { result ≡ (memberOf bytes.now).marked }
+    requires { length bytes.now ≡ member_size }
+    ensures { result ≡ (member_of bytes.now).marked }
 {
     bytes[MARK_AT] == 1
 }
 
 pub fn queues_of(bytes: &[u8]) -> u8
-    requires { length bytes.now ≡ memberSize }
-    ensures { result ≡ (memberOf bytes.now).queues }
+    requires { length bytes.now ≡ member_size }
+    ensures { result ≡ (member_of bytes.now).queues }
 {
     bytes[QUEUES_AT]
 }
@@ -237,8 +237,8 @@ pub fn queues_of(bytes: &[u8]) -> u8
 // Most holds what each object byte may be at most: see objects. Features and objects are two vectors with one test, and
 // the tests stand in the order that takes the least time.
 pub fn is_sound_record(bytes: &[u8], gets: u8, sets: u8, most: &[u8], features: &[u8]) -> bool
-    requires { (length bytes.now ≡ memberSize) × (gets + sets ≤ objectsSize) × (most.now ≡ most_of (gets + sets)) }
-    ensures { result ≡ soundRecord gets sets features.now bytes.now }
+    requires { (length bytes.now ≡ member_size) × (gets + sets ≤ objects_size) × (most.now ≡ most_of (gets + sets)) }
+    ensures { result ≡ sound_record gets sets features.now bytes.now }
 {
     let kept = wire::equal(&bytes[VALUES_AT..FEATURES_END], features);
     let low = objects::are_within(most, &bytes[OBJECTS_AT..HELD_AT]);
@@ -260,8 +260,8 @@ pub fn is_sound_record(bytes: &[u8], gets: u8, sets: u8, most: &[u8], features: 
 // ---- from a member's bytes to the member, and back ----
 
 pub fn load(bytes: &[u8]) -> Member
-    requires { length bytes.now ≡ memberSize }
-    ensures { result ≡ memberOf bytes.now }
+    requires { length bytes.now ≡ member_size }
+    ensures { result ≡ member_of bytes.now }
 {
     let mode = protocol::mode_of(bytes[MODE_AT]);
     let marked = is_marked(bytes);
@@ -280,8 +280,8 @@ pub fn load(bytes: &[u8]) -> Member
 }
 
 pub fn save(m: Member, bytes: &mut [u8])
-    requires { length bytes.old ≡ memberSize }
-    ensures { bytes.new ≡ memberBytes m }
+    requires { length bytes.old ≡ member_size }
+    ensures { bytes.new ≡ member_bytes m }
 {
     let mode = m.mode;
     fields::save_front(mode, m.marked, m.queues, bytes);

@@ -2,43 +2,43 @@
 use Rattle.std.proofs.Common.{◌≡◌, ℕ, ◌+◌, ◌<◌, ◌≤◌, Bool, true, List, length, arith, eqb-true, leb-true}
 use Rattle.theory.specs.Logic.{unless◌answer◌then◌}
 use Rattle.theory.proofs.Tests.{if-cases, unless-cases, both, within-high}
-use Rattle.card.specs.Layout.{setupOf}
+use Rattle.card.specs.Layout.{setup_of}
 use Rattle.message.specs.declared.Access.{Access}
 use Rattle.message.specs.declared.Access.TheVariants.{Nothing, Read, Write}
-use Rattle.message.specs.Format.{headerSize, devNumOf, memberFor, dataAt}
-use Rattle.message.specs.Access.{isRequest, readIn, writeIn, whole_of}
-use Rattle.message.specs.Message.{accessIn}
+use Rattle.message.specs.Format.{header_size, dev_num_of, member_for, data_at}
+use Rattle.message.specs.Access.{is_request, read_in, write_in, whole_of}
+use Rattle.message.specs.Message.{access_in}
 
 -- it speaks for member m, one of the card's, and its header is there
 pub record Speaks (members : ℕ) (x : List ℕ) (m : ℕ) : Type 0 where
   pub low : 1 ≤ m
   pub high : m ≤ members
-  pub long : headerSize ≤ length x
+  pub long : header_size ≤ length x
 
 -- what each thing that is asked says of the message
 abbrev pub Facts : ℕ → List ℕ → Access → Type 0
 Facts members x Nothing = Unit {0}
 Facts members x (Read m offset n) = Speaks members x m
-Facts members x (Write m sent offset n) = Speaks members x m × (dataAt + n ≡ length x)
+Facts members x (Write m sent offset n) = Speaks members x m × (data_at + n ≡ length x)
 
 module _ (members : ℕ) (x : List ℕ) where
   guarded : (t : Bool) (a : Access) → (t ≡ true → Facts members x a) → Facts members x (unless t answer Nothing then a)
   guarded t a f = unless-cases (Facts members x) t Nothing a (λ e. tt) f
 
-  whole-facts : devNumOf x < members → Facts members x (whole_of x)
-  unfolding whole_of isRequest readIn writeIn
+  whole-facts : dev_num_of x < members → Facts members x (whole_of x)
+  unfolding whole_of is_request read_in write_in
   whole-facts h = guarded _ _ λ e.
-      let s : Speaks members x (devNumOf x + 1) = record { low = omega arith; high = omega arith; long = leb-true _ _ (both _ _ (both _ _ e).0).0 } in
+      let s : Speaks members x (dev_num_of x + 1) = record { low = omega arith; high = omega arith; long = leb-true _ _ (both _ _ (both _ _ e).0).0 } in
       if-cases (Facts members x) _ _ _ (λ t. guarded _ _ (λ u. s)) λ t.
       if-cases (Facts members x) _ _ _ (λ u. guarded _ _ (λ v. (s, eqb-true _ _ v))) (λ u. tt)
 
 module _ (c x : List ℕ) where
   -- nothing is asked of a card, or what the message asks of any
-  pub access-cases : (P : Access → Type 0) → P Nothing → (Facts (setupOf c).members x (whole_of x) → P (whole_of x)) → P (accessIn c x)
-  unfolding accessIn
+  pub access-cases : (P : Access → Type 0) → P Nothing → (Facts (setup_of c).members x (whole_of x) → P (whole_of x)) → P (access_in c x)
+  unfolding access_in
   access-cases P f g =
       unless-cases P _ _ _ (λ e. f) λ e.
-      unless-cases P _ _ _ (λ u. f) (λ u. g (whole-facts _ x (omega (arith, within-high 1 (setupOf c).members (memberFor x) e))))
+      unless-cases P _ _ _ (λ u. f) (λ u. g (whole-facts _ x (omega (arith, within-high 1 (setup_of c).members (member_for x) e))))
 
-  pub asked : (a : Access) → a ≡ accessIn c x → Facts (setupOf c).members x a
-  asked a e = rw e (access-cases (Facts (setupOf c).members x) tt (λ f. f))
+  pub asked : (a : Access) → a ≡ access_in c x → Facts (setup_of c).members x a
+  asked a e = rw e (access-cases (Facts (setup_of c).members x) tt (λ f. f))

@@ -4,46 +4,46 @@ use Rattle.theory.specs.Logic.{unless◌answer◌then◌}
 use Rattle.theory.proofs.Tests.{by_cases, if-cases, unless-cases, both, inside, never}
 use Rattle.wire.specs.Le.{bytes, number}
 use Rattle.wire.proofs.Le.{le_bytes}
-use Rattle.card.specs.Layout.{configurationSize, setupOf, isMember, isMarked, generationIn, withConfiguration}
-use Rattle.card.specs.Sound.{isSound}
+use Rattle.card.specs.Layout.{configuration_size, setup_of, is_member, is_marked, generation_in, with_configuration}
+use Rattle.card.specs.Sound.{is_sound}
 use Rattle.message.specs.declared.Access.{Access}
 use Rattle.message.specs.declared.Access.TheVariants.{Nothing, Read, Write}
-use Rattle.message.specs.Format.{memberFor, dataAt, length_of, data_of, responseHeader, responseFields, responseOf}
-use Rattle.message.specs.Access.{readIn, writeIn, whole_of, speaksFor}
-use Rattle.message.specs.Message.{isApplied, nextGeneration, appliedTo, actOf, fitting, accessIn, answer_of}
+use Rattle.message.specs.Format.{member_for, data_at, length_of, data_of, response_header, response_fields, response_of}
+use Rattle.message.specs.Access.{read_in, write_in, whole_of, speaks_for}
+use Rattle.message.specs.Message.{is_applied, next_generation, applied_to, act_of, fitting, access_in, answer_of}
 use Rattle.message.proofs.Asked.{Facts, access-cases, asked}
 use Rattle.message.proofs.Acted.{applied-is}
 
 -- ---- by whether the card is sound, and whether the response fits ----
 
 module _ (c x : List ℕ) (room : ℕ) where
-  pub answer-unsound : isSound c ≡ false → answer_of c x room ≡ (c, [])
+  pub answer-unsound : is_sound c ≡ false → answer_of c x room ≡ (c, [])
   unfolding answer_of unless◌answer◌then◌
   answer-unsound e = rw e
 
-  pub answer-sound : isSound c ≡ true → answer_of c x room ≡ fitting c room (actOf c x (accessIn c x))
+  pub answer-sound : is_sound c ≡ true → answer_of c x room ≡ fitting c room (act_of c x (access_in c x))
   unfolding answer_of unless◌answer◌then◌
   answer-sound e = rw e
 
   pub answer-cases : (P : List ℕ × List ℕ → Type 0) → P (c, [])
-      → (isSound c ≡ true → P (actOf c x (accessIn c x))) → P (answer_of c x room)
+      → (is_sound c ≡ true → P (act_of c x (access_in c x))) → P (answer_of c x room)
   unfolding answer_of fitting
   answer-cases P f g = unless-cases P _ _ _ (λ t. f) (λ s. unless-cases P _ _ _ (λ t. f) (λ t. g s))
 
 -- ---- whom a message names ----
 
-pub speaks-one : (a : Access) (m k : ℕ) → speaksFor m a ≡ true → speaksFor k a ≡ true → m ≡ k
-unfolding speaksFor
+pub speaks-one : (a : Access) (m k : ℕ) → speaks_for m a ≡ true → speaks_for k a ≡ true → m ≡ k
+unfolding speaks_for
 speaks-one Nothing m k e f = never e
 speaks-one (Read j offset n) m k e f = sym (eqb-true j m e) ∙ eqb-true j k f
 speaks-one (Write j sent offset n) m k e f = sym (eqb-true j m e) ∙ eqb-true j k f
 
 -- the member that its device number speaks for
 Numbered : ℕ → List ℕ → Access → Type 0
-Numbered m x a = speaksFor m a ≡ true → memberFor x ≡ m
+Numbered m x a = speaks_for m a ≡ true → member_for x ≡ m
 
-speaks-number : (m : ℕ) (x : List ℕ) → speaksFor m (whole_of x) ≡ true → memberFor x ≡ m
-unfolding whole_of readIn writeIn Numbered speaksFor
+speaks-number : (m : ℕ) (x : List ℕ) → speaks_for m (whole_of x) ≡ true → member_for x ≡ m
+unfolding whole_of read_in write_in Numbered speaks_for
 speaks-number m x =
     unless-cases (Numbered m x) _ _ _ (λ t e. never e) λ t.
     if-cases (Numbered m x) _ _ _ (λ u. unless-cases (Numbered m x) _ _ _ (λ v e. never e) (λ v. eqb-true _ m)) λ u.
@@ -51,13 +51,13 @@ speaks-number m x =
     (λ v e. never e)
 
 -- it gets no response where that member is marked
-pub answer-marked : (c x : List ℕ) (m room : ℕ) → isMarked c m ≡ true → speaksFor m (whole_of x) ≡ true → answer_of c x room ≡ (c, [])
-unfolding accessIn actOf fitting unless◌answer◌then◌
+pub answer-marked : (c x : List ℕ) (m room : ℕ) → is_marked c m ≡ true → speaks_for m (whole_of x) ≡ true → answer_of c x room ≡ (c, [])
+unfolding access_in act_of fitting unless◌answer◌then◌
 answer-marked c x m room u e =
-    by_cases (isSound c)
+    by_cases (is_sound c)
     (λ s.
     rw (answer-sound c x room s, speaks-number m x e, u)
-    (by_cases (isMember c m) (λ i. rw i (none-fits c room)) (λ i. rw i (none-fits c room))))
+    (by_cases (is_member c m) (λ i. rw i (none-fits c room)) (λ i. rw i (none-fits c room))))
     (λ s. answer-unsound c x room s)
   where
     none-fits : (c : List ℕ) (room : ℕ) → fitting c room (c, []) ≡ (c, [])
@@ -66,34 +66,34 @@ answer-marked c x m room u e =
 -- ---- the card after it: the same, or with another configuration and generation of the member that it names ----
 
 module _ (c x : List ℕ) (Q : List ℕ → Type 0) (f : Q c) where
-  act-card : (a : Access) → Facts (setupOf c).members x a
-      → ((m : ℕ) (y : List ℕ) (g : ℕ) → isMember c m ≡ true → speaksFor m a ≡ true → Q (withConfiguration c m y g)) → Q (actOf c x a).0
-  unfolding actOf appliedTo speaksFor
+  act-card : (a : Access) → Facts (setup_of c).members x a
+      → ((m : ℕ) (y : List ℕ) (g : ℕ) → is_member c m ≡ true → speaks_for m a ≡ true → Q (with_configuration c m y g)) → Q (act_of c x a).0
+  unfolding act_of applied_to speaks_for
   act-card Nothing t h = f
   act-card (Read m offset n) t h = f
   act-card (Write m sent offset n) t h =
       unless-cases (λ (y : List ℕ × List ℕ). Q y.0) _ _ _ (λ e. f)
       (λ e. h m _ _ (inside 1 _ m t.0.low t.0.high) (eq-eqb m m refl))
 
-  pub card-cases : (room : ℕ) → ((m : ℕ) (y : List ℕ) (g : ℕ) → isSound c ≡ true → isMember c m ≡ true → speaksFor m (whole_of x) ≡ true → Q (withConfiguration c m y g))
+  pub card-cases : (room : ℕ) → ((m : ℕ) (y : List ℕ) (g : ℕ) → is_sound c ≡ true → is_member c m ≡ true → speaks_for m (whole_of x) ≡ true → Q (with_configuration c m y g))
       → Q (answer_of c x room).0
-  unfolding actOf
+  unfolding act_of
   card-cases room h =
       answer-cases c x room (λ (y : List ℕ × List ℕ). Q y.0) f λ s.
-      access-cases c x (λ a. Q (actOf c x a).0) f (λ t. act-card (whole_of x) t (λ m y g. h m y g s))
+      access-cases c x (λ a. Q (act_of c x a).0) f (λ t. act-card (whole_of x) t (λ m y g. h m y g s))
 
 -- ---- an answer of length 0, or none ----
 
-response-length : (x : List ℕ) (generation offset : ℕ) (bs : List ℕ) → length bs < 256 ^ 4 → length_of (responseOf x generation offset bs) ≡ length bs
-unfolding responseOf responseHeader responseFields bytes number
+response-length : (x : List ℕ) (generation offset : ℕ) (bs : List ℕ) → length bs < 256 ^ 4 → length_of (response_of x generation offset bs) ≡ length bs
+unfolding response_of response_header response_fields bytes number
 response-length x generation offset bs h = le_bytes 4 (length bs) h
 
 -- an applied write has data
-applied-some : (x : List ℕ) (current sent offset n : ℕ) → dataAt + n ≡ length x → isApplied current sent offset n ≡ true
-    → (1 ≤ length (data_of x)) × (length (data_of x) ≤ configurationSize)
-unfolding isApplied
+applied-some : (x : List ℕ) (current sent offset n : ℕ) → data_at + n ≡ length x → is_applied current sent offset n ≡ true
+    → (1 ≤ length (data_of x)) × (length (data_of x) ≤ configuration_size)
+unfolding is_applied
 applied-some x current sent offset n e t =
-    let l = length-drop dataAt x in
+    let l = length-drop data_at x in
     let k : 1 ≤ n = leb-true _ _ (both _ _ (both _ _ t).0).0 in
     let i = applied-is current sent offset n t in
     (omega arith, omega arith)
@@ -101,14 +101,14 @@ applied-some x current sent offset n e t =
 Keeps : List ℕ → List ℕ × List ℕ → Type 0
 Keeps c y = length_of y.1 ≡ 0 → y.0 ≡ c
 
-act-keeps : (c x : List ℕ) (a : Access) → Facts (setupOf c).members x a → Keeps c (actOf c x a)
-unfolding Keeps actOf appliedTo
+act-keeps : (c x : List ℕ) (a : Access) → Facts (setup_of c).members x a → Keeps c (act_of c x a)
+unfolding Keeps act_of applied_to
 act-keeps c x Nothing t = λ e. refl
 act-keeps c x (Read m offset n) t = λ e. refl
 act-keeps c x (Write m sent offset n) t =
     unless-cases (Keeps c) _ _ _ (λ u e. refl) λ u e.
-    let s = applied-some x (generationIn c m) sent offset n t.1 u in
-    absurd (omega (arith, s.0, s.1, response-length x (nextGeneration (generationIn c m)) offset (data_of x) (omega (arith, s.1))))
+    let s = applied-some x (generation_in c m) sent offset n t.1 u in
+    absurd (omega (arith, s.0, s.1, response-length x (next_generation (generation_in c m)) offset (data_of x) (omega (arith, s.1))))
 
 pub no-data-keeps : (c x : List ℕ) (room : ℕ) → length_of (answer_of c x room).1 ≡ 0 → (answer_of c x room).0 ≡ c
 unfolding Keeps

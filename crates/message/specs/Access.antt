@@ -4,34 +4,34 @@ use Rattle.theory.specs.Logic.{if◌then◌else◌, unless◌answer◌then◌, �
 use Rattle.wire.specs.Le.{number}
 use Rattle.message.specs.declared.Access.{Access}
 use Rattle.message.specs.declared.Access.TheVariants.{Nothing, Read, Write}
-use Rattle.message.specs.Format.{headerSize, type_of, msgIdOf, memberFor, msgSizeOf, readLengthAt, readSize, offsetAt, dataAt, length_of, getConfig, setConfig}
+use Rattle.message.specs.Format.{header_size, type_of, msg_id_of, member_for, msg_size_of, read_length_at, read_size, offset_at, data_at, length_of, get_config, set_config}
 
 -- the header is there; type bit 0 clear is a request and bit 1 clear one to a device, bits 2 to 7 are ignored; msg_size is the
 -- number of bytes handed over
-unfoldable pub isRequest : List ℕ → Bool
-isRequest x = nat_le headerSize (length x) and nat_eq (type_of x % 4) 0 and nat_eq (msgSizeOf x) (length x)
+unfoldable pub is_request : List ℕ → Bool
+is_request x = nat_le header_size (length x) and nat_eq (type_of x % 4) 0 and nat_eq (msg_size_of x) (length x)
 
 -- the layout of its kind has as many bytes too, and in a write the length field agrees, without wrap.
-unfoldable pub readIn : List ℕ → Access
-readIn x =
-    unless nat_eq (length x) readSize answer Nothing then
-    Read (memberFor x) (number headerSize 4 x) (number readLengthAt 4 x)
+unfoldable pub read_in : List ℕ → Access
+read_in x =
+    unless nat_eq (length x) read_size answer Nothing then
+    Read (member_for x) (number header_size 4 x) (number read_length_at 4 x)
 
-unfoldable pub writeIn : List ℕ → Access
-writeIn x =
-    unless nat_eq (dataAt + length_of x) (length x) answer Nothing then
-    Write (memberFor x) (number headerSize 4 x) (number offsetAt 4 x) (length_of x)
+unfoldable pub write_in : List ℕ → Access
+write_in x =
+    unless nat_eq (data_at + length_of x) (length x) answer Nothing then
+    Write (member_for x) (number header_size 4 x) (number offset_at 4 x) (length_of x)
 
 -- one whole request of these two kinds, or nothing
 unfoldable pub whole_of : List ℕ → Access
 whole_of x =
-    unless isRequest x answer Nothing then
-    if msgIdOf x == getConfig then readIn x else
-    if msgIdOf x == setConfig then writeIn x else
+    unless is_request x answer Nothing then
+    if msg_id_of x == get_config then read_in x else
+    if msg_id_of x == set_config then write_in x else
     Nothing
 
 -- whom such a request names (01's term), whatever the card
-unfoldable pub speaksFor : ℕ → Access → Bool
-speaksFor m Nothing = false
-speaksFor m (Read k offset n) = k == m
-speaksFor m (Write k sent offset n) = k == m
+unfoldable pub speaks_for : ℕ → Access → Bool
+speaks_for m Nothing = false
+speaks_for m (Read k offset n) = k == m
+speaks_for m (Write k sent offset n) = k == m

@@ -2,10 +2,10 @@
 // decoded, then acted on, then answered.
 ghost use Rattle.std.specs.Prelude.{◌≡◌, ◌+◌, ◌≤◌, length};
 ghost use Rattle.theory.specs.Bytes.{put};
-ghost use Rattle.card.specs.Layout.{configurationSize, cardSize, setupOf, HasRecord};
-ghost use Rattle.message.specs.Format.{headerSize, memberFor, dataAt, data_of, responseHeader, responseFields, responseOf};
-ghost use Rattle.message.specs.Access.{isRequest, readIn, writeIn};
-ghost use Rattle.message.specs.Message.{accessIn, isInside, readable, isApplied, appliedTo, actOf, fitting, delivered, messageOf, sentIn};
+ghost use Rattle.card.specs.Layout.{configuration_size, card_size, setup_of, HasRecord};
+ghost use Rattle.message.specs.Format.{header_size, member_for, data_at, data_of, response_header, response_fields, response_of};
+ghost use Rattle.message.specs.Access.{is_request, read_in, write_in};
+ghost use Rattle.message.specs.Message.{access_in, is_inside, readable, is_applied, applied_to, act_of, fitting, delivered, message_of, sent_in};
 
 use card::CONFIGURATION_SIZE;
 
@@ -52,7 +52,7 @@ pub enum Access {
 
 // A whole header of a request to a device, and msg_size the bytes handed over.
 fn is_request(message: &[u8]) -> bool
-    ensures { result ≡ isRequest message.now }
+    ensures { result ≡ is_request message.now }
 {
     if message.len() < HEADER_SIZE {
         return false;
@@ -65,14 +65,14 @@ fn is_request(message: &[u8]) -> bool
 
 // Device number d speaks for member d + 1.
 fn member_of(message: &[u8]) -> u64
-    requires { headerSize ≤ length message.now }
-    ensures { result ≡ memberFor message.now }
+    requires { header_size ≤ length message.now }
+    ensures { result ≡ member_for message.now }
 {
     wire::read_u16(message, DEV_NUM_AT) as u64 + 1
 }
 
 fn read_in(message: &[u8]) -> Access
-    ensures { result ≡ readIn message.now }
+    ensures { result ≡ read_in message.now }
 {
     if message.len() != READ_SIZE {
         return Access::Nothing;
@@ -86,7 +86,7 @@ fn read_in(message: &[u8]) -> Access
 
 // The data is as long as the length field says.
 fn write_in(message: &[u8]) -> Access
-    ensures { result ≡ writeIn message.now }
+    ensures { result ≡ write_in message.now }
 {
     if message.len() < DATA_AT {
         return Access::Nothing;
@@ -105,8 +105,8 @@ fn write_in(message: &[u8]) -> Access
 
 // One whole request of the two kinds, for a device number below N whose member is not marked.
 fn decode(card: &[u8], message: &[u8]) -> Access
-    requires { length card.now ≡ cardSize (setupOf card.now).members }
-    ensures { result ≡ accessIn card.now message.now }
+    requires { length card.now ≡ card_size (setup_of card.now).members }
+    ensures { result ≡ access_in card.now message.now }
 {
     if !is_request(message) {
         return Access::Nothing;
@@ -129,8 +129,8 @@ fn decode(card: &[u8], message: &[u8]) -> Access
 
 // The header of a response to this message, of so many bytes in all.
 fn write_header(reply: &mut [u8], message: &[u8], size: usize)
-    requires { (headerSize ≤ length message.now) × (headerSize ≤ length reply.old) }
-    ensures { reply.new ≡ put 0 (responseHeader message.now size) reply.old }
+    requires { (header_size ≤ length message.now) × (header_size ≤ length reply.old) }
+    ensures { reply.new ≡ put 0 (response_header message.now size) reply.old }
 {
     wire::write(reply, 0, 1, RESPONSE);
     wire::write(reply, MSG_ID_AT, 1, message[MSG_ID_AT] as u64);
@@ -145,8 +145,8 @@ fn write_header(reply: &mut [u8], message: &[u8], size: usize)
 }
 
 fn write_fields(reply: &mut [u8], generation: u32, offset: u32, n: usize)
-    requires { dataAt ≤ length reply.old }
-    ensures { reply.new ≡ put headerSize (responseFields generation offset n) reply.old }
+    requires { data_at ≤ length reply.old }
+    ensures { reply.new ≡ put header_size (response_fields generation offset n) reply.old }
 {
     wire::write(reply, HEADER_SIZE, 4, generation as u64);
     wire::write(reply, OFFSET_AT, 4, offset as u64);
@@ -161,8 +161,8 @@ fn write_response(
     bytes: &[u8],
     reply: &mut [u8],
 ) -> usize
-    requires { (headerSize ≤ length message.now) × (length bytes.now ≤ configurationSize) }
-    ensures { (result, reply.new) ≡ sentIn (responseOf message.now generation offset bytes.now) reply.old }
+    requires { (header_size ≤ length message.now) × (length bytes.now ≤ configuration_size) }
+    ensures { (result, reply.new) ≡ sent_in (response_of message.now generation offset bytes.now) reply.old }
 {
     let size = DATA_AT + bytes.len();
     if reply.len() < size {
@@ -178,14 +178,14 @@ fn write_response(
 
 // Bytes within the configuration; the sum does not wrap.
 fn is_inside(offset: u32, n: u32) -> bool
-    ensures { result ≡ isInside offset n }
+    ensures { result ≡ is_inside offset n }
 {
     offset as u64 + n as u64 <= CONFIGURATION_SIZE as u64
 }
 
 // Bytes of a configuration; none where they are not inside.
 fn readable(configuration: &[u8], offset: u32, n: u32) -> &[u8]
-    requires { length configuration.now ≡ configurationSize }
+    requires { length configuration.now ≡ configuration_size }
     ensures { result.now ≡ readable configuration.now offset n }
 {
     if !is_inside(offset, n) {
@@ -197,7 +197,7 @@ fn readable(configuration: &[u8], offset: u32, n: u32) -> &[u8]
 
 // A write that has bytes, of the current generation, inside.
 fn is_applied(current: u32, sent: u32, offset: u32, n: u32) -> bool
-    ensures { result ≡ isApplied current sent offset n }
+    ensures { result ≡ is_applied current sent offset n }
 {
     if n < 1 {
         return false;
@@ -209,8 +209,8 @@ fn is_applied(current: u32, sent: u32, offset: u32, n: u32) -> bool
 }
 
 fn read_config(card: &[u8], m: u64, offset: u32, n: u32, message: &[u8], reply: &mut [u8]) -> usize
-    requires { HasRecord card.now m × (headerSize ≤ length message.now) }
-    ensures { (result, (card.now, reply.new)) ≡ delivered (fitting card.now (length reply.old) (actOf card.now message.now (Access.Read m offset n))) reply.old }
+    requires { HasRecord card.now m × (header_size ≤ length message.now) }
+    ensures { (result, (card.now, reply.new)) ≡ delivered (fitting card.now (length reply.old) (act_of card.now message.now (Access.Read m offset n))) reply.old }
 {
     let bytes = readable(card::configuration(card, m), offset, n);
     write_response(message, card::generation(card, m), offset, bytes, reply)
@@ -218,8 +218,8 @@ fn read_config(card: &[u8], m: u64, offset: u32, n: u32, message: &[u8], reply: 
 
 // A write that is applied. Its response is written first: where that does not fit, nothing is done.
 fn apply(card: &mut [u8], m: u64, offset: u32, message: &[u8], reply: &mut [u8]) -> usize
-    requires { HasRecord card.old m × (dataAt ≤ length message.now) × (offset + length (data_of message.now) ≤ configurationSize) }
-    ensures { (result, (card.new, reply.new)) ≡ delivered (fitting card.old (length reply.old) (appliedTo card.old m message.now offset)) reply.old }
+    requires { HasRecord card.old m × (data_at ≤ length message.now) × (offset + length (data_of message.now) ≤ configuration_size) }
+    ensures { (result, (card.new, reply.new)) ≡ delivered (fitting card.old (length reply.old) (applied_to card.old m message.now offset)) reply.old }
 {
     let next = std::num::wrapping_add_u32(card::generation(card, m), 1);
     let bytes = &message[DATA_AT..];
@@ -240,8 +240,8 @@ fn write_config(
     message: &[u8],
     reply: &mut [u8],
 ) -> usize
-    requires { HasRecord card.old m × (dataAt + n ≡ length message.now) }
-    ensures { (result, (card.new, reply.new)) ≡ delivered (fitting card.old (length reply.old) (actOf card.old message.now (Access.Write m sent offset n))) reply.old }
+    requires { HasRecord card.old m × (data_at + n ≡ length message.now) }
+    ensures { (result, (card.new, reply.new)) ≡ delivered (fitting card.old (length reply.old) (act_of card.old message.now (Access.Write m sent offset n))) reply.old }
 {
     let current = card::generation(card, m);
     if is_applied(current, sent, offset, n) {
@@ -252,7 +252,7 @@ fn write_config(
 
 // One message, whole: the bytes of its response, or 0.
 pub fn message(card: &mut [u8], message: &[u8], reply: &mut [u8]) -> usize
-    ensures { (result, (card.new, reply.new)) ≡ messageOf card.old message.now reply.old }
+    ensures { (result, (card.new, reply.new)) ≡ message_of card.old message.now reply.old }
 {
     if !card::is_sound(card) {
         return 0;

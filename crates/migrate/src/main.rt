@@ -129,7 +129,7 @@ fn set_up(source: &mut [u8], target: &mut [u8], setup: &mut [u8]) {
 
 // Member 2 of the first card, before the guest and with it at work.
 fn first_place(card: &mut [u8], reply: &mut [u8], unused: &mut [u8], leaving: &mut [u8]) {
-    transcript::print(b"\nFirst card, member 2: fresh, and then with a guest at work\n");
+    transcript::print(b"\n_first card, member 2: fresh, and then with a guest at work\n");
     prepare(card, 2, reply);
     commands::get_all(b"parts get, all: fresh     ", card, 2, unused);
     work(card, 2);
@@ -139,7 +139,7 @@ fn first_place(card: &mut [u8], reply: &mut [u8], unused: &mut [u8], leaving: &m
 
 // Member 3 of the second card takes the guest over.
 fn arrive(card: &mut [u8], reply: &mut [u8], leaving: &[u8], arrived: &mut [u8]) {
-    transcript::print(b"\nSecond card, member 3: the guest arrives in fragments\n");
+    transcript::print(b"\n_second card, member 3: the guest arrives in fragments\n");
     prepare(card, 3, reply);
     restore(card, 3, leaving);
     commands::get_all(b"parts get, all            ", card, 3, arrived);
@@ -154,7 +154,7 @@ fn arrive(card: &mut [u8], reply: &mut [u8], leaving: &[u8], arrived: &mut [u8])
 // Its driver sets up queue 1 anew, with more entries. The host has the capture, and asks for what changed since.
 fn work_on(card: &mut [u8], setup: &[u8], arrived: &[u8]) {
     let mut changed = [0u8; QUEUE_REPLY];
-    transcript::print(b"\nSecond card, member 3: later, the guest has set up queue 1 anew\n");
+    transcript::print(b"\n_second card, member 3: later, the guest has set up queue 1 anew\n");
     kajurnat::kajurnat_store(card, 3, 0x104, 1, &queue(512));
     commands::tell(
         b"parts get, queue 1        ",
@@ -193,7 +193,7 @@ fn reset(card: &mut [u8], member: u64, reply: &mut [u8]) {
 
 // The first place again: handed back, wiped, and another guest.
 fn next_guest(card: &mut [u8], reply: &mut [u8], next: &mut [u8]) {
-    transcript::print(b"\nFirst card, member 2: handed back, wiped, and the next guest\n");
+    transcript::print(b"\n_first card, member 2: handed back, wiped, and the next guest\n");
     reset(card, 2, reply);
     prepare(card, 2, reply);
     commands::get_all(b"parts get, all            ", card, 2, next);
@@ -203,7 +203,7 @@ fn next_guest(card: &mut [u8], reply: &mut [u8], next: &mut [u8]) {
 fn torn_place(card: &mut [u8], reply: &mut [u8], setup: &[u8], leaving: &[u8]) -> bool {
     let mut list = [0u8; LIST];
     let mut taken = [0u8; captures::CAPTURE];
-    transcript::print(b"\nSecond card, member 2: the guest's capture, torn in the middle\n");
+    transcript::print(b"\n_second card, member 2: the guest's capture, torn in the middle\n");
     prepare(card, 2, reply);
     captures::salvage_torn(setup, 2, leaving, &mut list);
     commands::tell(
@@ -217,7 +217,7 @@ fn torn_place(card: &mut [u8], reply: &mut [u8], setup: &[u8], leaving: &[u8]) -
 }
 
 fn conclude(unused: &[u8], leaving: &[u8], arrived: &[u8], next: &[u8], saved: bool) {
-    transcript::print(b"\nWhat was checked\n");
+    transcript::print(b"\n_what was checked\n");
     check(
         b"the guest had changed its member",
         !wire::equal(unused, leaving),

@@ -14,7 +14,7 @@ use Rattle.theory.specs.Logic.{◌and◌, indicator}
 use Rattle.theory.specs.Bytes.{bytes_at}
 use Rattle.theory.proofs.Tests.{by_cases, both, and_i, and-true, true-and, and-false, false-and, and_assoc, indicator-false, indicator-le, tests}
 use Rattle.theory.proofs.Lists.{take-replicate, drop-replicate}
-use Rattle.objects.specs.Objects.{objectsSize, count, allUpTo, allWithin, most_of, withinLimits}
+use Rattle.objects.specs.Objects.{objects_size, count, all_up_to, all_within, most_of, within_limits}
 
 pub map-set : {A B : Type 0} (f : A → B) (l : List A) (i : ℕ) (x : A) → map f (set l i x) ≡ set (map f l) i (f x)
 map-set f [] i x = refl
@@ -30,28 +30,28 @@ count_set v [] i b n = omega arith
 count_set v (a ∷ bs) zero b n = omega (arith, indicator-false _ (ne_eqb b v n))
 count_set v (a ∷ bs) (suc i) b n = omega (arith, count_set v bs i b n)
 
-pub all_set : (n : ℕ) (bs : List ℕ) (i b : ℕ) → leb b n ≡ true → allUpTo n bs ≡ true → allUpTo n (set bs i b) ≡ true
-unfolding allUpTo
+pub all_set : (n : ℕ) (bs : List ℕ) (i b : ℕ) → leb b n ≡ true → all_up_to n bs ≡ true → all_up_to n (set bs i b) ≡ true
+unfolding all_up_to
 all_set n [] i b h e = e
 all_set n (a ∷ bs) zero b h e = and_i _ _ h (both _ _ e).1
 all_set n (a ∷ bs) (suc i) b h e = let p = both _ _ e in and_i _ _ p.0 (all_set n bs i b h p.1)
 
 -- a byte set to 0 leaves those from k on free
-pub all-drop-set : (k : ℕ) (bs : List ℕ) (i : ℕ) → allUpTo 0 (drop k bs) ≡ true → allUpTo 0 (drop k (set bs i 0)) ≡ true
+pub all-drop-set : (k : ℕ) (bs : List ℕ) (i : ℕ) → all_up_to 0 (drop k bs) ≡ true → all_up_to 0 (drop k (set bs i 0)) ≡ true
 all-drop-set k bs i e =
     by_cases (ltb i k)
     (λ t. let h : i < k = omega tests in rw (drop-set-lt k bs i 0 h) e)
     (λ t. let h : i ≡ k + (i - k) = omega tests in rw (h, drop-set-add k bs (i - k) 0) (all_set 0 (drop k bs) (i - k) 0 refl e))
 
-pub all_drop : (n k : ℕ) (bs : List ℕ) → allUpTo n bs ≡ true → allUpTo n (drop k bs) ≡ true
-unfolding allUpTo
+pub all_drop : (n k : ℕ) (bs : List ℕ) → all_up_to n bs ≡ true → all_up_to n (drop k bs) ≡ true
+unfolding all_up_to
 all_drop n zero bs e = e
 all_drop n (suc k) [] e = e
 all_drop n (suc k) (b ∷ bs) e = all_drop n k bs (both _ _ e).1
 
 -- no more of each, so within the same limits
-pub limits-set : (gets sets : ℕ) (bs : List ℕ) (i : ℕ) → withinLimits gets sets bs ≡ true → withinLimits gets sets (set bs i 0) ≡ true
-unfolding withinLimits
+pub limits-set : (gets sets : ℕ) (bs : List ℕ) (i : ℕ) → within_limits gets sets bs ≡ true → within_limits gets sets (set bs i 0) ≡ true
+unfolding within_limits
 limits-set gets sets bs i e =
     let p = both _ _ e in
     and_i _ _
@@ -59,12 +59,12 @@ limits-set gets sets bs i e =
     (le-leb _ sets (omega (arith, count_set 2 bs i 0 (omega arith), leb-true _ sets p.1)))
 
 -- no object is live
-pub none-live : allUpTo 0 (replicate objectsSize 0) ≡ true
-unfolding allUpTo ◌and◌
+pub none-live : all_up_to 0 (replicate objects_size 0) ≡ true
+unfolding all_up_to ◌and◌
 none-live = refl
 
-pub none-counted : (gets sets : ℕ) → withinLimits gets sets (replicate objectsSize 0) ≡ true
-unfolding withinLimits count indicator
+pub none-counted : (gets sets : ℕ) → within_limits gets sets (replicate objects_size 0) ≡ true
+unfolding within_limits count indicator
 none-counted gets sets = and_i _ _ (le-leb 0 gets (omega arith)) (le-leb 0 sets (omega arith))
 
 -- ---- a loop that counts ----
@@ -98,8 +98,8 @@ half-indicator (suc zero) h = refl
 half-indicator (suc (suc zero)) h = refl
 half-indicator (suc (suc (suc b))) h = omega arith
 
-pub all-at : (n : ℕ) (bs : List ℕ) (i : ℕ) → allUpTo n bs ≡ true → get_or bs i 0 ≤ n
-unfolding allUpTo
+pub all-at : (n : ℕ) (bs : List ℕ) (i : ℕ) → all_up_to n bs ≡ true → get_or bs i 0 ≤ n
+unfolding all_up_to
 all-at n [] i e = omega arith
 all-at n (b ∷ bs) zero e = leb-true b n (both _ _ e).0
 all-at n (b ∷ bs) (suc i) e = all-at n bs i (both _ _ e).1
@@ -110,31 +110,31 @@ adds-at-most-one t h e = rw e (indicator-le t)
 -- ---- loops that test each byte ----
 
 -- all is what was found of those before i
-module _ (n : ℕ) (bs : List ℕ) (i : ℕ) (all : Bool) (e : allUpTo n bs ≡ all and allUpTo n (drop i bs)) where
-  pub up-to-on : (x : Bool) → x ≡ all and leb (get_or bs i 0) n → i < length bs → allUpTo n bs ≡ x and allUpTo n (drop (i + 1) bs)
-  unfolding allUpTo
+module _ (n : ℕ) (bs : List ℕ) (i : ℕ) (all : Bool) (e : all_up_to n bs ≡ all and all_up_to n (drop i bs)) where
+  pub up-to-on : (x : Bool) → x ≡ all and leb (get_or bs i 0) n → i < length bs → all_up_to n bs ≡ x and all_up_to n (drop (i + 1) bs)
+  unfolding all_up_to
   up-to-on x q a = e ∙ rw (drop-cons bs i 0 a, add-one i, q, and_assoc)
 
-  pub up-to-end : length bs ≤ i → all ≡ allUpTo n bs
-  unfolding allUpTo
+  pub up-to-end : length bs ≤ i → all ≡ all_up_to n bs
+  unfolding all_up_to
   up-to-end a = sym (e ∙ rw (drop_of_length-le bs a) (and-true all))
 
 module _ (ns bs : List ℕ) (k : ℕ) (l : length ns ≡ k) (m : length bs ≡ k) (i : ℕ) (all : Bool)
-    (e : allWithin ns bs ≡ all and allWithin (drop i ns) (drop i bs)) where
+    (e : all_within ns bs ≡ all and all_within (drop i ns) (drop i bs)) where
   pub within_on : (x : Bool) → x ≡ all and leb (get_or bs i 0) (get_or ns i 0) → i < k
-      → allWithin ns bs ≡ x and allWithin (drop (i + 1) ns) (drop (i + 1) bs)
-  unfolding allWithin
+      → all_within ns bs ≡ x and all_within (drop (i + 1) ns) (drop (i + 1) bs)
+  unfolding all_within
   within_on x q a = e ∙ rw (drop-cons ns i 0 (omega arith), drop-cons bs i 0 (omega arith), add-one i, q, and_assoc)
 
-  pub within_end : k ≤ i → all ≡ allWithin ns bs
-  unfolding allWithin
+  pub within_end : k ≤ i → all ≡ all_within ns bs
+  unfolding all_within
   within_end a = let h : length ns ≤ i = omega arith in sym (e ∙ rw (drop_of_length-le ns h) (and-true all))
 
 -- ---- both tests at once ----
 
 -- a byte that is 0 is at most 2 too
-all-free : (bs : List ℕ) → allWithin (replicate (length bs) 0) bs ≡ allUpTo 2 bs and allUpTo 0 bs
-unfolding allWithin allUpTo
+all-free : (bs : List ℕ) → all_within (replicate (length bs) 0) bs ≡ all_up_to 2 bs and all_up_to 0 bs
+unfolding all_within all_up_to
 all-free [] = sym (true-and true)
 all-free (b ∷ bs) =
     by_cases (leb b 0)
@@ -142,20 +142,20 @@ all-free (b ∷ bs) =
     (λ t. rw (t, false-and, false-and) (sym (and-false _)))
 
 within-most : (ids n : ℕ) (bs : List ℕ) → length bs ≡ ids + n
-    → allWithin (replicate ids 2 ++ replicate n 0) bs ≡ allUpTo 2 bs and allUpTo 0 (drop ids bs)
-unfolding allWithin allUpTo
+    → all_within (replicate ids 2 ++ replicate n 0) bs ≡ all_up_to 2 bs and all_up_to 0 (drop ids bs)
+unfolding all_within all_up_to
 within-most zero n bs h = let e : n ≡ length bs = omega arith in rw e (all-free bs)
 within-most (suc ids) n [] h = absurd (omega arith)
 within-most (suc ids) n (b ∷ bs) h = rw (within-most ids n bs (omega arith)) (sym (and_assoc _ _ _))
 
-module _ (ids : ℕ) (most : List ℕ) (h : ids ≤ objectsSize) (e : most ≡ most_of ids) where
-  pub length_most : length most ≡ objectsSize
+module _ (ids : ℕ) (most : List ℕ) (h : ids ≤ objects_size) (e : most ≡ most_of ids) where
+  pub length_most : length most ≡ objects_size
   unfolding most_of
   length_most = rw (e, length-append, length-replicate, length-replicate) (omega arith)
 
-  pub both-tests : (bs : List ℕ) → length bs ≡ objectsSize → allWithin most bs ≡ allUpTo 2 bs and allUpTo 0 (drop ids bs)
+  pub both-tests : (bs : List ℕ) → length bs ≡ objects_size → all_within most bs ≡ all_up_to 2 bs and all_up_to 0 (drop ids bs)
   unfolding most_of
-  both-tests bs n = rw e (within-most ids (objectsSize - ids) bs (omega arith))
+  both-tests bs n = rw e (within-most ids (objects_size - ids) bs (omega arith))
 
 -- a window of the table is that for so many ids
 window : (k ids x y : ℕ) → take (ids + k) (drop k (replicate (k + ids) x ++ replicate (k + ids) y)) ≡ replicate ids x ++ replicate k y
@@ -164,10 +164,10 @@ window k ids x y =
     let t = take-append-add (replicate ids x) (replicate (k + ids) y) k in
     rw (drop-append-le k (replicate (k + ids) x) (replicate (k + ids) y) l, drop-replicate) (rw (length-replicate, take-replicate k (k + ids) y (omega arith)) at t)
 
-pub most-window : (ids at : ℕ) → ids ≤ objectsSize → at ≡ objectsSize - ids
-    → bytes_at at objectsSize (replicate objectsSize 2 ++ replicate objectsSize 0) ≡ most_of ids
+pub most-window : (ids at : ℕ) → ids ≤ objects_size → at ≡ objects_size - ids
+    → bytes_at at objects_size (replicate objects_size 2 ++ replicate objects_size 0) ≡ most_of ids
 unfolding most_of
 most-window ids at h e =
-    let k : at + ids ≡ objectsSize = omega arith in
-    let l : ids + at ≡ objectsSize = omega arith in
+    let k : at + ids ≡ objects_size = omega arith in
+    let l : ids + at ≡ objects_size = omega arith in
     rw (← e) (rw (k, l) at (window at ids 2 0))

@@ -13,54 +13,54 @@ use Rattle.objects.specs.declared.Slot.{Slot}
 use Rattle.objects.specs.declared.Slot.TheVariants.{Free, Get, Set}
 use Rattle.objects.specs.declared.ObjectRecord.{ObjectRecord}
 use Rattle.objects.specs.declared.Found.TheVariants.{Live}
-use Rattle.objects.specs.Objects.{slot_of, slotByte, objectOf, objectByte, foundIn, allUpTo}
+use Rattle.objects.specs.Objects.{slot_of, slot_byte, object_of, object_byte, found_in, all_up_to}
 
-pub object-other : (b : ℕ) → (b ≡ 0 → ⊥) → (b ≡ 1 → ⊥) → record { slot = Set } ≡ objectOf b
+pub object-other : (b : ℕ) → (b ≡ 0 → ⊥) → (b ≡ 1 → ⊥) → record { slot = Set } ≡ object_of b
 object-other zero n m = absurd (n refl)
 object-other (suc zero) n m = absurd (m refl)
 object-other (suc (suc b)) n m = refl
 
-pub found-other : (b : ℕ) → (b ≡ 0 → ⊥) → (b ≡ 1 → ⊥) → Live kind.Set ≡ foundIn (slot_of b)
-found-other b n m = ap (λ (o : ObjectRecord). foundIn o.slot) (object-other b n m)
+pub found-other : (b : ℕ) → (b ≡ 0 → ⊥) → (b ≡ 1 → ⊥) → Live kind.Set ≡ found_in (slot_of b)
+found-other b n m = ap (λ (o : ObjectRecord). found_in o.slot) (object-other b n m)
 
-pub found_get : (s : Slot) → s ≡ Get → Live kind.Get ≡ foundIn s
+pub found_get : (s : Slot) → s ≡ Get → Live kind.Get ≡ found_in s
 found_get s e = rw e
 
-pub found-set : (s : Slot) → s ≡ Set → Live kind.Set ≡ foundIn s
+pub found-set : (s : Slot) → s ≡ Set → Live kind.Set ≡ found_in s
 found-set s e = rw e
 
 -- ---- bytes and objects ----
 
-slot-back : (s : Slot) → slot_of (slotByte s) ≡ s
+slot-back : (s : Slot) → slot_of (slot_byte s) ≡ s
 slot-back Free = refl
 slot-back Get = refl
 slot-back Set = refl
 
-pub objects-back : (os : List ObjectRecord) → map objectOf (map objectByte os) ≡ os
+pub objects-back : (os : List ObjectRecord) → map object_of (map object_byte os) ≡ os
 objects-back [] = refl
 objects-back (o ∷ os) = rw (slot-back o.slot, objects-back os)
 
-byte-of-slot : (b : ℕ) → b ≤ 2 → slotByte (slot_of b) ≡ b
+byte-of-slot : (b : ℕ) → b ≤ 2 → slot_byte (slot_of b) ≡ b
 byte-of-slot zero h = refl
 byte-of-slot (suc zero) h = refl
 byte-of-slot (suc (suc b)) h = omega arith
 
-pub bytes-of-objects : (bs : List ℕ) → allUpTo 2 bs ≡ true → map objectByte (map objectOf bs) ≡ bs
-unfolding allUpTo
+pub bytes-of-objects : (bs : List ℕ) → all_up_to 2 bs ≡ true → map object_byte (map object_of bs) ≡ bs
+unfolding all_up_to
 bytes-of-objects [] e = refl
 bytes-of-objects (b ∷ bs) e =
     let p = both _ _ e in
     rw (byte-of-slot b (leb-true b 2 p.0), bytes-of-objects bs p.1)
 
-slot-low : (s : Slot) → leb (slotByte s) 2 ≡ true
+slot-low : (s : Slot) → leb (slot_byte s) 2 ≡ true
 slot-low Free = refl
 slot-low Get = refl
 slot-low Set = refl
 
-pub objects-low : (os : List ObjectRecord) → allUpTo 2 (map objectByte os) ≡ true
-unfolding allUpTo
+pub objects-low : (os : List ObjectRecord) → all_up_to 2 (map object_byte os) ≡ true
+unfolding all_up_to
 objects-low [] = refl
 objects-low (o ∷ os) = and_i _ _ (slot-low o.slot) (objects-low os)
 
-pub bytes_low : (os : List ObjectRecord) (bs : List ℕ) → bs ≡ map objectByte os → allUpTo 2 bs ≡ true
+pub bytes_low : (os : List ObjectRecord) (bs : List ℕ) → bs ≡ map object_byte os → all_up_to 2 bs ≡ true
 bytes_low os bs e = rw e (objects-low os)

@@ -1,7 +1,7 @@
 // Resource objects, SPEC 4.3, one record and one byte for each id: what they stand for, how many there are, and one cleared.
 ghost use Rattle.std.specs.Prelude.{◌≡◌, true, map, ◌+◌, ◌≤◌, ◌<◌, leb, eqb, length, drop, set};
 ghost use Rattle.theory.specs.Logic.{◌and◌, indicator};
-ghost use Rattle.objects.specs.Objects.{objectsSize, slot_of, objectOf, objectByte, free, slotFor, foundIn, count, allUpTo, allWithin, most_of, withinLimits};
+ghost use Rattle.objects.specs.Objects.{objects_size, slot_of, object_of, object_byte, free, slot_for, found_in, count, all_up_to, all_within, most_of, within_limits};
 
 use protocol::ObjectKind;
 
@@ -36,7 +36,7 @@ pub enum Found {
 // ---- a byte and what it stands for ----
 
 fn object_in(b: u8) -> ObjectRecord
-    ensures { result ≡ objectOf b }
+    ensures { result ≡ object_of b }
 {
     match b {
         0 => ObjectRecord { slot: Slot::Free },
@@ -47,7 +47,7 @@ fn object_in(b: u8) -> ObjectRecord
 
 // The object that it stands for: found with no record in between, which the compiler would not leave out.
 pub fn found_at(b: u8) -> Found
-    ensures { result ≡ foundIn (slot_of b) }
+    ensures { result ≡ found_in (slot_of b) }
 {
     match b {
         0 => Found::Nothing,
@@ -57,7 +57,7 @@ pub fn found_at(b: u8) -> Found
 }
 
 fn object_byte(o: ObjectRecord) -> u8
-    ensures { result ≡ objectByte o }
+    ensures { result ≡ object_byte o }
 {
     let slot = o.slot;
     match slot {
@@ -68,7 +68,7 @@ fn object_byte(o: ObjectRecord) -> u8
 }
 
 pub fn objects_in(bytes: [u8; IDS]) -> [ObjectRecord; IDS]
-    ensures { result ≡ map objectOf bytes }
+    ensures { result ≡ map object_of bytes }
 {
     let mut objects = [ObjectRecord { slot: Slot::Free }; IDS];
     let mut i = 0;
@@ -81,7 +81,7 @@ pub fn objects_in(bytes: [u8; IDS]) -> [ObjectRecord; IDS]
 }
 
 pub fn object_bytes(objects: [ObjectRecord; IDS]) -> [u8; IDS]
-    ensures { result ≡ map objectByte objects }
+    ensures { result ≡ map object_byte objects }
 {
     let mut bytes = [0u8; IDS];
     let mut i = 0;
@@ -105,7 +105,7 @@ fn indicator_of(b: u8, v: u8) -> u8
 }
 
 fn count_of(v: u8, bytes: &[u8]) -> u8
-    requires { (length bytes.now ≡ objectsSize) × (allUpTo 2 bytes.now ≡ true) × (1 ≤ v) × (v ≤ 2) }
+    requires { (length bytes.now ≡ objects_size) × (all_up_to 2 bytes.now ≡ true) × (1 ≤ v) × (v ≤ 2) }
     ensures { result ≡ count v bytes.now }
 {
     let mut n: u8 = 0;
@@ -118,8 +118,8 @@ fn count_of(v: u8, bytes: &[u8]) -> u8
 }
 
 pub fn is_within_limits(bytes: &[u8], gets: u8, sets: u8) -> bool
-    requires { (length bytes.now ≡ objectsSize) × (allUpTo 2 bytes.now ≡ true) }
-    ensures { result ≡ withinLimits gets sets bytes.now }
+    requires { (length bytes.now ≡ objects_size) × (all_up_to 2 bytes.now ≡ true) }
+    ensures { result ≡ within_limits gets sets bytes.now }
 {
     if gets < count_of(1, bytes) {
         return false;
@@ -135,7 +135,7 @@ fn still_up_to(all: bool, b: u8, n: u8) -> bool
 
 // Whether each byte is at most n: every one is looked at, the loop has no early exit.
 pub fn are_up_to(n: u8, bytes: &[u8]) -> bool
-    ensures { result ≡ allUpTo n bytes.now }
+    ensures { result ≡ all_up_to n bytes.now }
 {
     let mut all = true;
     let mut i = 0;
@@ -148,8 +148,8 @@ pub fn are_up_to(n: u8, bytes: &[u8]) -> bool
 
 // Whether each byte is at most the number beside it: of a part of MOST, which is the same for all members.
 pub fn are_within(most: &[u8], bytes: &[u8]) -> bool
-    requires { (length most.now ≡ objectsSize) × (length bytes.now ≡ objectsSize) }
-    ensures { result ≡ allWithin most.now bytes.now }
+    requires { (length most.now ≡ objects_size) × (length bytes.now ≡ objects_size) }
+    ensures { result ≡ all_within most.now bytes.now }
 {
     let mut all = true;
     let mut i = 0;
@@ -163,7 +163,7 @@ pub fn are_within(most: &[u8], bytes: &[u8]) -> bool
 // ---- slots ----
 
 pub fn slot_for(kind: ObjectKind) -> Slot
-    ensures { result ≡ slotFor kind }
+    ensures { result ≡ slot_for kind }
 {
     match kind {
         ObjectKind::Get => Slot::Get,
@@ -172,7 +172,7 @@ pub fn slot_for(kind: ObjectKind) -> Slot
 }
 
 pub fn found_in(slot: Slot) -> Found
-    ensures { result ≡ foundIn slot }
+    ensures { result ≡ found_in slot }
 {
     match slot {
         Slot::Free => Found::Nothing,

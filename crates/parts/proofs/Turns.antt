@@ -17,32 +17,32 @@ use Rattle.theory.proofs.Tests.{true-or, false-or}
 use Rattle.parts.specs.declared.ListForm.{ListForm}
 use Rattle.parts.specs.declared.Step.{Step}
 use Rattle.parts.specs.declared.Step.TheVariants as step
-use Rattle.parts.specs.List.{stepAt, PartList, end, cut, part, partIn, partsFrom, whole, among}
+use Rattle.parts.specs.List.{step_at, PartList, end, cut, part, part_in, parts_from, whole, among}
 use Rattle.parts.proofs.Walk.{Within, step_part, parts-end, parts_cut, parts-part}
 
-module _ (form : ListForm) (l : List ℕ) (at : ℕ) (r : Step) (here : r ≡ stepAt form l at) where
+module _ (form : ListForm) (l : List ℕ) (at : ℕ) (r : Step) (here : r ≡ step_at form l at) where
   -- ---- no part is found ----
 
-  pub whole-end : (x : Bool) → r ≡ step.End → x ≡ whole (partsFrom form l at) → x ≡ true
+  pub whole-end : (x : Bool) → r ≡ step.End → x ≡ whole (parts_from form l at) → x ≡ true
   unfolding whole
   whole-end x e h = h ∙ rw (parts-end form l at (sym here ∙ e))
 
-  pub whole-cut : (x : Bool) → r ≡ step.Cut → x ≡ whole (partsFrom form l at) → x ≡ false
+  pub whole-cut : (x : Bool) → r ≡ step.Cut → x ≡ whole (parts_from form l at) → x ≡ false
   unfolding whole
   whole-cut x e h = h ∙ rw (parts_cut form l at (sym here ∙ e))
 
   -- the walk treats the end and a part that is cut short alike
   module _ (none : OneOf (1 ∷ 2 ∷ []) (tag_of Rattle.parts.specs.contracts.Step.the_type r)) where
-    pub stopped : {A : Type 0} (ask : PartList → A) (a : A) → ask cut ≡ a → ask end ≡ a → ask (partsFrom form l at) ≡ a
+    pub stopped : {A : Type 0} (ask : PartList → A) (a : A) → ask cut ≡ a → ask end ≡ a → ask (parts_from form l at) ≡ a
     stopped ask a at_cut at-end = cases r none here
       where
-        cases : (r : Step) → OneOf (1 ∷ 2 ∷ []) (tag_of Rattle.parts.specs.contracts.Step.the_type r) → r ≡ stepAt form l at
-            → ask (partsFrom form l at) ≡ a
+        cases : (r : Step) → OneOf (1 ∷ 2 ∷ []) (tag_of Rattle.parts.specs.contracts.Step.the_type r) → r ≡ step_at form l at
+            → ask (parts_from form l at) ≡ a
         cases (step.Part t f s start len) k e = absurd (miss (1 ∷ 2 ∷ []) 0 tt k)
         cases step.Cut k e = ap ask (parts_cut form l at (sym e)) ∙ at_cut
         cases step.End k e = ap ask (parts-end form l at (sym e)) ∙ at-end
 
-    pub among-stop : (t s : ℕ) (x y : Bool) → x ≡ among t s (partsFrom form l at) or y → x ≡ y
+    pub among-stop : (t s : ℕ) (x y : Bool) → x ≡ among t s (parts_from form l at) or y → x ≡ y
     unfolding among
     among-stop t s x y e = e ∙ rw (stopped (among t s) false refl refl) (false-or y)
 
@@ -52,7 +52,7 @@ module _ (form : ListForm) (l : List ℕ) (at : ℕ) (r : Step) (here : r ≡ st
     within : Within l at start len
     within = step_part form l at (sym here ∙ found)
 
-    pub opened : partsFrom form l at ≡ part (partIn l t f s start len) (partsFrom form l (start + len))
+    pub opened : parts_from form l at ≡ part (part_in l t f s start len) (parts_from form l (start + len))
     opened = parts-part form l at (sym here ∙ found)
 
     -- it lies within the list, and after it less of the list is left
@@ -68,13 +68,13 @@ module _ (form : ListForm) (l : List ℕ) (at : ℕ) (r : Step) (here : r ≡ st
     pub found-less : length l - (start + len) < length l - at
     found-less = omega (arith, within.starts, within.ends)
 
-    pub whole-on : (x : Bool) → x ≡ whole (partsFrom form l at) → x ≡ whole (partsFrom form l (start + len))
+    pub whole-on : (x : Bool) → x ≡ whole (parts_from form l at) → x ≡ whole (parts_from form l (start + len))
     unfolding whole
     whole-on x e = rw opened at e
 
     -- b: it is the part that is looked for
-    module _ (u v : ℕ) (b x y : Bool) (e : x ≡ among u v (partsFrom form l at) or y) (named : b ≡ eqb t u and eqb s v) where
-      pub among-on : b ≡ false → x ≡ among u v (partsFrom form l (start + len)) or y
+    module _ (u v : ℕ) (b x y : Bool) (e : x ≡ among u v (parts_from form l at) or y) (named : b ≡ eqb t u and eqb s v) where
+      pub among-on : b ≡ false → x ≡ among u v (parts_from form l (start + len)) or y
       unfolding among
       among-on h = e ∙ rw (opened, ← named, h, false-or)
 

@@ -1,8 +1,8 @@
 // A list of parts, SPEC 5.4, and the walk over it.
 ghost use Rattle.std.specs.Prelude.{◌≡◌, ◌+◌, ◌≤◌, eqb, length};
 ghost use Rattle.theory.specs.Logic.{◌and◌};
-ghost use Rattle.inventory.specs.Header.{headerSize};
-ghost use Rattle.parts.specs.List.{valueSize, stepAt, parts_of, whole, among};
+ghost use Rattle.inventory.specs.Header.{header_size};
+ghost use Rattle.parts.specs.List.{value_size, step_at, parts_of, whole, among};
 
 use inventory::{FLAGS_AT, HEADER_SIZE, LENGTH_AT, SELECTOR_AT};
 
@@ -32,8 +32,8 @@ pub enum Step {
 
 // The bytes of the value that follows a header.
 fn value_size(form: ListForm, list: &[u8], at: usize) -> usize
-    requires { at + headerSize ≤ length list.now }
-    ensures { result ≡ valueSize form list.now at }
+    requires { at + header_size ≤ length list.now }
+    ensures { result ≡ value_size form list.now at }
 {
     match form {
         ListForm::Parts => wire::read_u32(list, at + LENGTH_AT) as usize,
@@ -43,7 +43,7 @@ fn value_size(form: ListForm, list: &[u8], at: usize) -> usize
 
 // What stands at a position. A length is compared with the bytes left, so that no sum can overflow.
 fn step_at(form: ListForm, list: &[u8], at: usize) -> Step
-    ensures { result ≡ stepAt form list.now at }
+    ensures { result ≡ step_at form list.now at }
 {
     if list.len() <= at {
         return Step::End;
@@ -93,7 +93,7 @@ impl<'a> PartReader<'a> {
 
     // What stands at the reader's position.
     fn next(self, form: ListForm) -> Step
-        ensures { result ≡ stepAt form self.entry.list.now self.entry.at }
+        ensures { result ≡ step_at form self.entry.list.now self.entry.at }
     {
         step_at(form, self.list, self.at)
     }
@@ -101,7 +101,7 @@ impl<'a> PartReader<'a> {
 
 // What stands at a position, through a reader.
 pub fn next_part(form: ListForm, list: &[u8], at: usize) -> Step
-    ensures { result ≡ stepAt form list.now at }
+    ensures { result ≡ step_at form list.now at }
 {
     PartReader::new(list).moved(at).next(form)
 }

@@ -13,7 +13,7 @@ use Rattle.theory.proofs.Table.{every}
 use Rattle.theory.proofs.Ladder.{or_left, or_right}
 use Rattle.theory.specs.Logic.{◌and◌}
 use Rattle.protocol.proofs.Rows.{by_rows, supported-is, supported-out}
-use Rattle.protocol.specs.Opcodes.{opcodeRows, bit, supported, namesMember, supportedOnly, supportedMask, freshMask}
+use Rattle.protocol.specs.Opcodes.{opcode_rows, bit, supported, names_member, supported_only, supported_mask, fresh_mask}
 
 -- a number below 2 ^ n has no bit from n up
 pub bit-out : (n mask k : ℕ) → mask < 2 ^ n → n ≤ k → bit mask k ≡ false
@@ -53,14 +53,14 @@ no_bits : (x : ℕ) → ((i : ℕ) → bit x i ≡ false) → x ≡ 0
 no_bits x f = sym (mod-eq_of_lt (under_pow x)) ∙ low_clear x x (λ i h. f i)
 
 -- the mask of the list query has the bit of each supported opcode and no other
-pub supported-mask : (op : ℕ) → bit supportedMask op ≡ supported op
-unfolding every ◌and◌ opcodeRows bit
-supported-mask op = sym (by_rows (bit supportedMask) refl (λ k h. bit-out 18 supportedMask k (lit< tt) h) op)
+pub supported-mask : (op : ℕ) → bit supported_mask op ≡ supported op
+unfolding every ◌and◌ opcode_rows bit
+supported-mask op = sym (by_rows (bit supported_mask) refl (λ k h. bit-out 18 supported_mask k (lit< tt) h) op)
 
 -- a mask has supported bits only exactly where each of its bits stands for a supported opcode
 module _ (mask : ℕ) where
-  pub only-supported : supportedOnly mask ≡ true → (k : ℕ) → bit mask k ≡ true → supported k ≡ true
-  unfolding supportedOnly namesMember
+  pub only-supported : supported_only mask ≡ true → (k : ℕ) → bit mask k ≡ true → supported k ≡ true
+  unfolding supported_only names_member
   only-supported e k b =
       let p = both _ _ e in
       by_cases (ltb k 2) (λ s. supported-is k ∙ or_left _ _ s)
@@ -71,8 +71,8 @@ module _ (mask : ℕ) where
       (λ u. supported-is k ∙ or_right (ltb k 2) _ (inside 0x0a 0x11 k (omega tests) (omega tests)))
       (λ u. cc (bit-out 18 mask k (ltb-true _ _ p.1) (omega tests)))))
 
-  pub supported-only : ((k : ℕ) → bit mask k ≡ true → supported k ≡ true) → supportedOnly mask ≡ true
-  unfolding supportedOnly namesMember
+  pub supported-only : ((k : ℕ) → bit mask k ≡ true → supported k ≡ true) → supported_only mask ≡ true
+  unfolding supported_only names_member
   supported-only f =
       let clear : (k : ℕ) → supported k ≡ false → bit mask k ≡ false =
       λ k s. by_cases (bit mask k) (λ b. cc (f k b)) (λ b. b) in
@@ -83,10 +83,10 @@ module _ (mask : ℕ) where
       (λ i. shifted 18 mask i ∙ clear (18 + i) (sym (supported-out (18 + i) (omega arith)))) in
       and_i _ _ (eq-eqb _ _ low) (lt-ltb mask (2 ^ 18) (omega arith))
 
-pub mask_fits : (mask : ℕ) → supportedOnly mask ≡ true → mask < 256 ^ 8
-unfolding supportedOnly
+pub mask_fits : (mask : ℕ) → supported_only mask ≡ true → mask < 256 ^ 8
+unfolding supported_only
 mask_fits mask e = let l = (both _ _ e).1 in omega tests
 
-pub fresh-only : supportedOnly freshMask ≡ true
-unfolding supportedOnly ◌and◌
+pub fresh-only : supported_only fresh_mask ≡ true
+unfolding supported_only ◌and◌
 fresh-only = refl

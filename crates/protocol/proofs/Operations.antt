@@ -9,17 +9,17 @@ use Rattle.protocol.specs.declared.ObjectKind.{ObjectKind}
 use Rattle.protocol.specs.declared.ObjectKind.TheVariants.{Get, Set}
 use Rattle.protocol.specs.declared.ChangeOp.{ChangeOp}
 use Rattle.protocol.specs.declared.ChangeOp.TheVariants.{Create, Modify, Destroy, SetParts, SetMode}
-use Rattle.protocol.specs.Answers.{mode_of, isStopped, isGet, is_set}
+use Rattle.protocol.specs.Answers.{mode_of, is_stopped, is_get, is_set}
 
 pub mode-stopped : (b : ℕ) → (b ≡ 0 → ⊥) → Stopped ≡ mode_of b
 mode-stopped zero n = absurd (n refl)
 mode-stopped (suc b) n = refl
 
 -- a kind or a mode that is known, in the test of it
-pub kind-get : (k : ObjectKind) → k ≡ Get → isGet k ≡ true
+pub kind-get : (k : ObjectKind) → k ≡ Get → is_get k ≡ true
 kind-get k e = rw e
 
-pub kind-not-get : (k : ObjectKind) → k ≡ Set → isGet k ≡ false
+pub kind-not-get : (k : ObjectKind) → k ≡ Set → is_get k ≡ false
 kind-not-get k e = rw e
 
 pub kind-set : (k : ObjectKind) → k ≡ Set → is_set k ≡ true
@@ -28,10 +28,10 @@ kind-set k e = rw e
 pub kind-not-set : (k : ObjectKind) → k ≡ Get → is_set k ≡ false
 kind-not-set k e = rw e
 
-pub mode-stops : (m : Mode) → m ≡ Stopped → isStopped m ≡ true
+pub mode-stops : (m : Mode) → m ≡ Stopped → is_stopped m ≡ true
 mode-stops m e = rw e
 
-pub mode-runs : (m : Mode) → m ≡ Running → isStopped m ≡ false
+pub mode-runs : (m : Mode) → m ≡ Running → is_stopped m ≡ false
 mode-runs m e = rw e
 
 -- the id that it names, if any, is below ids

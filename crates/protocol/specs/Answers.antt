@@ -10,71 +10,71 @@ use Rattle.protocol.specs.declared.Mode.TheVariants as mode
 use Rattle.protocol.specs.declared.ObjectKind.{ObjectKind}
 use Rattle.protocol.specs.declared.ObjectKind.TheVariants.{Get, Set}
 
-abbrev pub statusOf : Answer → ℕ
-statusOf Done = 0
-statusOf BadLength = 22
-statusOf BadGroup = 22
-statusOf BadOpcode = 22
-statusOf NoMember = 22
-statusOf Marked = 11
-statusOf BadField = 22
-statusOf Exists = 17
-statusOf NotLive = 6
-statusOf NoRoom = 28
-statusOf WrongKind = 22
-statusOf Running = 11
-statusOf BadList = 22
-statusOf ShortReply = 12
+abbrev pub status_of : Answer → ℕ
+status_of Done = 0
+status_of BadLength = 22
+status_of BadGroup = 22
+status_of BadOpcode = 22
+status_of NoMember = 22
+status_of Marked = 11
+status_of BadField = 22
+status_of Exists = 17
+status_of NotLive = 6
+status_of NoRoom = 28
+status_of WrongKind = 22
+status_of Running = 11
+status_of BadList = 22
+status_of ShortReply = 12
 
-abbrev pub qualifierOf : Answer → ℕ
-qualifierOf Done = 0
-qualifierOf BadLength = 1
-qualifierOf BadGroup = 4
-qualifierOf BadOpcode = 2
-qualifierOf NoMember = 5
-qualifierOf Marked = 7
-qualifierOf BadField = 3
-qualifierOf Exists = 1
-qualifierOf NotLive = 1
-qualifierOf NoRoom = 1
-qualifierOf WrongKind = 3
-qualifierOf Running = 7
-qualifierOf BadList = 3
-qualifierOf ShortReply = 6
+abbrev pub qualifier_of : Answer → ℕ
+qualifier_of Done = 0
+qualifier_of BadLength = 1
+qualifier_of BadGroup = 4
+qualifier_of BadOpcode = 2
+qualifier_of NoMember = 5
+qualifier_of Marked = 7
+qualifier_of BadField = 3
+qualifier_of Exists = 1
+qualifier_of NotLive = 1
+qualifier_of NoRoom = 1
+qualifier_of WrongKind = 3
+qualifier_of Running = 7
+qualifier_of BadList = 3
+qualifier_of ShortReply = 6
 
 -- success is status 0
-abbrev pub isDone : Answer → Bool
-isDone a = eqb (statusOf a) 0
+abbrev pub is_done : Answer → Bool
+is_done a = eqb (status_of a) 0
 
 -- what setup and card events answer: SPEC 7.1
-abbrev pub eventNumber : EventAnswer → ℕ
-eventNumber event.Done = 0
-eventNumber event.NotSound = 9
-eventNumber event.NoMember = 1
-eventNumber event.NoPart = 2
-eventNumber event.WrongLength = 3
-eventNumber event.BadSetup = 4
-eventNumber event.BadQueueSize = 5
-eventNumber event.WrongMark = 6
+abbrev pub event_number : EventAnswer → ℕ
+event_number event.Done = 0
+event_number event.NotSound = 9
+event_number event.NoMember = 1
+event_number event.NoPart = 2
+event_number event.WrongLength = 3
+event_number event.BadSetup = 4
+event_number event.BadQueueSize = 5
+event_number event.WrongMark = 6
 
-abbrev pub isEventDone : EventAnswer → Bool
-isEventDone event.Done = true
-isEventDone event.NotSound = false
-isEventDone event.NoMember = false
-isEventDone event.NoPart = false
-isEventDone event.WrongLength = false
-isEventDone event.BadSetup = false
-isEventDone event.BadQueueSize = false
-isEventDone event.WrongMark = false
+abbrev pub is_event_done : EventAnswer → Bool
+is_event_done event.Done = true
+is_event_done event.NotSound = false
+is_event_done event.NoMember = false
+is_event_done event.NoPart = false
+is_event_done event.WrongLength = false
+is_event_done event.BadSetup = false
+is_event_done event.BadQueueSize = false
+is_event_done event.WrongMark = false
 
 -- tests of a member's mode and of an object's kind
-abbrev pub isStopped : Mode → Bool
-isStopped mode.Running = false
-isStopped mode.Stopped = true
+abbrev pub is_stopped : Mode → Bool
+is_stopped mode.Running = false
+is_stopped mode.Stopped = true
 
-abbrev pub isGet : ObjectKind → Bool
-isGet Get = true
-isGet Set = false
+abbrev pub is_get : ObjectKind → Bool
+is_get Get = true
+is_get Set = false
 
 abbrev pub is_set : ObjectKind → Bool
 is_set Get = false
@@ -86,6 +86,6 @@ mode_of zero = mode.Running
 mode_of (suc n) = mode.Stopped
 
 -- 0 get, 1 set
-abbrev pub kindNumber : ObjectKind → ℕ
-kindNumber Get = 0
-kindNumber Set = 1
+abbrev pub kind_number : ObjectKind → ℕ
+kind_number Get = 0
+kind_number Set = 1

@@ -12,16 +12,16 @@ pub record OpcodeRow : Type 0 where
 abbrev pub fields : ℕ → OpcodeRow
 fields n = record { served = true; fixed = n; listed = false }
 
-abbrev pub fieldsAndList : ℕ → OpcodeRow
-fieldsAndList n = record { served = true; fixed = n; listed = true }
+abbrev pub fields_and_list : ℕ → OpcodeRow
+fields_and_list n = record { served = true; fixed = n; listed = true }
 
 abbrev pub unsupported : OpcodeRow
 unsupported = record { served = false; fixed = 0; listed = false }
 
-unfoldable pub opcodeRows : List OpcodeRow
-opcodeRows =
+unfoldable pub opcode_rows : List OpcodeRow
+opcode_rows =
     fields 0  -- 0x00 list query
-    ∷ fieldsAndList 8  -- 0x01 list use; the list is further words of the mask
+    ∷ fields_and_list 8  -- 0x01 list use; the list is further words of the mask
     ∷ unsupported ∷ unsupported ∷ unsupported ∷ unsupported
     ∷ unsupported ∷ unsupported ∷ unsupported ∷ unsupported
     ∷ fields 24  -- 0x0a object create
@@ -29,41 +29,41 @@ opcodeRows =
     ∷ fields 16  -- 0x0c object query
     ∷ fields 8  -- 0x0d object destroy
     ∷ fields 16  -- 0x0e parts metadata
-    ∷ fieldsAndList 16  -- 0x0f parts get; headers
-    ∷ fieldsAndList 8  -- 0x10 parts set; parts
+    ∷ fields_and_list 16  -- 0x0f parts get; headers
+    ∷ fields_and_list 8  -- 0x10 parts set; parts
     ∷ fields 1  -- 0x11 mode set
     ∷ []
 
-unfoldable pub opcodeRow : ℕ → OpcodeRow
-opcodeRow op = get_or opcodeRows op unsupported
+unfoldable pub opcode_row : ℕ → OpcodeRow
+opcode_row op = get_or opcode_rows op unsupported
 
 unfoldable pub supported : ℕ → Bool
-supported op = (opcodeRow op).served
+supported op = (opcode_row op).served
 
 -- the length of an opcode's fixed fields
-unfoldable pub fixedSize : ℕ → ℕ
-fixedSize op = (opcodeRow op).fixed
+unfoldable pub fixed_size : ℕ → ℕ
+fixed_size op = (opcode_row op).fixed
 
 -- no opcode has longer ones
-abbrev pub longestFixed : ℕ
-longestFixed = 24
+abbrev pub longest_fixed : ℕ
+longest_fixed = 24
 
 -- the commands that name a member: 0x0a to 0x11
-unfoldable pub namesMember : ℕ → Bool
-namesMember op = within 0x0a 0x11 op
+unfoldable pub names_member : ℕ → Bool
+names_member op = within 0x0a 0x11 op
 
 -- a list of opcodes is a mask; bit k stands for opcode k
 unfoldable pub bit : ℕ → ℕ → Bool
 bit mask k = eqb (mask / 2 ^ k % 2) 1
 
 -- the ten opcodes
-abbrev pub supportedMask : ℕ
-supportedMask = 0x3fc03
+abbrev pub supported_mask : ℕ
+supported_mask = 0x3fc03
 
 -- supported bits only: none from 2 to 9, none from 18 up
-unfoldable pub supportedOnly : ℕ → Bool
-supportedOnly mask = eqb (mask / 4 % 256) 0 and ltb mask (2 ^ 18)
+unfoldable pub supported_only : ℕ → Bool
+supported_only mask = eqb (mask / 4 % 256) 0 and ltb mask (2 ^ 18)
 
 -- commands 0x0 and 0x1: the list in use of a fresh card
-abbrev pub freshMask : ℕ
-freshMask = 3
+abbrev pub fresh_mask : ℕ
+fresh_mask = 3

@@ -1,8 +1,8 @@
 // The vocabulary of the group administration commands: answers and their numbers, opcodes, and what a request can
 // ask of a member.
 ghost use Rattle.std.specs.Prelude.{◌≡◌, true};
-ghost use Rattle.protocol.specs.Answers.{statusOf, qualifierOf, isDone, eventNumber, isEventDone, mode_of, kindNumber};
-ghost use Rattle.protocol.specs.Opcodes.{supported, fixedSize, namesMember, bit, supportedOnly};
+ghost use Rattle.protocol.specs.Answers.{status_of, qualifier_of, is_done, event_number, is_event_done, mode_of, kind_number};
+ghost use Rattle.protocol.specs.Opcodes.{supported, fixed_size, names_member, bit, supported_only};
 
 // The answer to a command: SPEC 6.1, with the numbers of SPEC 6.2.
 #[derive(Drop)]
@@ -88,7 +88,7 @@ pub enum Body {
 }
 
 pub fn status(a: Answer) -> u16
-    ensures { result ≡ statusOf a }
+    ensures { result ≡ status_of a }
 {
     match a {
         Answer::Done => 0,
@@ -109,7 +109,7 @@ pub fn status(a: Answer) -> u16
 }
 
 pub fn qualifier(a: Answer) -> u16
-    ensures { result ≡ qualifierOf a }
+    ensures { result ≡ qualifier_of a }
 {
     match a {
         Answer::Done => 0,
@@ -130,13 +130,13 @@ pub fn qualifier(a: Answer) -> u16
 }
 
 pub fn is_done(a: Answer) -> bool
-    ensures { result ≡ isDone a }
+    ensures { result ≡ is_done a }
 {
     status(a) == 0
 }
 
 pub fn event_number(a: EventAnswer) -> u8
-    ensures { result ≡ eventNumber a }
+    ensures { result ≡ event_number a }
 {
     match a {
         EventAnswer::Done => 0,
@@ -151,7 +151,7 @@ pub fn event_number(a: EventAnswer) -> u8
 }
 
 pub fn is_event_done(a: EventAnswer) -> bool
-    ensures { result ≡ isEventDone a }
+    ensures { result ≡ is_event_done a }
 {
     match a {
         EventAnswer::Done => true,
@@ -173,7 +173,7 @@ pub fn mode_of(b: u8) -> Mode
 }
 
 pub fn kind_number(kind: ObjectKind) -> u8
-    ensures { result ≡ kindNumber kind }
+    ensures { result ≡ kind_number kind }
 {
     match kind {
         ObjectKind::Get => 0,
@@ -204,14 +204,14 @@ pub fn supported(op: usize) -> bool
 // The compiler builds a table anew at each call; this one takes four instructions.
 pub fn fixed_size(op: usize) -> usize
     requires { supported op ≡ true }
-    ensures { result ≡ fixedSize op }
+    ensures { result ≡ fixed_size op }
 {
     FIXED[op] as usize
 }
 
 // The commands that name a member: 0x0a to 0x11.
 pub fn names_member(op: usize) -> bool
-    ensures { result ≡ namesMember op }
+    ensures { result ≡ names_member op }
 {
     if op < 0x0a {
         return false;
@@ -231,7 +231,7 @@ pub fn bit(mask: u64, k: usize) -> bool
 
 // No bit but 0, 1 and 10 to 17.
 pub fn supported_only(mask: u64) -> bool
-    ensures { result ≡ supportedOnly mask }
+    ensures { result ≡ supported_only mask }
 {
     if mask / 4 % 256 != 0 {
         return false;

@@ -7,44 +7,44 @@ use Rattle.protocol.specs.declared.Metadata.{Metadata}
 use Rattle.protocol.specs.declared.Metadata.TheVariants.{Size, Count, HeaderList}
 use Rattle.protocol.specs.declared.ReadOp.{ReadOp}
 use Rattle.protocol.specs.declared.ReadOp.TheVariants.{QueryObject, GetMetadata, GetSelected, GetAll}
-use Rattle.protocol.specs.Answers.{isGet}
-use Rattle.inventory.specs.Inventory.{part_count, partsSize}
+use Rattle.protocol.specs.Answers.{is_get}
+use Rattle.inventory.specs.Inventory.{part_count, parts_size}
 use Rattle.rules.specs.Rules.{asked_of}
-use Rattle.objects.specs.Objects.{onFound}
+use Rattle.objects.specs.Objects.{on_found}
 use Rattle.member.specs.declared.Member.{Member}
-use Rattle.member.specs.Objects.{lookupOf}
+use Rattle.member.specs.Objects.{lookup_of}
 use Rattle.protocol.specs.declared.Body.{Body}
 use Rattle.protocol.specs.declared.Body.TheVariants.{Nothing, Kind, Number, Headers, Selected, All}
 use Rattle.reads.specs.declared.Reading.{Reading}
 
-abbrev pub refuseRead : Answer → Reading
-refuseRead a = record { answer = a; body = Nothing }
+abbrev pub refuse_read : Answer → Reading
+refuse_read a = record { answer = a; body = Nothing }
 
-abbrev pub succeedRead : Body → Reading
-succeedRead b = record { answer = Done; body = b }
+abbrev pub succeed_read : Body → Reading
+succeed_read b = record { answer = Done; body = b }
 
-unfoldable pub queryOf : ℕ → Member → Reading
-queryOf id m = onFound (lookupOf m id) (λ k. succeedRead (Kind k)) (refuseRead NotLive)
+unfoldable pub query_of : ℕ → Member → Reading
+query_of id m = on_found (lookup_of m id) (λ k. succeed_read (Kind k)) (refuse_read NotLive)
 
-abbrev pub metadataOf : ℕ → Metadata → Body
-metadataOf queues Size = Number (partsSize queues)
-metadataOf queues Count = Number (part_count queues)
-metadataOf queues HeaderList = Headers
+abbrev pub metadata_of : ℕ → Metadata → Body
+metadata_of queues Size = Number (parts_size queues)
+metadata_of queues Count = Number (part_count queues)
+metadata_of queues HeaderList = Headers
 
 -- metadata and parts get need a live get object
-unfoldable pub throughGet : ℕ → Member → Reading → Reading
-throughGet id m rest =
-    onFound (lookupOf m id)
-    (λ k. unless isGet k answer refuseRead WrongKind then rest)
-    (refuseRead NotLive)
+unfoldable pub through_get : ℕ → Member → Reading → Reading
+through_get id m rest =
+    on_found (lookup_of m id)
+    (λ k. unless is_get k answer refuse_read WrongKind then rest)
+    (refuse_read NotLive)
 
 -- list holds the headers asked for
-unfoldable pub selectedOf : ℕ → List ℕ → Reading
-selectedOf queues list = unless asked_of queues list answer refuseRead BadList then succeedRead Selected
+unfoldable pub selected_of : ℕ → List ℕ → Reading
+selected_of queues list = unless asked_of queues list answer refuse_read BadList then succeed_read Selected
 
 -- by the member's own queue count (02, request 9)
 abbrev pub read_of : List ℕ → ReadOp → Member → Reading
-read_of list (QueryObject id) m = queryOf id m
-read_of list (GetMetadata id what) m = throughGet id m (succeedRead (metadataOf m.queues what))
-read_of list (GetSelected id) m = throughGet id m (selectedOf m.queues list)
-read_of list (GetAll id) m = throughGet id m (succeedRead All)
+read_of list (QueryObject id) m = query_of id m
+read_of list (GetMetadata id what) m = through_get id m (succeed_read (metadata_of m.queues what))
+read_of list (GetSelected id) m = through_get id m (selected_of m.queues list)
+read_of list (GetAll id) m = through_get id m (succeed_read All)

@@ -1,8 +1,8 @@
 // The commands that read a member, SPEC 4.6, 4.8 and 4.9: steps 8 to 10 of SPEC 6.1. They read its bytes where they stand
 // in the card.
 ghost use Rattle.std.specs.Prelude.{◌≡◌, length};
-ghost use Rattle.member.specs.Record.{memberSize, memberOf};
-ghost use Rattle.reads.specs.Reads.{refuseRead, succeedRead, queryOf, metadataOf, throughGet, selectedOf, read_of};
+ghost use Rattle.member.specs.Record.{member_size, member_of};
+ghost use Rattle.reads.specs.Reads.{refuse_read, succeed_read, query_of, metadata_of, through_get, selected_of, read_of};
 
 use objects::Found;
 use protocol::{Answer, Body, Metadata, ObjectKind, ReadOp};
@@ -15,7 +15,7 @@ pub struct Reading {
 }
 
 fn refuse_read(answer: Answer) -> Reading
-    ensures { result ≡ refuseRead answer }
+    ensures { result ≡ refuse_read answer }
 {
     Reading {
         answer,
@@ -24,7 +24,7 @@ fn refuse_read(answer: Answer) -> Reading
 }
 
 fn succeed_read(body: Body) -> Reading
-    ensures { result ≡ succeedRead body }
+    ensures { result ≡ succeed_read body }
 {
     Reading {
         answer: Answer::Done,
@@ -33,8 +33,8 @@ fn succeed_read(body: Body) -> Reading
 }
 
 fn query(bytes: &[u8], id: usize) -> Reading
-    requires { length bytes.now ≡ memberSize }
-    ensures { result ≡ queryOf id (memberOf bytes.now) }
+    requires { length bytes.now ≡ member_size }
+    ensures { result ≡ query_of id (member_of bytes.now) }
 {
     let Found::Live(kind) = member::lookup_in(bytes, id) else {
         return refuse_read(Answer::NotLive);
@@ -43,7 +43,7 @@ fn query(bytes: &[u8], id: usize) -> Reading
 }
 
 fn metadata(what: Metadata, queues: u8) -> Body
-    ensures { result ≡ metadataOf queues what }
+    ensures { result ≡ metadata_of queues what }
 {
     match what {
         Metadata::Size => Body::Number(inventory::parts_size(queues)),
@@ -53,8 +53,8 @@ fn metadata(what: Metadata, queues: u8) -> Body
 }
 
 fn get_metadata(bytes: &[u8], id: usize, what: Metadata, queues: u8) -> Reading
-    requires { length bytes.now ≡ memberSize }
-    ensures { result ≡ throughGet id (memberOf bytes.now) (succeedRead (metadataOf queues what)) }
+    requires { length bytes.now ≡ member_size }
+    ensures { result ≡ through_get id (member_of bytes.now) (succeed_read (metadata_of queues what)) }
 {
     let Found::Live(kind) = member::lookup_in(bytes, id) else {
         return refuse_read(Answer::NotLive);
@@ -67,8 +67,8 @@ fn get_metadata(bytes: &[u8], id: usize, what: Metadata, queues: u8) -> Reading
 }
 
 fn get_selected(bytes: &[u8], id: usize, queues: u8, list: &[u8]) -> Reading
-    requires { length bytes.now ≡ memberSize }
-    ensures { result ≡ throughGet id (memberOf bytes.now) (selectedOf queues list.now) }
+    requires { length bytes.now ≡ member_size }
+    ensures { result ≡ through_get id (member_of bytes.now) (selected_of queues list.now) }
 {
     let Found::Live(kind) = member::lookup_in(bytes, id) else {
         return refuse_read(Answer::NotLive);
@@ -83,8 +83,8 @@ fn get_selected(bytes: &[u8], id: usize, queues: u8, list: &[u8]) -> Reading
 }
 
 fn get_all(bytes: &[u8], id: usize) -> Reading
-    requires { length bytes.now ≡ memberSize }
-    ensures { result ≡ throughGet id (memberOf bytes.now) (succeedRead Body.All) }
+    requires { length bytes.now ≡ member_size }
+    ensures { result ≡ through_get id (member_of bytes.now) (succeed_read Body.All) }
 {
     let Found::Live(kind) = member::lookup_in(bytes, id) else {
         return refuse_read(Answer::NotLive);
@@ -97,8 +97,8 @@ fn get_all(bytes: &[u8], id: usize) -> Reading
 
 // A command that reads; list holds the headers asked for. The parts are those of the member's own queue count.
 pub fn read(bytes: &[u8], op: ReadOp, list: &[u8]) -> Reading
-    requires { length bytes.now ≡ memberSize }
-    ensures { result ≡ read_of list.now op (memberOf bytes.now) }
+    requires { length bytes.now ≡ member_size }
+    ensures { result ≡ read_of list.now op (member_of bytes.now) }
 {
     let queues = member::queues_of(bytes);
     match op {

@@ -17,108 +17,108 @@ use Rattle.theory.proofs.Lent.{length-tail}
 use Rattle.wire.specs.Le.{bytes}
 use Rattle.protocol.specs.declared.Answer.{Answer}
 use Rattle.protocol.specs.declared.Answer.TheVariants.{ShortReply}
-use Rattle.protocol.specs.Answers.{statusOf, qualifierOf, isDone}
+use Rattle.protocol.specs.Answers.{status_of, qualifier_of, is_done}
 use Rattle.protocol.specs.declared.Body.{Body}
 use Rattle.reply.specs.Result.{result_of}
-use Rattle.reply.specs.Reply.{headSize, head_of, finalOf, replyOf, replied, written}
+use Rattle.reply.specs.Reply.{head_size, head_of, final_of, reply_of, replied, written}
 
 pub head-long : (a : Answer) → length (head_of a) ≡ 8
 unfolding head_of bytes
 head-long a = refl
 
 -- three writes make the head
-pub head-written : (a : Answer) (s q : ℕ) (l l₁ l₂ l₃ : List ℕ) → s ≡ statusOf a → q ≡ qualifierOf a
+pub head-written : (a : Answer) (s q : ℕ) (l l₁ l₂ l₃ : List ℕ) → s ≡ status_of a → q ≡ qualifier_of a
     → l₁ ≡ put 0 (bytes 2 s) l → l₂ ≡ put 2 (bytes 2 q) l₁ → l₃ ≡ put 4 (bytes 4 0) l₂ → l₃ ≡ put 0 (head_of a) l
 unfolding head_of bytes
 head-written a s q l l₁ l₂ l₃ es eq e₁ e₂ e₃ =
-    let x = bytes 2 (statusOf a) in
-    let y = bytes 2 (qualifierOf a) in
+    let x = bytes 2 (status_of a) in
+    let y = bytes 2 (qualifier_of a) in
     rw (e₃, e₂, e₁, es, eq) (sym (put-append 0 x (y ++ replicate 4 0) l ∙ put-append 2 y (replicate 4 0) (put 0 x l)))
 
 -- ---- step 11 ----
 
 -- the code was told b of the answer
-module _ (a : Answer) (size room : ℕ) (b : Bool) (said : b ≡ isDone a) where
-  final-refused : not b ≡ true → finalOf a size room ≡ a
-  unfolding finalOf if◌then◌else◌
+module _ (a : Answer) (size room : ℕ) (b : Bool) (said : b ≡ is_done a) where
+  final-refused : not b ≡ true → final_of a size room ≡ a
+  unfolding final_of if◌then◌else◌
   final-refused n = rw (sym said ∙ not-true b n)
 
-  final-short : not b ≡ false → 8 ≤ room → room - 8 < size → finalOf a size room ≡ ShortReply
-  unfolding finalOf if◌then◌else◌ unless◌answer◌then◌
+  final-short : not b ≡ false → 8 ≤ room → room - 8 < size → final_of a size room ≡ ShortReply
+  unfolding final_of if◌then◌else◌ unless◌answer◌then◌
   final-short n h k = rw (sym said ∙ not-false b n, lt-leb (8 + size) room (omega arith))
 
-  final-fits : not b ≡ false → 8 ≤ room → size ≤ room - 8 → finalOf a size room ≡ a
-  unfolding finalOf if◌then◌else◌ unless◌answer◌then◌
+  final-fits : not b ≡ false → 8 ≤ room → size ≤ room - 8 → final_of a size room ≡ a
+  unfolding final_of if◌then◌else◌ unless◌answer◌then◌
   final-fits n h k = rw (sym said ∙ not-false b n, le-leb (8 + size) room (omega arith))
 
 -- a success in the end has room
-pub final-room : (a : Answer) (size room : ℕ) → isDone (finalOf a size room) ≡ true → 8 + size ≤ room
-unfolding finalOf if◌then◌else◌ unless◌answer◌then◌
+pub final-room : (a : Answer) (size room : ℕ) → is_done (final_of a size room) ≡ true → 8 + size ≤ room
+unfolding final_of if◌then◌else◌ unless◌answer◌then◌
 final-room a size room =
-    by_cases (isDone a)
+    by_cases (is_done a)
     (λ d. rw d (by_cases (leb (8 + size) room) (λ l. rw l (λ e. leb-true (8 + size) room l)) (λ l. rw l (λ e. never e))))
     (λ d. rw d (λ e. never (sym d ∙ e)))
 
 -- ---- what is written ----
 
 -- a refusal, and a success with no result, is the head alone
-pub reply-refused : (a : Answer) (x : List ℕ) → isDone a ≡ false → replyOf a x ≡ head_of a
-unfolding replyOf if◌then◌else◌
+pub reply-refused : (a : Answer) (x : List ℕ) → is_done a ≡ false → reply_of a x ≡ head_of a
+unfolding reply_of if◌then◌else◌
 reply-refused a x d = rw (d, append-nil)
 
-pub reply-empty : (a : Answer) → replyOf a [] ≡ head_of a
-unfolding replyOf if◌then◌else◌
-reply-empty a = by_cases (isDone a) (λ d. rw (d, append-nil)) (λ d. rw (d, append-nil))
+pub reply-empty : (a : Answer) → reply_of a [] ≡ head_of a
+unfolding reply_of if◌then◌else◌
+reply-empty a = by_cases (is_done a) (λ d. rw (d, append-nil)) (λ d. rw (d, append-nil))
 
-pub reply-done : (a : Answer) (x : List ℕ) → isDone a ≡ true → replyOf a x ≡ head_of a ++ x
-unfolding replyOf if◌then◌else◌
+pub reply-done : (a : Answer) (x : List ℕ) → is_done a ≡ true → reply_of a x ≡ head_of a ++ x
+unfolding reply_of if◌then◌else◌
 reply-done a x d = rw d
 
 -- x is the result, and the code was told b of the answer
-module _ (a : Answer) (x l : List ℕ) (b : Bool) (said : b ≡ isDone a) where
-  pub refused-written : (y : ℕ × List ℕ) → not b ≡ true → y ≡ written (replyOf a []) l → y ≡ written (replied a x (length l)) l
+module _ (a : Answer) (x l : List ℕ) (b : Bool) (said : b ≡ is_done a) where
+  pub refused-written : (y : ℕ × List ℕ) → not b ≡ true → y ≡ written (reply_of a []) l → y ≡ written (replied a x (length l)) l
   unfolding replied
   refused-written y n e =
       let d = sym said ∙ not-true b n in
       e ∙ rw (final-refused a (length x) (length l) b said n, reply-refused a x d, reply-refused a [] d)
 
-  module _ (n : not b ≡ false) (h : headSize ≤ length l) (size : ℕ) (sized : size ≡ length x) where
-    pub short-written : (y : ℕ × List ℕ) → length l - headSize < size → y ≡ written (replyOf ShortReply []) l → y ≡ written (replied a x (length l)) l
+  module _ (n : not b ≡ false) (h : head_size ≤ length l) (size : ℕ) (sized : size ≡ length x) where
+    pub short-written : (y : ℕ × List ℕ) → length l - head_size < size → y ≡ written (reply_of ShortReply []) l → y ≡ written (replied a x (length l)) l
     unfolding replied
     short-written y k e =
         e ∙ rw (← sized, final-short a size (length l) b said n h k, reply-refused ShortReply x refl, reply-refused ShortReply [] refl)
 
-    pub result-written : (l₁ l₂ : List ℕ) → size ≤ length l - headSize → l₁ ≡ put 0 (head_of a) l → l₂ ≡ put headSize x l₁
-        → (headSize + size, l₂) ≡ written (replied a x (length l)) l
+    pub result-written : (l₁ l₂ : List ℕ) → size ≤ length l - head_size → l₁ ≡ put 0 (head_of a) l → l₂ ≡ put head_size x l₁
+        → (head_size + size, l₂) ≡ written (replied a x (length l)) l
     unfolding replied written
     result-written l₁ l₂ k e₁ e₂ =
-        let p : put 0 (head_of a ++ x) l ≡ put headSize x (put 0 (head_of a) l) = put-append 0 (head_of a) x l ∙ rw (head-long a) in
+        let p : put 0 (head_of a ++ x) l ≡ put head_size x (put 0 (head_of a) l) = put-append 0 (head_of a) x l ∙ rw (head-long a) in
         rw (← sized, final-fits a size (length l) b said n h k, e₂, e₁, reply-done a x (sym said ∙ not-false b n), length-append, head-long a, p, sized)
 
 -- there is room for the result, in the buffer as the head left it and in the tail that is lent to the result's writer
-module _ (a : Answer) (l l' : List ℕ) (size : ℕ) (h : headSize ≤ length l) (k : size ≤ length l - headSize) (e : l' ≡ put 0 (head_of a) l) where
-  pub result_fits : 8 + size ≤ length l'
-  result_fits = rw (e, length-put) (omega arith)
+module _ (a : Answer) (l l' : List ℕ) (size : ℕ) (h : head_size ≤ length l) (k : size ≤ length l - head_size) (e : l' ≡ put 0 (head_of a) l) where
+  pub result-fits : 8 + size ≤ length l'
+  result-fits = rw (e, length-put) (omega arith)
 
   pub tail-fits : (q : ℕ) (list v : List ℕ) (body : Body) → size ≡ length (result_of q list v body)
       → length (result_of q list v body) ≤ length (take (length l' - 8) (drop 8 l'))
-  tail-fits q list v body s = let f = result_fits in rw (length-tail 8 l', ← s) (omega arith)
+  tail-fits q list v body s = let f = result-fits in rw (length-tail 8 l', ← s) (omega arith)
 
 -- and its length is a word
-pub reply-word : (room size : ℕ) → headSize ≤ room → size ≤ room - headSize → Fits w64 room → Fits w64 (headSize + size)
+pub reply-word : (room size : ℕ) → head_size ≤ room → size ≤ room - head_size → Fits w64 room → Fits w64 (head_size + size)
 reply-word room size h k f = omega arith
 
 -- a reply with no result, which always fits
-pub answer-only : (a : Answer) (l l' : List ℕ) → l' ≡ put 0 (head_of a) l → (headSize, l') ≡ written (replyOf a []) l
+pub answer-only : (a : Answer) (l l' : List ℕ) → l' ≡ put 0 (head_of a) l → (head_size, l') ≡ written (reply_of a []) l
 unfolding written
 answer-only a l l' e = rw (e, reply-empty a, head-long a)
 
-pub final-empty : (a : Answer) (room : ℕ) → headSize ≤ room → finalOf a 0 room ≡ a
-unfolding finalOf if◌then◌else◌ unless◌answer◌then◌
+pub final-empty : (a : Answer) (room : ℕ) → head_size ≤ room → final_of a 0 room ≡ a
+unfolding final_of if◌then◌else◌ unless◌answer◌then◌
 final-empty a room h =
-    let f : leb (headSize + 0) room ≡ true = le-leb headSize room h in
-    by_cases (isDone a) (λ d. rw (d, f)) (λ d. rw d)
+    let f : leb (head_size + 0) room ≡ true = le-leb head_size room h in
+    by_cases (is_done a) (λ d. rw (d, f)) (λ d. rw d)
 
-pub replied-empty : (a : Answer) (room : ℕ) → headSize ≤ room → replied a [] room ≡ replyOf a []
+pub replied-empty : (a : Answer) (room : ℕ) → head_size ≤ room → replied a [] room ≡ reply_of a []
 unfolding replied
 replied-empty a room h = rw (final-empty a room h)

@@ -5,29 +5,29 @@ use Rattle.theory.specs.Bytes.{put}
 use Rattle.wire.specs.Le.{bytes}
 use Rattle.protocol.specs.declared.Answer.{Answer}
 use Rattle.protocol.specs.declared.Answer.TheVariants.{ShortReply}
-use Rattle.protocol.specs.Answers.{statusOf, qualifierOf, isDone}
+use Rattle.protocol.specs.Answers.{status_of, qualifier_of, is_done}
 
 -- status 2 bytes, qualifier 2, four zero bytes
-abbrev pub headSize : ℕ
-headSize = 8
+abbrev pub head_size : ℕ
+head_size = 8
 
 unfoldable pub head_of : Answer → List ℕ
-head_of a = bytes 2 (statusOf a) ++ (bytes 2 (qualifierOf a) ++ replicate 4 0)
+head_of a = bytes 2 (status_of a) ++ (bytes 2 (qualifier_of a) ++ replicate 4 0)
 
 -- step 11: a success whose head and result do not fit the reply buffer is refused
-unfoldable pub finalOf : Answer → ℕ → ℕ → Answer
-finalOf a size room =
-    if isDone a then
-    (unless leb (headSize + size) room answer ShortReply then a) else
+unfoldable pub final_of : Answer → ℕ → ℕ → Answer
+final_of a size room =
+    if is_done a then
+    (unless leb (head_size + size) room answer ShortReply then a) else
     a
 
 -- a refusal's reply is the head alone
-unfoldable pub replyOf : Answer → List ℕ → List ℕ
-replyOf a result = head_of a ++ (if isDone a then result else [])
+unfoldable pub reply_of : Answer → List ℕ → List ℕ
+reply_of a result = head_of a ++ (if is_done a then result else [])
 
 -- steps 11 and 12: the reply to a command that comes to this answer and this result
 unfoldable pub replied : Answer → List ℕ → ℕ → List ℕ
-replied a result room = replyOf (finalOf a (length result) room) result
+replied a result room = reply_of (final_of a (length result) room) result
 
 -- a reply written to a buffer: how many bytes it has, and the buffer, whose other bytes keep their values
 unfoldable pub written : List ℕ → List ℕ → ℕ × List ℕ

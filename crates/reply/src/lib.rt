@@ -2,10 +2,10 @@
 ghost use Rattle.std.specs.Prelude.{◌≡◌, ℕ, ◌+◌, ◌≤◌, ◌<◌, List, [], ◌++◌, length};
 ghost use Rattle.theory.specs.Bytes.{put};
 ghost use Rattle.wire.specs.Le.{bytes};
-ghost use Rattle.inventory.specs.Inventory.{part_count, valuesSize};
-ghost use Rattle.capture.specs.Capture.{headersOf};
-ghost use Rattle.reply.specs.Result.{numberBytes, result_of};
-ghost use Rattle.reply.specs.Reply.{headSize, head_of, finalOf, replyOf, replied, written};
+ghost use Rattle.inventory.specs.Inventory.{part_count, values_size};
+ghost use Rattle.capture.specs.Capture.{headers_of};
+ghost use Rattle.reply.specs.Result.{number_bytes, result_of};
+ghost use Rattle.reply.specs.Reply.{head_size, head_of, final_of, reply_of, replied, written};
 
 use protocol::{Answer, Body};
 
@@ -22,7 +22,7 @@ const MASK_SIZE: usize = 8;
 const NUMBER_SIZE: usize = 8;
 
 fn write_head(a: Answer, out: &mut [u8])
-    requires { headSize ≤ length out.old }
+    requires { head_size ≤ length out.old }
     ensures { out.new ≡ put 0 (head_of a) out.old }
 {
     wire::write(out, 0, 2, protocol::status(a) as u64);
@@ -32,8 +32,8 @@ fn write_head(a: Answer, out: &mut [u8])
 
 // A reply with no result: the bytes written.
 pub fn write_answer(a: Answer, reply: &mut [u8]) -> usize
-    requires { headSize ≤ length reply.old }
-    ensures { (result, reply.new) ≡ written (replyOf a []) reply.old }
+    requires { head_size ≤ length reply.old }
+    ensures { (result, reply.new) ≡ written (reply_of a []) reply.old }
 {
     write_head(a, reply);
     HEAD_SIZE
@@ -41,7 +41,7 @@ pub fn write_answer(a: Answer, reply: &mut [u8]) -> usize
 
 // The reply to a list query: a mask of opcodes.
 pub fn write_mask(mask: u64, reply: &mut [u8]) -> usize
-    requires { headSize ≤ length reply.old }
+    requires { head_size ≤ length reply.old }
     ensures { (result, reply.new) ≡ written (replied Answer.Done (bytes 8 mask) (length reply.old)) reply.old }
 {
     if reply.len() - HEAD_SIZE < MASK_SIZE {
@@ -55,7 +55,7 @@ pub fn write_mask(mask: u64, reply: &mut [u8]) -> usize
 // The bytes of a result, whatever the values are.
 fn result_bytes(body: Body, queues: u8, list: &[u8]) -> usize
     requires { queues < 5 }
-    ensures { (values : List ℕ) → length values ≡ valuesSize → result ≡ length (result_of queues list.now values body) }
+    ensures { (values : List ℕ) → length values ≡ values_size → result ≡ length (result_of queues list.now values body) }
 {
     match body {
         Body::Nothing => 0,
@@ -70,7 +70,7 @@ fn result_bytes(body: Body, queues: u8, list: &[u8]) -> usize
 // A 4-byte number and 4 zero bytes, at the front of what is lent.
 fn write_number(out: &mut [u8], n: u32)
     requires { 8 ≤ length out.old }
-    ensures { out.new ≡ put 0 (numberBytes n) out.old }
+    ensures { out.new ≡ put 0 (number_bytes n) out.old }
 {
     wire::write(out, 0, 4, n as u64);
     wire::write(out, 4, 4, 0);
@@ -78,8 +78,8 @@ fn write_number(out: &mut [u8], n: u32)
 
 // The count of the parts and their headers: a metadata list.
 fn write_metadata_list(out: &mut [u8], queues: u8)
-    requires { 8 + length (headersOf queues) ≤ length out.old }
-    ensures { out.new ≡ put 0 (numberBytes (part_count queues) ++ headersOf queues) out.old }
+    requires { 8 + length (headers_of queues) ≤ length out.old }
+    ensures { out.new ≡ put 0 (number_bytes (part_count queues) ++ headers_of queues) out.old }
 {
     write_number(out, inventory::part_count(queues));
     capture::write_headers(&mut out[NUMBER_SIZE..], queues);
@@ -87,7 +87,7 @@ fn write_metadata_list(out: &mut [u8], queues: u8)
 
 // The result, at the front of the lent tail.
 fn write_result(body: Body, queues: u8, list: &[u8], values: &[u8], out: &mut [u8])
-    requires { (queues < 5) × (length values.now ≡ valuesSize) × (length (result_of queues list.now values.now body) ≤ length out.old) }
+    requires { (queues < 5) × (length values.now ≡ values_size) × (length (result_of queues list.now values.now body) ≤ length out.old) }
     ensures { out.new ≡ put 0 (result_of queues list.now values.now body) out.old }
 {
     match body {
@@ -109,7 +109,7 @@ pub fn write_reading(
     values: &[u8],
     reply: &mut [u8],
 ) -> usize
-    requires { (queues < 5) × (length values.now ≡ valuesSize) × (headSize ≤ length reply.old) }
+    requires { (queues < 5) × (length values.now ≡ values_size) × (head_size ≤ length reply.old) }
     ensures { (result, reply.new) ≡ written (replied answer (result_of queues list.now values.now body) (length reply.old)) reply.old }
 {
     if !protocol::is_done(answer) {

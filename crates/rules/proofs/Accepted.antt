@@ -7,24 +7,24 @@ use borrow.Author.Tests.{not-true}
 use Rattle.theory.proofs.Tests.{never, unless-passed}
 use Rattle.parts.specs.List.{PartList, whole}
 use Rattle.rules.specs.declared.Cause.{Cause}
-use Rattle.rules.specs.Rules.{knownOrSkipped, lengthRight, sizeRight, featuresSame, every, repeated, causeIn, isAccepted}
+use Rattle.rules.specs.Rules.{known_or_skipped, length_right, size_right, features_same, every, repeated, cause_in, is_accepted}
 
 pub record Accepts (q : ℕ) (features : List ℕ) (ps : PartList) : Type 0 where
-  pub sized : every (lengthRight q) ps ≡ true
-  pub rings : every (sizeRight q) ps ≡ true
-  pub valued : every (featuresSame features) ps ≡ true
+  pub sized : every (length_right q) ps ≡ true
+  pub rings : every (size_right q) ps ≡ true
+  pub valued : every (features_same features) ps ≡ true
   pub once : repeated q ps ≡ false
 
 abbrev Passes : Cause → Type 0
-Passes c = isAccepted c ≡ true
+Passes c = is_accepted c ≡ true
 
-pub accepts : (q : ℕ) (features : List ℕ) (ps : PartList) → isAccepted (causeIn q features ps) ≡ true → Accepts q features ps
-unfolding causeIn
+pub accepts : (q : ℕ) (features : List ℕ) (ps : PartList) → is_accepted (cause_in q features ps) ≡ true → Accepts q features ps
+unfolding cause_in
 accepts q features ps e =
     let a = unless-passed Passes (whole ps) _ _ never e in
-    let b = unless-passed Passes (every (knownOrSkipped q) ps) _ _ never a.1 in
-    let c = unless-passed Passes (every (lengthRight q) ps) _ _ never b.1 in
-    let d = unless-passed Passes (every (sizeRight q) ps) _ _ never c.1 in
-    let f = unless-passed Passes (every (featuresSame features) ps) _ _ never d.1 in
+    let b = unless-passed Passes (every (known_or_skipped q) ps) _ _ never a.1 in
+    let c = unless-passed Passes (every (length_right q) ps) _ _ never b.1 in
+    let d = unless-passed Passes (every (size_right q) ps) _ _ never c.1 in
+    let f = unless-passed Passes (every (features_same features) ps) _ _ never d.1 in
     let g = unless-passed Passes (not (repeated q ps)) _ _ never f.1 in
     record { sized = c.0; rings = d.0; valued = f.0; once = not-true (repeated q ps) g.0 }

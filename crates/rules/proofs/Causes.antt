@@ -11,9 +11,9 @@ use Rattle.theory.specs.Logic.{unless◌answer◌then◌}
 use Rattle.theory.proofs.Tests.{by_cases, unless-cases, true-or, false-or}
 use Rattle.theory.specs.Bytes.{same}
 use Rattle.wire.specs.Le.{number}
-use Rattle.inventory.specs.Inventory.{row_at, deviceFeatures, selectorOf, place_of}
-use Rattle.inventory.specs.Queue.{valueAllowed}
-use Rattle.inventory.specs.Header.{selectorAt}
+use Rattle.inventory.specs.Inventory.{row_at, device_features, selector_of, place_of}
+use Rattle.inventory.specs.Queue.{value_allowed}
+use Rattle.inventory.specs.Header.{selector_at}
 use Rattle.inventory.specs.declared.Place.{Place}
 use Rattle.inventory.specs.declared.Place.TheVariants.{At, Absent}
 use Rattle.inventory.proofs.Columns.{sizes, size-at}
@@ -21,94 +21,94 @@ use Rattle.inventory.proofs.Rules.{table}
 use Rattle.parts.specs.declared.ListForm.{ListForm}
 use Rattle.parts.specs.declared.Step.{Step}
 use Rattle.parts.specs.declared.Step.TheVariants as step
-use Rattle.parts.specs.List.{header_at, stepAt, Part, PartList, part, partWith, partIn, partsFrom, whole}
+use Rattle.parts.specs.List.{header_at, step_at, Part, PartList, part, part_with, part_in, parts_from, whole}
 use Rattle.parts.proofs.Walk.{parts-end, parts_cut}
 use Rattle.parts.proofs.Turns.{opened}
 use Rattle.rules.specs.declared.Cause.{Cause}
 use Rattle.rules.specs.declared.Cause.TheVariants.{Cut}
-use Rattle.rules.specs.Rules.{known, knownOrSkipped, lengthRight, sizeRight, featuresSame, every, repeated, causeIn}
-use Rattle.rules.specs.Ranks.{rank_of, absentRank, rowRank, least, causeAt}
-use Rattle.rules.proofs.Seen.{none, place, isSeen, withSeen, seenAgain, repeated-is}
+use Rattle.rules.specs.Rules.{known, known_or_skipped, length_right, size_right, features_same, every, repeated, cause_in}
+use Rattle.rules.specs.Ranks.{rank_of, absent_rank, row_rank, least, cause_at}
+use Rattle.rules.proofs.Seen.{none, place, is_seen, with_seen, seen_again, repeated-is}
 use Rattle.rules.proofs.Ranks.{least-assoc, rank-both, cause-least, cause-of-rank}
 
 -- ---- what is left ----
 
 -- with the rows seen, and the least rank so far, the parts that are left decide the cause; d: a part of the list is named twice
-unfoldable pub causeLeft : ℕ → List ℕ → Bool → ℕ → List Bool → PartList → Cause
-causeLeft q features d rank seen ps =
+unfoldable pub cause_left : ℕ → List ℕ → Bool → ℕ → List Bool → PartList → Cause
+cause_left q features d rank seen ps =
     unless whole ps answer Cut then
-    causeAt (least rank
-    (rank_of (every (knownOrSkipped q) ps) (every (lengthRight q) ps) (every (sizeRight q) ps) (every (featuresSame features) ps)
-    (seenAgain q seen ps))) d
+    cause_at (least rank
+    (rank_of (every (known_or_skipped q) ps) (every (length_right q) ps) (every (size_right q) ps) (every (features_same features) ps)
+    (seen_again q seen ps))) d
 
-pub cause-start : (q : ℕ) (features : List ℕ) (ps : PartList) → causeIn q features ps ≡ causeLeft q features (repeated q ps) 5 none ps
-unfolding causeIn causeLeft
+pub cause-start : (q : ℕ) (features : List ℕ) (ps : PartList) → cause_in q features ps ≡ cause_left q features (repeated q ps) 5 none ps
+unfolding cause_in cause_left
 cause-start q features ps = rw (repeated-is q ps) (cause-of-rank _ _ _ _ _ _)
 
 -- ---- the rank of one part ----
 
-abbrev partRank : ℕ → List ℕ → List Bool → Part → ℕ
-partRank q features seen p =
-    rank_of (knownOrSkipped q p) (lengthRight q p) (sizeRight q p) (featuresSame features p) (isSeen seen (place q p))
+abbrev part_rank : ℕ → List ℕ → List Bool → Part → ℕ
+part_rank q features seen p =
+    rank_of (known_or_skipped q p) (length_right q p) (size_right q p) (features_same features p) (is_seen seen (place q p))
 
 cause-part : (q : ℕ) (features : List ℕ) (d : Bool) (rank : ℕ) (seen : List Bool) (p : Part) (ps : PartList)
-    → causeLeft q features d rank seen (part p ps)
-    ≡ causeLeft q features d (least rank (partRank q features seen p)) (withSeen seen (place q p)) ps
-unfolding causeLeft whole every seenAgain
+    → cause_left q features d rank seen (part p ps)
+    ≡ cause_left q features d (least rank (part_rank q features seen p)) (with_seen seen (place q p)) ps
+unfolding cause_left whole every seen_again
 cause-part q features d rank seen p ps = rw (← rank-both, least-assoc)
 
 module _ (q t s f : ℕ) (v features : List ℕ) (seen : List Bool) where
-  absent-rank-is : place_of q t s ≡ Absent → eqb t deviceFeatures ≡ false → partRank q features seen (partWith t f s v) ≡ absentRank t f
-  unfolding absentRank known knownOrSkipped lengthRight sizeRight featuresSame
-  absent-rank-is e h = rw (e, h, false-or, true-or (valueAllowed t v), true-or (same v features))
+  absent-rank-is : place_of q t s ≡ Absent → eqb t device_features ≡ false → part_rank q features seen (part_with t f s v) ≡ absent_rank t f
+  unfolding absent_rank known known_or_skipped length_right size_right features_same
+  absent-rank-is e h = rw (e, h, false-or, true-or (value_allowed t v), true-or (same v features))
 
   row-rank-is : (i : ℕ) → place_of q t s ≡ At i
-      → partRank q features seen (partWith t f s v) ≡ rowRank (row_at i).size (get_or seen i false) t v features
-  unfolding rowRank known knownOrSkipped lengthRight sizeRight featuresSame
+      → part_rank q features seen (part_with t f s v) ≡ row_rank (row_at i).size (get_or seen i false) t v features
+  unfolding row_rank known known_or_skipped length_right size_right features_same
   row-rank-is i e = rw (e, true-or, false-or)
 
 -- ---- an absent part is not the device features: their selector is none, and every member has them ----
 
-selector-read : (form : ListForm) (l : List ℕ) (at t f s start len : ℕ) → stepAt form l at ≡ step.Part t f s start len
-    → s ≡ selectorOf t (number (at + selectorAt) 8 l)
-unfolding stepAt header_at
+selector-read : (form : ListForm) (l : List ℕ) (at t f s start len : ℕ) → step_at form l at ≡ step.Part t f s start len
+    → s ≡ selector_of t (number (at + selector_at) 8 l)
+unfolding step_at header_at
 selector-read form l at t f s start len =
     unless-cases Says _ _ _ (λ b e. cc) λ b.
     unless-cases Says _ _ _ (λ b e. cc) λ b.
     unless-cases Says _ _ _ (λ b e. cc) (λ b e. cc)
   where
     Says : Step → Type 0
-    Says r = r ≡ step.Part t f s start len → s ≡ selectorOf t (number (at + selectorAt) 8 l)
+    Says r = r ≡ step.Part t f s start len → s ≡ selector_of t (number (at + selector_at) 8 l)
 
-other-type : (q t s n : ℕ) → s ≡ selectorOf t n → place_of q t s ≡ Absent → eqb t deviceFeatures ≡ false
+other-type : (q t s n : ℕ) → s ≡ selector_of t n → place_of q t s ≡ Absent → eqb t device_features ≡ false
 unfolding table
 other-type q t s n e h =
-    by_cases (eqb t deviceFeatures)
-    (λ y. let z : At 0 ≡ Absent = rw (e, eqb-true t deviceFeatures y) at h in cc)
+    by_cases (eqb t device_features)
+    (λ y. let z : At 0 ≡ Absent = rw (e, eqb-true t device_features y) at h in cc)
     (λ y. y)
 
 -- ---- the walk: `r` is what next_part answered at `at`, `x` the cause of the whole list ----
 
-module _ (form : ListForm) (l : List ℕ) (at : ℕ) (r : Step) (here : r ≡ stepAt form l at) where
+module _ (form : ListForm) (l : List ℕ) (at : ℕ) (r : Step) (here : r ≡ step_at form l at) where
   pub cause-end : (q : ℕ) (features : List ℕ) (d : Bool) (rank : ℕ) (seen : List Bool) (x y : Cause) → r ≡ step.End
-      → x ≡ causeLeft q features d rank seen (partsFrom form l at) → y ≡ causeAt rank d → y ≡ x
-  unfolding causeLeft whole every seenAgain unless◌answer◌then◌ rank_of
+      → x ≡ cause_left q features d rank seen (parts_from form l at) → y ≡ cause_at rank d → y ≡ x
+  unfolding cause_left whole every seen_again unless◌answer◌then◌ rank_of
   cause-end q features d rank seen x y e h k = k ∙ sym (h ∙ rw (parts-end form l at (sym here ∙ e)) (cause-least rank d))
 
   pub cause-cut : (q : ℕ) (features : List ℕ) (d : Bool) (rank : ℕ) (seen : List Bool) (x : Cause) → r ≡ step.Cut
-      → x ≡ causeLeft q features d rank seen (partsFrom form l at) → Cut ≡ x
-  unfolding causeLeft whole unless◌answer◌then◌
+      → x ≡ cause_left q features d rank seen (parts_from form l at) → Cut ≡ x
+  unfolding cause_left whole unless◌answer◌then◌
   cause-cut q features d rank seen x e h = sym (h ∙ rw (parts_cut form l at (sym here ∙ e)))
 
   -- a part is found; b is what place_of answered
   module _ (t f s start len : ℕ) (found : r ≡ step.Part t f s start len) (q : ℕ) (seen : List Bool) (b : Place) (placed : b ≡ place_of q t s) where
-    at_part : partsFrom form l at ≡ part (partIn l t f s start len) (partsFrom form l (start + len))
+    at_part : parts_from form l at ≡ part (part_in l t f s start len) (parts_from form l (start + len))
     at_part = opened form l at r here t f s start len found
 
     -- n: the least rank, with that of this part, k
-    module _ (features : List ℕ) (d : Bool) (rank k n : ℕ) (x : Cause) (e : x ≡ causeLeft q features d rank seen (partsFrom form l at))
+    module _ (features : List ℕ) (d : Bool) (rank k n : ℕ) (x : Cause) (e : x ≡ cause_left q features d rank seen (parts_from form l at))
         (lesser : n ≡ least rank k) where
-      pub cause-absent : b ≡ Absent → k ≡ absentRank t f → x ≡ causeLeft q features d n seen (partsFrom form l (start + len))
+      pub cause-absent : b ≡ Absent → k ≡ absent_rank t f → x ≡ cause_left q features d n seen (parts_from form l (start + len))
       cause-absent a h =
           let p : place_of q t s ≡ Absent = sym placed ∙ a in
           let o = other-type q t s _ (selector-read form l at t f s start len (sym here ∙ found)) p in
@@ -116,10 +116,10 @@ module _ (form : ListForm) (l : List ℕ) (at : ℕ) (r : Step) (here : r ≡ st
 
       -- its value is lent, to start + len
       pub cause-row : (i : ℕ) → b ≡ At i
-          → k ≡ rowRank (get_or sizes i 0) (get_or seen i false) t (take (start + len - start) (drop start l)) features
-          → x ≡ causeLeft q features d n (set seen i true) (partsFrom form l (start + len))
+          → k ≡ row_rank (get_or sizes i 0) (get_or seen i false) t (take (start + len - start) (drop start l)) features
+          → x ≡ cause_left q features d n (set seen i true) (parts_from form l (start + len))
       cause-row i a h =
           let p : place_of q t s ≡ At i = sym placed ∙ a in
-          let m : k ≡ rowRank (row_at i).size (get_or seen i false) t (take len (drop start l)) features
+          let m : k ≡ row_rank (row_at i).size (get_or seen i false) t (take len (drop start l)) features
           = h ∙ rw (size-at i, add-sub_cancel_left start len) in
           e ∙ rw (at_part, cause-part, row-rank-is q t s f _ features seen i p, p, ← m, ← lesser)

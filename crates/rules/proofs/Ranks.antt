@@ -10,7 +10,7 @@ use Rattle.theory.specs.Logic.{if◌then◌else◌, unless◌answer◌then◌, �
 use Rattle.theory.proofs.Tests.{by_cases, not-or}
 use Rattle.rules.specs.declared.Cause.{Cause}
 use Rattle.rules.specs.declared.Cause.TheVariants.{Accepted, Cut, Unknown, Length, Size, Features, Twice}
-use Rattle.rules.specs.Ranks.{rank_of, least, causeAt}
+use Rattle.rules.specs.Ranks.{rank_of, least, cause_at}
 
 -- ---- the lesser of two ----
 
@@ -72,22 +72,22 @@ rank-both k n z f d k' n' z' f' d' =
 
 -- ---- the cause of a rank ----
 
-pub cause-is : (r k : ℕ) (d : Bool) (x : Cause) → r ≡ k → x ≡ causeAt k d → x ≡ causeAt r d
+pub cause-is : (r k : ℕ) (d : Bool) (x : Cause) → r ≡ k → x ≡ cause_at k d → x ≡ cause_at r d
 cause-is r k d x e h = rw e h
 
 -- b: what `repeats` answered
 module _ (r : ℕ) (d b : Bool) (told : b ≡ d) (last : r ≡ 4) where
-  pub cause-twice : b ≡ true → Twice ≡ causeAt r d
-  unfolding causeAt if◌then◌else◌
+  pub cause-twice : b ≡ true → Twice ≡ cause_at r d
+  unfolding cause_at if◌then◌else◌
   cause-twice h = rw (last, ← told, h)
 
-  pub cause-once : b ≡ false → Accepted ≡ causeAt r d
-  unfolding causeAt if◌then◌else◌
+  pub cause-once : b ≡ false → Accepted ≡ cause_at r d
+  unfolding cause_at if◌then◌else◌
   cause-once h = rw (last, ← told, h)
 
 -- a rank of 5 adds nothing
-pub cause-least : (r : ℕ) (d : Bool) → causeAt (least r 5) d ≡ causeAt r d
-unfolding causeAt if◌then◌else◌
+pub cause-least : (r : ℕ) (d : Bool) → cause_at (least r 5) d ≡ cause_at r d
+unfolding cause_at if◌then◌else◌
 cause-least r d =
     by_cases (leb r 5)
     (λ e. rw (least-left r 5 (leb-true r 5 e)))
@@ -111,8 +111,8 @@ pub cause-of-rank : (w k n z f d : Bool)
     unless f answer Features then
     unless not d answer Twice then
     Accepted)
-    ≡ unless w answer Cut then causeAt (least 5 (rank_of k n z f d)) d
-unfolding unless◌answer◌then◌ rank_of least causeAt if◌then◌else◌
+    ≡ unless w answer Cut then cause_at (least 5 (rank_of k n z f d)) d
+unfolding unless◌answer◌then◌ rank_of least cause_at if◌then◌else◌
 cause-of-rank false k n z f d = refl
 cause-of-rank true false n z f d = refl
 cause-of-rank true true false z f d = refl

@@ -10,8 +10,8 @@ use lib.ListN.{length, get_or, set, replicate, length-set}
 use lib.Seq.{get_or-set_same, get_or-set_other, set_comm}
 use Rattle.theory.specs.Logic.{◌and◌, ◌or◌}
 use Rattle.theory.proofs.Tests.{by_cases, both, and_i, and-false, or-false, never}
-use Rattle.theory.proofs.Lists.{getD-same}
-use Rattle.inventory.specs.Inventory.{rowCount, place_of, onPlace}
+use Rattle.theory.proofs.Lists.{get_or-same}
+use Rattle.inventory.specs.Inventory.{row_count, place_of, on_place}
 use Rattle.inventory.specs.declared.Place.{Place}
 use Rattle.inventory.specs.declared.Place.TheVariants.{At, Absent}
 use Rattle.inventory.proofs.Find.{place_found}
@@ -20,23 +20,23 @@ use Rattle.rules.specs.Rules.{known, repeated}
 
 -- no row is seen
 unfoldable pub none : List Bool
-none = replicate rowCount false
+none = replicate row_count false
 
 -- whether the row of a place is seen; the rows seen with that one
-abbrev pub isSeen : List Bool → Place → Bool
-isSeen seen a = onPlace a (λ i. get_or seen i false) false
+abbrev pub is_seen : List Bool → Place → Bool
+is_seen seen a = on_place a (λ i. get_or seen i false) false
 
-abbrev pub withSeen : List Bool → Place → List Bool
-withSeen seen a = onPlace a (λ i. set seen i true) seen
+abbrev pub with_seen : List Bool → Place → List Bool
+with_seen seen a = on_place a (λ i. set seen i true) seen
 
 abbrev pub place : ℕ → Part → Place
-place q p = place_of q p.partType p.selector
+place q p = place_of q p.part_type p.selector
 
 -- the row of a known part was seen before it
-unfoldable pub seenAgain : ℕ → List Bool → PartList → Bool
-seenAgain q seen end = false
-seenAgain q seen cut = false
-seenAgain q seen (part p ps) = isSeen seen (place q p) or seenAgain q (withSeen seen (place q p)) ps
+unfoldable pub seen_again : ℕ → List Bool → PartList → Bool
+seen_again q seen end = false
+seen_again q seen cut = false
+seen_again q seen (part p ps) = is_seen seen (place q p) or seen_again q (with_seen seen (place q p)) ps
 
 -- ---- two places ----
 
@@ -56,8 +56,8 @@ module _ (q t s u v : ℕ) where
       absurd (n (sym e ∙ rw (← eqb-true u t k.0, ← eqb-true v s k.1) f)))
       (λ h. h)
 
-  seen-with : (seen : List Bool) (a b : Place) → length seen ≡ rowCount → place_of q t s ≡ a → place_of q u v ≡ b
-      → isSeen (withSeen seen a) b ≡ (onPlace a (λ i. true) false and (eqb u t and eqb v s)) or isSeen seen b
+  seen-with : (seen : List Bool) (a b : Place) → length seen ≡ row_count → place_of q t s ≡ a → place_of q u v ≡ b
+      → is_seen (with_seen seen a) b ≡ (on_place a (λ i. true) false and (eqb u t and eqb v s)) or is_seen seen b
   unfolding ◌and◌ ◌or◌
   seen-with seen Absent b l e f = refl
   seen-with seen (At i) Absent l e f = rw (other_row (At i) Absent e f (λ z. never cc))
@@ -74,7 +74,7 @@ module _ (q t s u v : ℕ) where
       at-inj : At i ≡ At j → i ≡ j
       at-inj z = cc
 
-with-swap : (seen : List Bool) (a b : Place) → withSeen (withSeen seen a) b ≡ withSeen (withSeen seen b) a
+with-swap : (seen : List Bool) (a b : Place) → with_seen (with_seen seen a) b ≡ with_seen (with_seen seen b) a
 with-swap seen Absent b = refl
 with-swap seen (At i) Absent = refl
 with-swap seen (At i) (At j) =
@@ -82,7 +82,7 @@ with-swap seen (At i) (At j) =
     (λ h. rw (eqb-true i j h))
     (λ h. set_comm seen i j true true (eqb-false i j h))
 
-with-long : (seen : List Bool) (a : Place) → length seen ≡ rowCount → length (withSeen seen a) ≡ rowCount
+with-long : (seen : List Bool) (a : Place) → length seen ≡ row_count → length (with_seen seen a) ≡ row_count
 with-long seen Absent l = l
 with-long seen (At i) l = simp length-set l
 
@@ -96,30 +96,30 @@ shuffled true false true true g = refl
 shuffled true false true false g = refl
 shuffled true false false a g = refl
 
-again-with : (q : ℕ) (p : Part) (seen : List Bool) (ps : PartList) → length seen ≡ rowCount
-    → seenAgain q (withSeen seen (place q p)) ps ≡ known q p.partType p.selector and among p.partType p.selector ps or seenAgain q seen ps
-unfolding seenAgain among known
+again-with : (q : ℕ) (p : Part) (seen : List Bool) (ps : PartList) → length seen ≡ row_count
+    → seen_again q (with_seen seen (place q p)) ps ≡ known q p.part_type p.selector and among p.part_type p.selector ps or seen_again q seen ps
+unfolding seen_again among known
 again-with q p seen end l = rw (and-false, or-false)
 again-with q p seen cut l = rw (and-false, or-false)
 again-with q p seen (part r ps) l =
     rw (
-      seen-with q p.partType p.selector r.partType r.selector seen (place q p) (place q r) l refl refl,
+      seen-with q p.part_type p.selector r.part_type r.selector seen (place q p) (place q r) l refl refl,
       with-swap seen (place q p) (place q r),
-      again-with q p (withSeen seen (place q r)) ps (with-long seen (place q r) l),
+      again-with q p (with_seen seen (place q r)) ps (with-long seen (place q r) l),
     )
     (shuffled _ _ _ _ _)
 
-none-at : (a : Place) → isSeen none a ≡ false
+none-at : (a : Place) → is_seen none a ≡ false
 unfolding none
-none-at (At i) = getD-same rowCount i false
+none-at (At i) = get_or-same row_count i false
 none-at Absent = refl
 
-none-long : length none ≡ rowCount
+none-long : length none ≡ row_count
 unfolding none
 none-long = refl
 
-pub repeated-is : (q : ℕ) (ps : PartList) → repeated q ps ≡ seenAgain q none ps
-unfolding repeated seenAgain ◌or◌
+pub repeated-is : (q : ℕ) (ps : PartList) → repeated q ps ≡ seen_again q none ps
+unfolding repeated seen_again ◌or◌
 repeated-is q end = refl
 repeated-is q cut = refl
 repeated-is q (part p ps) = rw (none-at (place q p), again-with q p none ps none-long, repeated-is q ps)

@@ -14,29 +14,29 @@ use Rattle.theory.proofs.Tests.{true-and, false-and, false-or}
 use Rattle.parts.specs.declared.ListForm.{ListForm}
 use Rattle.parts.specs.declared.Step.{Step}
 use Rattle.parts.specs.declared.Step.TheVariants as step
-use Rattle.parts.specs.List.{stepAt, Part, part, partWith, partIn, partsFrom, among}
+use Rattle.parts.specs.List.{step_at, Part, part, part_with, part_in, parts_from, among}
 use Rattle.parts.proofs.Turns.{stopped, opened}
 use Rattle.rules.specs.Rules.{known, every, repeated}
 
-module _ (form : ListForm) (l : List ℕ) (at : ℕ) (r : Step) (here : r ≡ stepAt form l at) where
+module _ (form : ListForm) (l : List ℕ) (at : ℕ) (r : Step) (here : r ≡ step_at form l at) where
   -- the walk treats the end and a part that is cut short alike
   module _ (none : OneOf (1 ∷ 2 ∷ []) (tag_of Rattle.parts.specs.contracts.Step.the_type r)) where
-    pub every-stop : (rule : Part → Bool) (x : Bool) → x ≡ every rule (partsFrom form l at) → x ≡ true
+    pub every-stop : (rule : Part → Bool) (x : Bool) → x ≡ every rule (parts_from form l at) → x ≡ true
     unfolding every
     every-stop rule x e = e ∙ stopped form l at r here none (every rule) true refl refl
 
-    pub repeated-stop : (queues : ℕ) (x : Bool) → x ≡ repeated queues (partsFrom form l at) → x ≡ false
+    pub repeated-stop : (queues : ℕ) (x : Bool) → x ≡ repeated queues (parts_from form l at) → x ≡ false
     unfolding repeated
     repeated-stop queues x e = e ∙ stopped form l at r here none (repeated queues) false refl refl
 
   module _ (t f s start len : ℕ) (found : r ≡ step.Part t f s start len) where
-    at_part : partsFrom form l at ≡ part (partIn l t f s start len) (partsFrom form l (start + len))
+    at_part : parts_from form l at ≡ part (part_in l t f s start len) (parts_from form l (start + len))
     at_part = opened form l at r here t f s start len found
 
     -- b: it obeys the rule. Its value is lent, to start + len
-    module _ (rule : Part → Bool) (b x : Bool) (e : x ≡ every rule (partsFrom form l at))
-        (told : b ≡ rule (partWith t f s (take (start + len - start) (drop start l)))) where
-      pub every-on : not b ≡ false → x ≡ every rule (partsFrom form l (start + len))
+    module _ (rule : Part → Bool) (b x : Bool) (e : x ≡ every rule (parts_from form l at))
+        (told : b ≡ rule (part_with t f s (take (start + len - start) (drop start l)))) where
+      pub every-on : not b ≡ false → x ≡ every rule (parts_from form l (start + len))
       unfolding every
       every-on h = e ∙ rw (at_part, ← add-sub_cancel_left start len, ← told, not-false b h, true-and)
 
@@ -45,12 +45,12 @@ module _ (form : ListForm) (l : List ℕ) (at : ℕ) (r : Step) (here : r ≡ st
       every-out h = e ∙ rw (at_part, ← add-sub_cancel_left start len, ← told, not-true b h, false-and)
 
     -- b: it is known
-    module _ (queues : ℕ) (b x : Bool) (e : x ≡ repeated queues (partsFrom form l at)) (told : b ≡ known queues t s) where
-      pub repeated-skip : not b ≡ true → x ≡ repeated queues (partsFrom form l (start + len))
+    module _ (queues : ℕ) (b x : Bool) (e : x ≡ repeated queues (parts_from form l at)) (told : b ≡ known queues t s) where
+      pub repeated-skip : not b ≡ true → x ≡ repeated queues (parts_from form l (start + len))
       unfolding repeated
       repeated-skip h = e ∙ rw (at_part, ← told, not-true b h, false-and, false-or)
 
       pub repeated-rest : not b ≡ false
-          → x ≡ among t s (partsFrom form l (start + len)) or repeated queues (partsFrom form l (start + len))
+          → x ≡ among t s (parts_from form l (start + len)) or repeated queues (parts_from form l (start + len))
       unfolding repeated
       repeated-rest h = e ∙ rw (at_part, ← told, not-false b h, true-and)

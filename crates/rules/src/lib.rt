@@ -2,10 +2,10 @@
 ghost use Rattle.std.specs.Prelude.{◌≡◌, not, eqb};
 ghost use Rattle.theory.specs.Logic.{◌or◌};
 ghost use Rattle.theory.specs.Bytes.{same};
-ghost use Rattle.inventory.specs.Inventory.{deviceFeatures};
+ghost use Rattle.inventory.specs.Inventory.{device_features};
 ghost use Rattle.parts.specs.List.{parts_of};
-ghost use Rattle.rules.specs.Rules.{known, asksKnown, every, repeated, causeOf, isAccepted, asked_of};
-ghost use Rattle.rules.specs.Ranks.{absentRank, rowRank, least, causeAt};
+ghost use Rattle.rules.specs.Rules.{known, asks_known, every, repeated, cause_of, is_accepted, asked_of};
+ghost use Rattle.rules.specs.Ranks.{absent_rank, row_rank, least, cause_at};
 
 use inventory::{DEVICE_FEATURES, Place, ROWS, SIZES};
 use parts::{ListForm, Step};
@@ -55,7 +55,7 @@ pub fn is_known(queues: u8, t: u16, selector: u64) -> bool
 // The rank of a part that the member has not got: it is skipped where it has the optional bit, bit 0 of the flags, and its
 // type is low enough.
 fn absent_rank(t: u16, flags: u8) -> u8
-    ensures { result ≡ absentRank t flags }
+    ensures { result ≡ absent_rank t flags }
 {
     if flags % 2 != 1 {
         return UNKNOWN;
@@ -68,7 +68,7 @@ fn absent_rank(t: u16, flags: u8) -> u8
 
 // Whether a value is the features, where the part is the device features.
 fn is_features(t: u16, value: &[u8], features: &[u8]) -> bool
-    ensures { result ≡ not (eqb t deviceFeatures) or same value.now features.now }
+    ensures { result ≡ not (eqb t device_features) or same value.now features.now }
 {
     if t != DEVICE_FEATURES {
         return true;
@@ -78,7 +78,7 @@ fn is_features(t: u16, value: &[u8], features: &[u8]) -> bool
 
 // The rank of a part that the member has got, with the size of its row, and whether its row has been seen before.
 fn row_rank(size: u8, seen: bool, t: u16, value: &[u8], features: &[u8]) -> u8
-    ensures { result ≡ rowRank size seen t value.now features.now }
+    ensures { result ≡ row_rank size seen t value.now features.now }
 {
     if value.len() != size as usize {
         return LENGTH;
@@ -97,7 +97,7 @@ fn row_rank(size: u8, seen: bool, t: u16, value: &[u8], features: &[u8]) -> u8
 
 // Whether every header asked for is of a part that the member has got.
 fn every_known(list: &[u8], queues: u8) -> bool
-    ensures { result ≡ every (asksKnown queues) (parts_of ListForm.Headers list.now) }
+    ensures { result ≡ every (asks_known queues) (parts_of ListForm.Headers list.now) }
 {
     let mut at = 0;
     loop {
@@ -173,7 +173,7 @@ fn least(a: u8, b: u8) -> u8
 
 // The cause of a list whose parts have this least rank. The rows seen spare the nested loops where no row was seen again.
 fn cause_at(rank: u8, list: &[u8], queues: u8) -> Cause
-    ensures { result ≡ causeAt rank (repeated queues (parts_of ListForm.Parts list.now)) }
+    ensures { result ≡ cause_at rank (repeated queues (parts_of ListForm.Parts list.now)) }
 {
     match rank {
         UNKNOWN => Cause::Unknown,
@@ -192,7 +192,7 @@ fn cause_at(rank: u8, list: &[u8], queues: u8) -> Cause
 
 // Why a list given to be set is refused, if it is. One walk, which keeps the least rank of a part and the rows seen.
 pub fn check_list(queues: u8, features: &[u8], list: &[u8]) -> Cause
-    ensures { result ≡ causeOf queues features.now list.now }
+    ensures { result ≡ cause_of queues features.now list.now }
 {
     let sizes = SIZES;
     let mut seen = [false; ROWS];
@@ -226,7 +226,7 @@ pub fn check_list(queues: u8, features: &[u8], list: &[u8]) -> Cause
 
 // Whether there is no cause to refuse a list.
 pub fn is_accepted(c: Cause) -> bool
-    ensures { result ≡ isAccepted c }
+    ensures { result ≡ is_accepted c }
 {
     match c {
         Cause::Accepted => true,

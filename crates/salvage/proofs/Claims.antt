@@ -9,7 +9,7 @@ use Rattle.theory.proofs.Tests.{by_cases}
 use Rattle.inventory.specs.Inventory.{row_at}
 use Rattle.parts.specs.declared.ListForm.TheVariants.{Parts}
 use Rattle.parts.specs.List.{parts_of}
-use Rattle.salvage.specs.Salvage.{freshValue, rowValue, isKeptRow, keptItem, keptReport}
+use Rattle.salvage.specs.Salvage.{fresh_value, row_value, is_kept_row, kept_item, kept_report}
 use Rattle.salvage.specs.Claims.{InSetup, HasRow, KeptOrFresh, KeepsOrFills, AddsUp, Claims}
 use Rattle.salvage.proofs.Whole.{end_of, end-value, list-is}
 use Rattle.salvage.proofs.Values.{few, kept-none, list-passes}
@@ -28,35 +28,35 @@ one-true false e = absurd (omega arith)
 
 module _ (q : ℕ) (features l : List ℕ) (g : InSetup q features) (i : ℕ) (r : HasRow q i) where
   abbrev t : ℕ
-  t = (row_at i).partType
+  t = (row_at i).part_type
 
   abbrev s : ℕ
   s = (row_at i).selector
 
   -- x is what is written for it
-  row_kept : (x : List ℕ) → x ≡ rowValue q features l i
-      → KeptOrFresh features (parts_of Parts l) i (indicator (isKeptRow q features l i)) x
+  row_kept : (x : List ℕ) → x ≡ row_value q features l i
+      → KeptOrFresh features (parts_of Parts l) i (indicator (is_kept_row q features l i)) x
   unfolding indicator
   row_kept x e =
       let ps = parts_of Parts l in
       let h = few q features l g in
       record {
-        kept = λ y. rw e (kept-first q features h i r (freshValue q features i) ps (one-true (isKeptRow q features l i) y));
+        kept = λ y. rw e (kept-first q features h i r (fresh_value q features i) ps (one-true (is_kept_row q features l i) y));
         first = λ y f. rw (first-kept q features h i r y ps f);
         filled = λ n.
-            by_cases (isKeptRow q features l i)
+            by_cases (is_kept_row q features l i)
             (λ y. absurd (n (rw y)))
             (λ z.
-            let x-fresh = e ∙ kept-none q features t s (freshValue q features i) ps z ∙ fresh-is features g.long i r.below q in
+            let x-fresh = e ∙ kept-none q features t s (fresh_value q features i) ps z ∙ fresh-is features g.long i r.below q in
             (rw z, x-fresh));
       }
 
 keeps-or-fills : KeepsOrFills
-unfolding keptReport keptItem
+unfolding kept_report kept_item
 keeps-or-fills q features l g =
     record {
       values = (end_of q features l g.long).values;
-      numbers = λ i. indicator (isKeptRow q features l i);
+      numbers = λ i. indicator (is_kept_row q features l i);
       list = sym (list-is q features l g.long);
       report = refl;
       each = λ i r. row_kept q features l g i r _ (end-value q features l g.long i r.below);

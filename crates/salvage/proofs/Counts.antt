@@ -11,15 +11,15 @@ use lib.ListN.{length, get_or}
 use lib.Seq.{get_or-set_same, get_or-set_other}
 use Rattle.theory.specs.Logic.{unless◌answer◌then◌, indicator}
 use Rattle.theory.proofs.Tests.{by_cases, or_comm}
-use Rattle.inventory.specs.Inventory.{row_at, rowCount, place_of, onPlace}
+use Rattle.inventory.specs.Inventory.{row_at, row_count, place_of, on_place}
 use Rattle.inventory.specs.declared.Place.{Place}
 use Rattle.inventory.specs.declared.Place.TheVariants.{At, Absent}
 use Rattle.inventory.proofs.Find.{place_found}
 use Rattle.parts.specs.List.{Part, PartList, end, cut, part}
 use Rattle.rules.specs.Rules.{known}
-use Rattle.salvage.specs.Salvage.{isKept, fateOf, isDropped, droppedFrom}
+use Rattle.salvage.specs.Salvage.{is_kept, fate_of, is_dropped, dropped_from}
 use Rattle.salvage.specs.Walk.{State, counted, keeping, taken, walked, Sized}
-use Rattle.salvage.proofs.Fates.{flag, keptBefore, done, taken-fate, taken-sized}
+use Rattle.salvage.proofs.Fates.{flag, kept_before, done, taken-fate, taken-sized}
 use Rattle.salvage.proofs.Rows.{fate-cases, taken-flag}
 
 counted_is : (d : List ℕ) (c cause : ℕ) → c < length d → get_or (counted d c) cause 0 ≡ get_or d cause 0 + indicator (eqb c cause)
@@ -32,43 +32,43 @@ counted_is d c cause h =
 module _ (q : ℕ) (features : List ℕ) where
   -- the flags are those of these parts
   abbrev Says : State → PartList → Type 0
-  Says s before = (i : ℕ) → i < rowCount → flag s i ≡ isKept q features (row_at i).partType (row_at i).selector before
+  Says s before = (i : ℕ) → i < row_count → flag s i ≡ is_kept q features (row_at i).part_type (row_at i).selector before
 
   fate-said : (before : PartList) (p : Part) (s : State) → Says s before
-      → fateOf q features (keptBefore q p s) p ≡ fateOf q features (isKept q features p.partType p.selector before) p
-  unfolding fateOf known unless◌answer◌then◌
-  fate-said before p s says = cases (place_of q p.partType p.selector) refl
+      → fate_of q features (kept_before q p s) p ≡ fate_of q features (is_kept q features p.part_type p.selector before) p
+  unfolding fate_of known unless◌answer◌then◌
+  fate-said before p s says = cases (place_of q p.part_type p.selector) refl
     where
-      cases : (r : Place) → place_of q p.partType p.selector ≡ r
-          → fateOf q features (keptBefore q p s) p ≡ fateOf q features (isKept q features p.partType p.selector before) p
+      cases : (r : Place) → place_of q p.part_type p.selector ≡ r
+          → fate_of q features (kept_before q p s) p ≡ fate_of q features (is_kept q features p.part_type p.selector before) p
       cases (At j) e =
-          let f = place_found q p.partType p.selector j e in
-          let b : keptBefore q p s ≡ isKept q features p.partType p.selector before =
+          let f = place_found q p.part_type p.selector j e in
+          let b : kept_before q p s ≡ is_kept q features p.part_type p.selector before =
           rw e (says j f.below ∙ rw (f.type-is, f.selector-is)) in
-          ap (λ x. fateOf q features x p) b
+          ap (λ x. fate_of q features x p) b
       cases Absent e = rw e
 
   -- ---- one part ----
 
   taken-count : (p : Part) (s : State) (n cause : ℕ) → Sized n s
-      → get_or (taken q features p s).dropped cause 0 ≡ get_or s.dropped cause 0 + indicator (isDropped cause (fateOf q features (keptBefore q p s) p))
+      → get_or (taken q features p s).dropped cause 0 ≡ get_or s.dropped cause 0 + indicator (is_dropped cause (fate_of q features (kept_before q p s) p))
   unfolding indicator
   taken-count p s n cause h =
       rw (taken-fate q p s features)
-      (fate-cases q features (keptBefore q p s) p
-      (λ f. get_or (done q f p s).dropped cause 0 ≡ get_or s.dropped cause 0 + indicator (isDropped cause f))
+      (fate-cases q features (kept_before q p s) p
+      (λ f. get_or (done q f p s).dropped cause 0 ≡ get_or s.dropped cause 0 + indicator (is_dropped cause f))
       (λ c few none. counted_is s.dropped c cause (omega (arith, h.dropped)))
-      (λ free a. keeps (place_of q p.partType p.selector)))
+      (λ free a. keeps (place_of q p.part_type p.selector)))
     where
-      keeps : (r : Place) → get_or (onPlace r (λ i. keeping s i p.value) s).dropped cause 0 ≡ get_or s.dropped cause 0 + 0
+      keeps : (r : Place) → get_or (on_place r (λ i. keeping s i p.value) s).dropped cause 0 ≡ get_or s.dropped cause 0 + 0
       keeps (At i) = sym (add-zero _)
       keeps Absent = sym (add-zero _)
 
   -- ---- all parts ----
 
   pub walked-count : (cause : ℕ) (before ps : PartList) (s : State) (n : ℕ) → Sized n s → Says s before
-      → get_or (walked q features ps s).dropped cause 0 ≡ get_or s.dropped cause 0 + droppedFrom q features cause before ps
-  unfolding walked droppedFrom isKept
+      → get_or (walked q features ps s).dropped cause 0 ≡ get_or s.dropped cause 0 + dropped_from q features cause before ps
+  unfolding walked dropped_from is_kept
   walked-count cause before end s n h says = sym (add-zero _)
   walked-count cause before cut s n h says = sym (add-zero _)
   walked-count cause before (part p ps) s n h says =

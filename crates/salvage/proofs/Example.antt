@@ -9,28 +9,28 @@ use lib.Dec.{eqb}
 use lib.ListN.{replicate}
 use Rattle.theory.specs.Logic.{if◌then◌else◌, unless◌answer◌then◌, ◌and◌, ◌or◌, within, indicator}
 use Rattle.theory.specs.Bytes.{put, same}
-use Rattle.theory.specs.Items.{itemsFrom}
+use Rattle.theory.specs.Items.{items_from}
 use Rattle.theory.proofs.Table.{every}
 use Rattle.wire.specs.Le.{le, bytes, number}
-use Rattle.inventory.specs.Inventory.{Row, rows, row_at, present, offset_of, selectorOf, is_row, seek, place_of}
-use Rattle.inventory.specs.Queue.{powerBelow, ringSize, queueAllowed, valueAllowed}
-use Rattle.inventory.specs.Header.{headerOf}
+use Rattle.inventory.specs.Inventory.{Row, rows, row_at, present, offset_of, selector_of, is_row, seek, place_of}
+use Rattle.inventory.specs.Queue.{power_below, ring_size, queue_allowed, value_allowed}
+use Rattle.inventory.specs.Header.{header_of}
 use Rattle.inventory.proofs.Rules.{every-row}
 use Rattle.parts.specs.declared.ListForm.TheVariants.{Parts}
-use Rattle.parts.specs.List.{header_at, stepAt, at_most, partsFrom, parts_of, whole, among}
-use Rattle.rules.specs.Rules.{known, knownOrSkipped, lengthRight, sizeRight, featuresSame, every as everyPart, repeated, causeIn}
-use Rattle.capture.specs.Capture.{part_at, asks, partItem, partsWritten, captureOf}
+use Rattle.parts.specs.List.{header_at, step_at, at_most, parts_from, parts_of, whole, among}
+use Rattle.rules.specs.Rules.{known, known_or_skipped, length_right, size_right, features_same, every as every_part, repeated, cause_in}
+use Rattle.capture.specs.Capture.{part_at, asks, part_item, parts_written, capture_of}
 use Rattle.member.specs.Member.{fresh_of}
-use Rattle.salvage.specs.Salvage.{valueRight, allowed, isCopy, keptOr, isKept, fateOf, droppedFrom, bytesRead, freshValue, repairedItem, repaired, keptItem, keptReport, droppedReport, Salvage, salvage, is_taken, salvaged, salvageOf}
+use Rattle.salvage.specs.Salvage.{value_right, allowed, is_copy, kept_or, is_kept, fate_of, dropped_from, bytes_read, fresh_value, repaired_item, repaired, kept_item, kept_report, dropped_report, Salvage, salvage, is_taken, salvaged, salvage_of}
 use Rattle.salvage.specs.Claims.{Asks, InSetup, HasRow, FirstCopy, here, Undamaged}
 
 -- every definition, opened at once
 unfoldable model : Unit {0}
-unfolding if◌then◌else◌ unless◌answer◌then◌ ◌and◌ ◌or◌ within indicator put same itemsFrom le bytes number
-    rows row_at present offset_of selectorOf is_row seek place_of powerBelow ringSize queueAllowed valueAllowed headerOf
-    header_at stepAt at_most partsFrom whole among known knownOrSkipped lengthRight sizeRight featuresSame everyPart repeated causeIn part_at asks partItem partsWritten fresh_of
-    valueRight allowed isCopy keptOr isKept fateOf droppedFrom bytesRead freshValue repairedItem repaired keptItem keptReport droppedReport
-    is_taken salvaged salvageOf
+unfolding if◌then◌else◌ unless◌answer◌then◌ ◌and◌ ◌or◌ within indicator put same items_from le bytes number
+    rows row_at present offset_of selector_of is_row seek place_of power_below ring_size queue_allowed value_allowed header_of
+    header_at step_at at_most parts_from whole among known known_or_skipped length_right size_right features_same every_part repeated cause_in part_at asks part_item parts_written fresh_of
+    value_right allowed is_copy kept_or is_kept fate_of dropped_from bytes_read fresh_value repaired_item repaired kept_item kept_report dropped_report
+    is_taken salvaged salvage_of
 model = tt
 
 abbrev zeros : ℕ → List ℕ
@@ -62,23 +62,23 @@ parts =
     ++ (none ++ (none ++ (piece 3 1 (7 ∷ []) ++ other)))
 
 -- five bytes of a header; and a header with three of the eight bytes of its value, of a queue's notify data
-abbrev tornHeader : List ℕ
-tornHeader = parts ++ (1 ∷ 1 ∷ zeros 3)
+abbrev torn_header : List ℕ
+torn_header = parts ++ (1 ∷ 1 ∷ zeros 3)
 
-abbrev tornValue : List ℕ
-tornValue = parts ++ piece 5 8 (1 ∷ 2 ∷ 3 ∷ [])
+abbrev torn_value : List ℕ
+torn_value = parts ++ piece 5 8 (1 ∷ 2 ∷ 3 ∷ [])
 
 -- the capture of a fresh member with one queue
 abbrev fresh : List ℕ
-fresh = captureOf 1 (zeros 205)
+fresh = capture_of 1 (zeros 205)
 
 -- buffers one longer than is asked, filled with nines
 abbrev called : List ℕ → Salvage
-called l = salvageOf 1 features l (salvage 0 (replicate 230 9) (replicate 10 9) (replicate 5 9) 9)
+called l = salvage_of 1 features l (salvage 0 (replicate 230 9) (replicate 10 9) (replicate 5 9) 9)
 
 -- what is written: the status is byte 156 of a capture
-abbrev twoKept : ℕ → Salvage
-twoKept left =
+abbrev two_kept : ℕ → Salvage
+two_kept left =
     salvage 229 (put 156 (15 ∷ []) fresh ++ (9 ∷ [])) (1 ∷ 0 ∷ 0 ∷ 0 ∷ 0 ∷ 0 ∷ 1 ∷ 0 ∷ 0 ∷ 9 ∷ []) (1 ∷ 4 ∷ 3 ∷ 2 ∷ 9 ∷ []) left
 
 abbrev alike : Salvage → Salvage → Bool
@@ -86,11 +86,11 @@ alike a b =
     eqb a.written b.written and same a.list b.list and same a.kept b.kept and same a.dropped b.dropped
     and eqb a.left b.left
 
-header-torn : alike (called tornHeader) (twoKept 5) ≡ true
+header-torn : alike (called torn_header) (two_kept 5) ≡ true
 unfolding model
 header-torn = refl
 
-value-torn : alike (called tornValue) (twoKept 19) ≡ true
+value-torn : alike (called torn_value) (two_kept 19) ≡ true
 unfolding model
 value-torn = refl
 
@@ -100,7 +100,7 @@ unfolding model
 returned = refl
 
 -- room for one byte less: nothing is written
-refused : alike (salvageOf 1 features parts (salvage 0 (replicate 228 9) (zeros 9) (zeros 4) 9)) (salvage 0 (replicate 228 9) (zeros 9) (zeros 4) 9) ≡ true
+refused : alike (salvage_of 1 features parts (salvage 0 (replicate 228 9) (zeros 9) (zeros 4) 9)) (salvage 0 (replicate 228 9) (zeros 9) (zeros 4) 9) ≡ true
 unfolding model
 refused = refl
 
@@ -122,13 +122,13 @@ first =
 
 -- each row of the table is there, if the member has it
 abbrev has_row : Row → Bool
-has_row r = if present 1 r then among r.partType r.selector (parts_of Parts fresh) else true
+has_row r = if present 1 r then among r.part_type r.selector (parts_of Parts fresh) else true
 
 has-rows : every (λ k r. has_row r) 0 rows ≡ true
 unfolding model every
 has-rows = refl
 
-undamaged-each : (i : ℕ) → HasRow 1 i → among (row_at i).partType (row_at i).selector (parts_of Parts fresh) ≡ true
+undamaged-each : (i : ℕ) → HasRow 1 i → among (row_at i).part_type (row_at i).selector (parts_of Parts fresh) ≡ true
 unfolding if◌then◌else◌
 undamaged-each i r = rw r.there at (every-row (λ k r. has_row r) has-rows i r.below)
 

@@ -9,12 +9,12 @@ use lib.ListN.{length, get_or, length-set}
 use Rattle.theory.specs.Logic.{unless◌answer◌then◌}
 use Rattle.theory.proofs.Bytes.{length-put}
 use Rattle.theory.proofs.Lists.{set_cases}
-use Rattle.inventory.specs.Inventory.{row_at, offset_of, place_of, onPlace}
+use Rattle.inventory.specs.Inventory.{row_at, offset_of, place_of, on_place}
 use Rattle.inventory.specs.declared.Place.{Place}
 use Rattle.inventory.specs.declared.Place.TheVariants.{At, Absent}
 use Rattle.parts.specs.List.{Part}
-use Rattle.rules.specs.Rules.{known, lengthRight}
-use Rattle.salvage.specs.Salvage.{valueRight, copy, wrongSize, wrongValue, Fate, Kept, Dropped, fateOf}
+use Rattle.rules.specs.Rules.{known, length_right}
+use Rattle.salvage.specs.Salvage.{value_right, copy, wrong_size, wrong_value, Fate, Kept, Dropped, fate_of}
 use Rattle.salvage.specs.Walk.{State, dropping, keeping, taken, Sized}
 
 -- row i is kept
@@ -22,34 +22,34 @@ abbrev pub flag : State → ℕ → Bool
 flag s i = not (eqb (get_or s.kept i 0) 0)
 
 -- the row of a part is
-abbrev pub keptBefore : ℕ → Part → State → Bool
-keptBefore q p s = onPlace (place_of q p.partType p.selector) (flag s) false
+abbrev pub kept_before : ℕ → Part → State → Bool
+kept_before q p s = on_place (place_of q p.part_type p.selector) (flag s) false
 
 -- the state after a part of this fate
 abbrev pub done : ℕ → Fate → Part → State → State
-done q Kept p s = onPlace (place_of q p.partType p.selector) (λ i. keeping s i p.value) s
+done q Kept p s = on_place (place_of q p.part_type p.selector) (λ i. keeping s i p.value) s
 done q (Dropped cause) p s = dropping s cause
 
 -- ---- the fate of a part ----
 
 module _ (q : ℕ) (p : Part) (s : State) where
   -- of a part of row i, by its tests
-  tests : (a b c : Bool) (i : ℕ) → place_of q p.partType p.selector ≡ At i
-      → (unless a answer dropping s copy then unless b answer dropping s wrongSize then unless c answer dropping s wrongValue then keeping s i p.value)
-      ≡ done q (unless not (not a) answer Dropped copy then unless b answer Dropped wrongSize then unless c answer Dropped wrongValue then Kept) p s
+  tests : (a b c : Bool) (i : ℕ) → place_of q p.part_type p.selector ≡ At i
+      → (unless a answer dropping s copy then unless b answer dropping s wrong_size then unless c answer dropping s wrong_value then keeping s i p.value)
+      ≡ done q (unless not (not a) answer Dropped copy then unless b answer Dropped wrong_size then unless c answer Dropped wrong_value then Kept) p s
   unfolding unless◌answer◌then◌
   tests true true true i e = rw e
   tests true true false i e = refl
   tests true false c i e = refl
   tests false b c i e = refl
 
-  pub taken-fate : (features : List ℕ) → taken q features p s ≡ done q (fateOf q features (keptBefore q p s) p) p s
-  unfolding taken fateOf known lengthRight unless◌answer◌then◌
-  taken-fate features = cases (place_of q p.partType p.selector) refl
+  pub taken-fate : (features : List ℕ) → taken q features p s ≡ done q (fate_of q features (kept_before q p s) p) p s
+  unfolding taken fate_of known length_right unless◌answer◌then◌
+  taken-fate features = cases (place_of q p.part_type p.selector) refl
     where
-      cases : (r : Place) → place_of q p.partType p.selector ≡ r
-          → taken q features p s ≡ done q (fateOf q features (keptBefore q p s) p) p s
-      cases (At i) e = rw e (tests (eqb (get_or s.kept i 0) 0) (eqb (length p.value) (row_at i).size) (valueRight features p) i e)
+      cases : (r : Place) → place_of q p.part_type p.selector ≡ r
+          → taken q features p s ≡ done q (fate_of q features (kept_before q p s) p) p s
+      cases (At i) e = rw e (tests (eqb (get_or s.kept i 0) 0) (eqb (length p.value) (row_at i).size) (value_right features p) i e)
       cases Absent e = rw e
 
 -- ---- how long what is lent stays ----
@@ -59,9 +59,9 @@ sized-more n m s h l =
     record { values = h.values; kept = h.kept; dropped = h.dropped; flags = h.flags; counts = λ j. omega (arith, h.counts j) }
 
 pub taken-sized : (q n : ℕ) (features : List ℕ) (p : Part) (s : State) → Sized n s → Sized (n + 1) (taken q features p s)
-taken-sized q n features p s h = rw (taken-fate q p s features) (cases (fateOf q features (keptBefore q p s) p))
+taken-sized q n features p s h = rw (taken-fate q p s features) (cases (fate_of q features (kept_before q p s) p))
   where
-    keeps : (r : Place) → Sized (n + 1) (onPlace r (λ i. keeping s i p.value) s)
+    keeps : (r : Place) → Sized (n + 1) (on_place r (λ i. keeping s i p.value) s)
     keeps (At i) =
         record {
           values = length-put (offset_of i) p.value s.values ∙ h.values;
@@ -73,7 +73,7 @@ taken-sized q n features p s h = rw (taken-fate q p s features) (cases (fateOf q
     keeps Absent = sized-more n (n + 1) s h (omega arith)
 
     cases : (f : Fate) → Sized (n + 1) (done q f p s)
-    cases Kept = keeps (place_of q p.partType p.selector)
+    cases Kept = keeps (place_of q p.part_type p.selector)
     cases (Dropped cause) =
         record {
           values = h.values;

@@ -9,14 +9,14 @@ use lib.Dec.{leb, eqb}
 use lib.ListN.{length}
 use Rattle.theory.specs.Logic.{within}
 use Rattle.theory.proofs.Tests.{both, within-high, and-bits}
-use Rattle.inventory.specs.Inventory.{featuresSize, part_count, partsSize}
-use Rattle.parts.specs.List.{longestList}
+use Rattle.inventory.specs.Inventory.{features_size, part_count, parts_size}
+use Rattle.parts.specs.List.{longest_list}
 use Rattle.salvage.specs.Salvage.{is_taken}
 use Rattle.salvage.specs.Walk.{Fits}
 
 -- the code's tests, joined by `&`
-pub taken-tests : (q f d l k n size count : ℕ) → size ≡ partsSize q → count ≡ part_count q
-    → ((((((leb 1 q && leb q 4) && eqb f featuresSize) && leb d longestList) && leb size l) && leb count k) && leb 4 n) ≡ is_taken q f d l k n
+pub taken-tests : (q f d l k n size count : ℕ) → size ≡ parts_size q → count ≡ part_count q
+    → ((((((leb 1 q && leb q 4) && eqb f features_size) && leb d longest_list) && leb size l) && leb count k) && leb 4 n) ≡ is_taken q f d l k n
 unfolding is_taken within
 taken-tests q f d l k n size count e c = rw (e, c) (simp and-bits)
 

@@ -11,10 +11,10 @@ use Rattle.inventory.specs.Inventory.{row_at, offset_of, place_of}
 use Rattle.inventory.specs.declared.Place.{Place}
 use Rattle.inventory.specs.declared.Place.TheVariants.{At}
 use Rattle.inventory.proofs.Places.{row_in, row_room}
-use Rattle.parts.specs.List.{longestList}
+use Rattle.parts.specs.List.{longest_list}
 use Rattle.salvage.specs.Walk.{state, counted, Sized, Countable}
 
-module _ (v k d : List ℕ) (h : Sized longestList (state v k d)) where
+module _ (v k d : List ℕ) (h : Sized longest_list (state v k d)) where
   pub can-count : (cause : ℕ) → T (ltb cause 4) → Countable d cause
   can-count cause l =
       record { there = omega (arith, h.dropped, ltb→lt cause 4 l); room = omega (arith, h.counts cause) }

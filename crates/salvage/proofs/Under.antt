@@ -11,11 +11,11 @@ use Rattle.theory.specs.Logic.{if◌then◌else◌, unless◌answer◌then◌}
 use Rattle.theory.specs.Bytes.{put}
 use Rattle.theory.proofs.Tests.{by_cases, and_i, within-high}
 use Rattle.theory.proofs.Bytes.{put_front}
-use Rattle.inventory.specs.Inventory.{row_at, present, partsSize, part_count}
+use Rattle.inventory.specs.Inventory.{row_at, present, parts_size, part_count}
 use Rattle.setups.specs.declared.MemberSetup.{MemberSetup}
-use Rattle.setups.specs.Member.{memberSetup}
+use Rattle.setups.specs.Member.{member_setup}
 use Rattle.setups.proofs.Member.{member-in-range}
-use Rattle.salvage.specs.Salvage.{repaired, keptItem, keptReport, droppedReport, Salvage, is_taken, salvaged, refused, salvageOf, salvageUnder}
+use Rattle.salvage.specs.Salvage.{repaired, kept_item, kept_report, dropped_report, Salvage, is_taken, salvaged, refused, salvage_of, salvage_under}
 use Rattle.salvage.specs.Claims.{Asks, Writes, DoneExactly, InSetup}
 use Rattle.salvage.proofs.Flags.{length-one, length-byte}
 use Rattle.salvage.proofs.Refusals.{taken-fits}
@@ -23,40 +23,40 @@ use Rattle.salvage.proofs.Values.{repaired-long}
 
 -- m is what was read of the setup, s what it says
 module _ (m s : MemberSetup) (e : m ≡ s) (damaged : List ℕ) (x b : Salvage) where
-  pub salvage-unknown : not m.known ≡ true → x ≡ refused b → x ≡ salvageUnder s damaged b
-  unfolding salvageUnder unless◌answer◌then◌
+  pub salvage-unknown : not m.known ≡ true → x ≡ refused b → x ≡ salvage_under s damaged b
+  unfolding salvage_under unless◌answer◌then◌
   salvage-unknown h f = rw (← e, not-true m.known h) f
 
-  pub salvage-known : not m.known ≡ false → x ≡ salvageOf m.queues m.features damaged b → x ≡ salvageUnder s damaged b
-  unfolding salvageUnder unless◌answer◌then◌
+  pub salvage-known : not m.known ≡ false → x ≡ salvage_of m.queues m.features damaged b → x ≡ salvage_under s damaged b
+  unfolding salvage_under unless◌answer◌then◌
   salvage-known h f = rw (← e, not-false m.known h) f
 
 -- ---- how long what is written is ----
 
-pub kept-long : (q : ℕ) (features l : List ℕ) → q < 5 → length (keptReport q features l) ≡ part_count q
-unfolding keptReport keptItem
-kept-long q features l few = length-one q (keptItem q features l) few (λ i. length-byte (present q (row_at i)) _)
+pub kept-long : (q : ℕ) (features l : List ℕ) → q < 5 → length (kept_report q features l) ≡ part_count q
+unfolding kept_report kept_item
+kept-long q features l few = length-one q (kept_item q features l) few (λ i. length-byte (present q (row_at i)) _)
 
-pub dropped-long : (q : ℕ) (features l : List ℕ) → length (droppedReport q features l) ≡ 4
-unfolding droppedReport
+pub dropped-long : (q : ℕ) (features l : List ℕ) → length (dropped_report q features l) ≡ 4
+unfolding dropped_report
 dropped-long q features l = refl
 
 -- ---- what is not refused ----
 
 module _ (s : MemberSetup) (known : s.known ≡ true) (g : InSetup s.queues s.features) (damaged : List ℕ) (b : Salvage) where
   -- what is written is the repaired list
-  pub salvage-written : ((salvageUnder s damaged b).written ≡ 0 → ⊥)
-      → take (salvageUnder s damaged b).written (salvageUnder s damaged b).list ≡ repaired s.queues s.features damaged
-  unfolding salvageUnder salvageOf salvaged unless◌answer◌then◌ if◌then◌else◌
+  pub salvage-written : ((salvage_under s damaged b).written ≡ 0 → ⊥)
+      → take (salvage_under s damaged b).written (salvage_under s damaged b).list ≡ repaired s.queues s.features damaged
+  unfolding salvage_under salvage_of salvaged unless◌answer◌then◌ if◌then◌else◌
   salvage-written some =
       let q = s.queues in
       let f = s.features in
       let l = repaired q f damaged in
       by_cases (is_taken q (length f) (length damaged) (length b.list) (length b.kept) (length b.dropped))
       (λ t.
-      let room : partsSize q ≤ length b.list = (taken-fits q f damaged b.list b.kept b.dropped true (sym t) refl).list-room in
+      let room : parts_size q ≤ length b.list = (taken-fits q f damaged b.list b.kept b.dropped true (sym t) refl).list-room in
       let long = repaired-long q f damaged g in
-      rw (known, t, put_front l b.list (omega arith)) (take_at l _ (partsSize q) long))
+      rw (known, t, put_front l b.list (omega arith)) (take_at l _ (parts_size q) long))
       (λ t. absurd (some (rw (known, t))))
 
 -- ---- when it is done ----
@@ -84,18 +84,18 @@ module _ (s : MemberSetup) (damaged : List ℕ) (b : Salvage) where
       let f = taken-fits s.queues s.features damaged b.list b.kept b.dropped true (sym t) refl in
       record { known = k; short = f.short; list = f.list-room; kept = f.kept-room; dropped = f.dropped-room }
 
-  done-is : s.known ≡ true → test ≡ true → salvageUnder s damaged b ≡ salvaged s.queues s.features damaged b
-  unfolding salvageUnder salvageOf unless◌answer◌then◌ if◌then◌else◌
+  done-is : s.known ≡ true → test ≡ true → salvage_under s damaged b ≡ salvaged s.queues s.features damaged b
+  unfolding salvage_under salvage_of unless◌answer◌then◌ if◌then◌else◌
   done-is k t = rw (k, t)
 
-  refused-is : (Asks s damaged b → ⊥) → salvageUnder s damaged b ≡ refused b
-  unfolding salvageUnder salvageOf unless◌answer◌then◌ if◌then◌else◌
+  refused-is : (Asks s damaged b → ⊥) → salvage_under s damaged b ≡ refused b
+  unfolding salvage_under salvage_of unless◌answer◌then◌ if◌then◌else◌
   refused-is n =
       by_cases s.known
       (λ k. by_cases test (λ t. absurd (n (taken-asks k t))) (λ t. rw (k, t)))
       (λ k. rw k)
 
-  done-writes : InSetup s.queues s.features → Asks s damaged b → Writes s damaged b (salvageUnder s damaged b)
+  done-writes : InSetup s.queues s.features → Asks s damaged b → Writes s damaged b (salvage_under s damaged b)
   unfolding salvaged
   done-writes g a =
       let q = s.queues in
@@ -104,15 +104,15 @@ module _ (s : MemberSetup) (damaged : List ℕ) (b : Salvage) where
       rw (done-is a.known (asks-taken g a))
       (record {
         written = refl;
-        list = front (partsSize q) (repaired q f damaged) b.list (repaired-long q f damaged g) a.list;
-        kept = front (part_count q) (keptReport q f damaged) b.kept (kept-long q f damaged few) a.kept;
-        dropped = front 4 (droppedReport q f damaged) b.dropped (dropped-long q f damaged) a.dropped;
+        list = front (parts_size q) (repaired q f damaged) b.list (repaired-long q f damaged g) a.list;
+        kept = front (part_count q) (kept_report q f damaged) b.kept (kept-long q f damaged few) a.kept;
+        dropped = front 4 (dropped_report q f damaged) b.dropped (dropped-long q f damaged) a.dropped;
         left = refl;
       })
 
 pub done-exactly : DoneExactly
 done-exactly setup m damaged b =
-    let s = memberSetup setup m in
+    let s = member_setup setup m in
     record {
       done = λ a.
           let r = member-in-range setup m a.known in

@@ -11,18 +11,18 @@ use Rattle.theory.specs.Logic.{if◌then◌else◌, ◌or◌}
 use Rattle.theory.specs.Bytes.{bytes_at}
 use Rattle.theory.proofs.Tests.{by_cases, both, false-or, within-high, same_true}
 use Rattle.inventory.proofs.Values.{features-value}
-use Rattle.inventory.specs.Inventory.{row_at, deviceFeatures, featuresSize, featuresRow, valuesSize, partsSize, value_of}
-use Rattle.inventory.specs.Queue.{valueAllowed, queuesAllowed}
+use Rattle.inventory.specs.Inventory.{row_at, device_features, features_size, features_row, values_size, parts_size, value_of}
+use Rattle.inventory.specs.Queue.{value_allowed, queues_allowed}
 use Rattle.inventory.proofs.Rules.{row_zero, offset-zero}
 use Rattle.inventory.proofs.Queue.{row-allowed, rows-allowed}
 use Rattle.parts.specs.declared.ListForm.TheVariants.{Parts}
 use Rattle.parts.specs.List.{Part, PartList, end, cut, part, parts_of}
-use Rattle.rules.specs.Rules.{featuresSame, causeOf, isAccepted}
+use Rattle.rules.specs.Rules.{features_same, cause_of, is_accepted}
 use Rattle.capture.proofs.Sizes.{capture-length}
 use Rattle.restore.proofs.RoundTrip.{accepted, capture-value}
 use Rattle.member.specs.Member.{fresh_of}
 use Rattle.member.proofs.Sound.{SoundMember, sound-fresh}
-use Rattle.salvage.specs.Salvage.{valueRight, allowed, isCopy, keptOr, isKept, freshValue, rowValue, repaired}
+use Rattle.salvage.specs.Salvage.{value_right, allowed, is_copy, kept_or, is_kept, fresh_value, row_value, repaired}
 use Rattle.salvage.specs.Claims.{InSetup, HasRow, value_at}
 use Rattle.salvage.proofs.Whole.{end_of, end-sized, end-value, list-is}
 
@@ -30,36 +30,36 @@ use Rattle.salvage.proofs.Whole.{end_of, end-sized, end-value, list-is}
 
 module _ (q : ℕ) (features : List ℕ) (t s : ℕ) where
   -- what holds of each allowed copy and of x holds of what is kept, or else x
-  kept-or : (P : List ℕ → Type 0) (x : List ℕ) → P x → ((p : Part) → isCopy q features t s p ≡ true → P p.value)
-      → (ps : PartList) → P (keptOr q features t s x ps)
-  unfolding keptOr if◌then◌else◌
+  kept-or : (P : List ℕ → Type 0) (x : List ℕ) → P x → ((p : Part) → is_copy q features t s p ≡ true → P p.value)
+      → (ps : PartList) → P (kept_or q features t s x ps)
+  unfolding kept_or if◌then◌else◌
   kept-or P x h f end = h
   kept-or P x h f cut = h
   kept-or P x h f (part p ps) =
-      by_cases (isCopy q features t s p) (λ c. rw c (f p c)) (λ c. rw c (kept-or P x h f ps))
+      by_cases (is_copy q features t s p) (λ c. rw c (f p c)) (λ c. rw c (kept-or P x h f ps))
 
-  pub kept-none : (x : List ℕ) (ps : PartList) → isKept q features t s ps ≡ false → keptOr q features t s x ps ≡ x
-  unfolding keptOr isKept if◌then◌else◌ ◌or◌
+  pub kept-none : (x : List ℕ) (ps : PartList) → is_kept q features t s ps ≡ false → kept_or q features t s x ps ≡ x
+  unfolding kept_or is_kept if◌then◌else◌ ◌or◌
   kept-none x end k = refl
   kept-none x cut k = refl
   kept-none x (part p ps) k =
-      by_cases (isCopy q features t s p) (λ c. let z : true ≡ false = rw c at k in cc) (λ c. rw c (kept-none x ps (rw c at k)))
+      by_cases (is_copy q features t s p) (λ c. let z : true ≡ false = rw c at k in cc) (λ c. rw c (kept-none x ps (rw c at k)))
 
-  copy-named : (p : Part) → isCopy q features t s p ≡ true → p.partType ≡ t
-  unfolding isCopy
+  copy-named : (p : Part) → is_copy q features t s p ≡ true → p.part_type ≡ t
+  unfolding is_copy
   copy-named p c = eqb-true _ _ (both _ _ (both _ _ c).0).0
 
-  copy-right : (p : Part) → isCopy q features t s p ≡ true → valueRight features p ≡ true
-  unfolding isCopy allowed
+  copy-right : (p : Part) → is_copy q features t s p ≡ true → value_right features p ≡ true
+  unfolding is_copy allowed
   copy-right p c = (both _ _ (both _ _ (both _ _ c).1).1).1
 
   -- its value is allowed, and device features are those given
-  copy-allowed : (p : Part) → isCopy q features t s p ≡ true → valueAllowed t p.value ≡ true
-  unfolding valueRight
+  copy-allowed : (p : Part) → is_copy q features t s p ≡ true → value_allowed t p.value ≡ true
+  unfolding value_right
   copy-allowed p c = rw (← copy-named p c) (both _ _ (copy-right p c)).0
 
-  copy-features : t ≡ deviceFeatures → (p : Part) → isCopy q features t s p ≡ true → p.value ≡ features
-  unfolding valueRight featuresSame
+  copy-features : t ≡ device_features → (p : Part) → is_copy q features t s p ≡ true → p.value ≡ features
+  unfolding value_right features_same
   copy-features d p c =
       let f = (both _ _ (copy-right p c)).1 in
       same_true _ _ (sym (false-or _) ∙ rw (eq-eqb _ _ (copy-named p c ∙ d)) at f)
@@ -73,39 +73,39 @@ module _ (q : ℕ) (features l : List ℕ) (g : InSetup q features) where
   pub few : q < 5
   few = omega (arith, within-high 1 4 q g.count)
 
-  long : length v ≡ valuesSize
+  long : length v ≡ values_size
   long = (end-sized q features l g.long).values
 
   -- a fresh member has allowed queues, and these device features
   fresh : SoundMember 0 0 features (fresh_of q features)
   fresh = sound-fresh 0 0 features q g.count g.long
 
-  queues : queuesAllowed q v ≡ true
-  unfolding freshValue fresh_of
+  queues : queues_allowed q v ≡ true
+  unfolding fresh_value fresh_of
   queues =
       rows-allowed q v long
       (λ i h y.
       rw (end-value q features l g.long i h)
-      (kept-or q features (row_at i).partType (row_at i).selector (λ x. valueAllowed (row_at i).partType x ≡ true) (freshValue q features i)
+      (kept-or q features (row_at i).part_type (row_at i).selector (λ x. value_allowed (row_at i).part_type x ≡ true) (fresh_value q features i)
       (row-allowed q (fresh_of q features).values fresh.allowed i h y)
-      (copy-allowed q features (row_at i).partType (row_at i).selector) (parts_of Parts l)))
+      (copy-allowed q features (row_at i).part_type (row_at i).selector) (parts_of Parts l)))
 
-  front : bytes_at 0 featuresSize v ≡ features
-  unfolding freshValue
+  front : bytes_at 0 features_size v ≡ features
+  unfolding fresh_value
   front =
-      let own : value_of v featuresRow ≡ rowValue q features l featuresRow = end-value q features l g.long featuresRow (omega arith) in
-      let kept : rowValue q features l featuresRow ≡ features =
-      kept-or q features (row_at featuresRow).partType (row_at featuresRow).selector (λ x. x ≡ features) (freshValue q features featuresRow)
+      let own : value_of v features_row ≡ row_value q features l features_row = end-value q features l g.long features_row (omega arith) in
+      let kept : row_value q features l features_row ≡ features =
+      kept-or q features (row_at features_row).part_type (row_at features_row).selector (λ x. x ≡ features) (fresh_value q features features_row)
       (rw (offset-zero, row_zero) fresh.kept)
-      (copy-features q features (row_at featuresRow).partType (row_at featuresRow).selector (rw row_zero)) (parts_of Parts l) in
+      (copy-features q features (row_at features_row).part_type (row_at features_row).selector (rw row_zero)) (parts_of Parts l) in
       sym (features-value v) ∙ own ∙ kept
 
-  pub list-passes : isAccepted (causeOf q features (repaired q features l)) ≡ true
-  list-passes = ap isAccepted (rw (front, list-is q features l g.long) at (accepted q v few long queues v refl))
+  pub list-passes : is_accepted (cause_of q features (repaired q features l)) ≡ true
+  list-passes = ap is_accepted (rw (front, list-is q features l g.long) at (accepted q v few long queues v refl))
 
-  pub repaired-long : length (repaired q features l) ≡ partsSize q
+  pub repaired-long : length (repaired q features l) ≡ parts_size q
   repaired-long = rw (← list-is q features l g.long) (capture-length q v few long)
 
-  pub value_written : (i : ℕ) → HasRow q i → value_at i (repaired q features l) ≡ rowValue q features l i
+  pub value_written : (i : ℕ) → HasRow q i → value_at i (repaired q features l) ≡ row_value q features l i
   value_written i r =
       rw (← list-is q features l g.long) (capture-value q v few long i r.below r.there [] ∙ end-value q features l g.long i r.below)

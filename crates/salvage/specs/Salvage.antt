@@ -2,13 +2,13 @@
 use Rattle.std.specs.Prelude.{Bool, false, not, List, [], ◌∷◌, ◌++◌, ℕ, ◌+◌, ◌-◌, leb, eqb, length}
 use Rattle.theory.specs.Logic.{if◌then◌else◌, unless◌answer◌then◌, ◌and◌, ◌or◌, within, indicator}
 use Rattle.theory.specs.Bytes.{put}
-use Rattle.theory.specs.Items.{itemsFrom}
-use Rattle.inventory.specs.Inventory.{row_at, rowCount, featuresSize, present, part_count, partsSize, value_of}
-use Rattle.inventory.specs.Queue.{valueAllowed}
-use Rattle.inventory.specs.Header.{headerSize, headerOf}
+use Rattle.theory.specs.Items.{items_from}
+use Rattle.inventory.specs.Inventory.{row_at, row_count, features_size, present, part_count, parts_size, value_of}
+use Rattle.inventory.specs.Queue.{value_allowed}
+use Rattle.inventory.specs.Header.{header_size, header_of}
 use Rattle.parts.specs.declared.ListForm.TheVariants.{Parts}
-use Rattle.parts.specs.List.{Part, PartList, end, cut, part, parts_of, longestList}
-use Rattle.rules.specs.Rules.{known, lengthRight, featuresSame}
+use Rattle.parts.specs.List.{Part, PartList, end, cut, part, parts_of, longest_list}
+use Rattle.rules.specs.Rules.{known, length_right, features_same}
 use Rattle.member.specs.Member.{fresh_of}
 use Rattle.setups.specs.declared.MemberSetup.{MemberSetup}
 
@@ -16,30 +16,30 @@ use Rattle.setups.specs.declared.MemberSetup.{MemberSetup}
 
 -- the two rules of a known part's value, one cause here: a queue's size is one that a ring has (request 5), and device
 -- features are the setup's
-unfoldable pub valueRight : List ℕ → Part → Bool
-valueRight features p = valueAllowed p.partType p.value and featuresSame features p
+unfoldable pub value_right : List ℕ → Part → Bool
+value_right features p = value_allowed p.part_type p.value and features_same features p
 
 -- what document 01 and request 5 allow: a part of the inventory, as long as the table says, rightly valued
 unfoldable pub allowed : ℕ → List ℕ → Part → Bool
 allowed queues features p =
-    known queues p.partType p.selector and (lengthRight queues p and valueRight features p)
+    known queues p.part_type p.selector and (length_right queues p and value_right features p)
 
 -- an allowed copy of the part of this type and selector
-unfoldable pub isCopy : ℕ → List ℕ → ℕ → ℕ → Part → Bool
-isCopy queues features t s p = eqb p.partType t and eqb p.selector s and allowed queues features p
+unfoldable pub is_copy : ℕ → List ℕ → ℕ → ℕ → Part → Bool
+is_copy queues features t s p = eqb p.part_type t and eqb p.selector s and allowed queues features p
 
 -- the first of these is kept: its value, or x where there is none
-unfoldable pub keptOr : ℕ → List ℕ → ℕ → ℕ → List ℕ → PartList → List ℕ
-keptOr queues features t s x end = x
-keptOr queues features t s x cut = x
-keptOr queues features t s x (part p ps) =
-    if isCopy queues features t s p then p.value else keptOr queues features t s x ps
+unfoldable pub kept_or : ℕ → List ℕ → ℕ → ℕ → List ℕ → PartList → List ℕ
+kept_or queues features t s x end = x
+kept_or queues features t s x cut = x
+kept_or queues features t s x (part p ps) =
+    if is_copy queues features t s p then p.value else kept_or queues features t s x ps
 
 -- whether there is one
-unfoldable pub isKept : ℕ → List ℕ → ℕ → ℕ → PartList → Bool
-isKept queues features t s end = false
-isKept queues features t s cut = false
-isKept queues features t s (part p ps) = isCopy queues features t s p or isKept queues features t s ps
+unfoldable pub is_kept : ℕ → List ℕ → ℕ → ℕ → PartList → Bool
+is_kept queues features t s end = false
+is_kept queues features t s cut = false
+is_kept queues features t s (part p ps) = is_copy queues features t s p or is_kept queues features t s ps
 
 -- ---- the parts that are dropped, up to the first header or value that runs past the end ----
 
@@ -50,83 +50,83 @@ unknown = 0
 abbrev pub copy : ℕ
 copy = 1
 
-abbrev pub wrongSize : ℕ
-wrongSize = 2
+abbrev pub wrong_size : ℕ
+wrong_size = 2
 
-abbrev pub wrongValue : ℕ
-wrongValue = 3
+abbrev pub wrong_value : ℕ
+wrong_value = 3
 
 pub data Fate : Type 0 where
   Kept : Fate
   Dropped : ℕ → Fate
 
 -- what becomes of a part, and whether a copy of it was kept before: the first cause that applies
-unfoldable pub fateOf : ℕ → List ℕ → Bool → Part → Fate
-fateOf queues features before p =
-    unless known queues p.partType p.selector answer Dropped unknown then
+unfoldable pub fate_of : ℕ → List ℕ → Bool → Part → Fate
+fate_of queues features before p =
+    unless known queues p.part_type p.selector answer Dropped unknown then
     unless not before answer Dropped copy then
-    unless lengthRight queues p answer Dropped wrongSize then
-    unless valueRight features p answer Dropped wrongValue then
+    unless length_right queues p answer Dropped wrong_size then
+    unless value_right features p answer Dropped wrong_value then
     Kept
 
-abbrev pub isDropped : ℕ → Fate → Bool
-isDropped cause Kept = false
-isDropped cause (Dropped c) = eqb c cause
+abbrev pub is_dropped : ℕ → Fate → Bool
+is_dropped cause Kept = false
+is_dropped cause (Dropped c) = eqb c cause
 
 -- how many are dropped for a cause, after the parts of `before`; a part that is cut is in no count
-unfoldable pub droppedFrom : ℕ → List ℕ → ℕ → PartList → PartList → ℕ
-droppedFrom queues features cause before end = 0
-droppedFrom queues features cause before cut = 0
-droppedFrom queues features cause before (part p ps) =
-    indicator (isDropped cause (fateOf queues features (isKept queues features p.partType p.selector before) p))
-    + droppedFrom queues features cause (part p before) ps
+unfoldable pub dropped_from : ℕ → List ℕ → ℕ → PartList → PartList → ℕ
+dropped_from queues features cause before end = 0
+dropped_from queues features cause before cut = 0
+dropped_from queues features cause before (part p ps) =
+    indicator (is_dropped cause (fate_of queues features (is_kept queues features p.part_type p.selector before) p))
+    + dropped_from queues features cause (part p before) ps
 
 -- ---- the bytes left over ----
 
 -- the bytes of the whole parts
-unfoldable pub bytesRead : PartList → ℕ
-bytesRead end = 0
-bytesRead cut = 0
-bytesRead (part p ps) = headerSize + length p.value + bytesRead ps
+unfoldable pub bytes_read : PartList → ℕ
+bytes_read end = 0
+bytes_read cut = 0
+bytes_read (part p ps) = header_size + length p.value + bytes_read ps
 
 -- from the start of the header at which the walk stopped
-abbrev pub leftOver : List ℕ → ℕ
-leftOver damaged = length damaged - bytesRead (parts_of Parts damaged)
+abbrev pub left_over : List ℕ → ℕ
+left_over damaged = length damaged - bytes_read (parts_of Parts damaged)
 
 -- ---- what is written ----
 
 -- a row's value of a fresh member: SPEC 2.5
-unfoldable pub freshValue : ℕ → List ℕ → ℕ → List ℕ
-freshValue queues features i = value_of (fresh_of queues features).values i
+unfoldable pub fresh_value : ℕ → List ℕ → ℕ → List ℕ
+fresh_value queues features i = value_of (fresh_of queues features).values i
 
 module _ (queues : ℕ) (features damaged : List ℕ) where
-  abbrev pub isKeptRow : ℕ → Bool
-  isKeptRow i = isKept queues features (row_at i).partType (row_at i).selector (parts_of Parts damaged)
+  abbrev pub is_kept_row : ℕ → Bool
+  is_kept_row i = is_kept queues features (row_at i).part_type (row_at i).selector (parts_of Parts damaged)
 
   -- what is missing has the fresh value
-  abbrev pub rowValue : ℕ → List ℕ
-  rowValue i =
-      keptOr queues features (row_at i).partType (row_at i).selector (freshValue queues features i) (parts_of Parts damaged)
+  abbrev pub row_value : ℕ → List ℕ
+  row_value i =
+      kept_or queues features (row_at i).part_type (row_at i).selector (fresh_value queues features i) (parts_of Parts damaged)
 
   -- the table's headers in the table's order
-  unfoldable pub repairedItem : ℕ → List ℕ
-  repairedItem i = if present queues (row_at i) then headerOf (row_at i) ++ rowValue i else []
+  unfoldable pub repaired_item : ℕ → List ℕ
+  repaired_item i = if present queues (row_at i) then header_of (row_at i) ++ row_value i else []
 
   unfoldable pub repaired : List ℕ
-  repaired = itemsFrom repairedItem rowCount 0
+  repaired = items_from repaired_item row_count 0
 
   -- for every part of the inventory 1 if it is kept, 0 if it is filled
-  unfoldable pub keptItem : ℕ → List ℕ
-  keptItem i = if present queues (row_at i) then indicator (isKeptRow i) ∷ [] else []
+  unfoldable pub kept_item : ℕ → List ℕ
+  kept_item i = if present queues (row_at i) then indicator (is_kept_row i) ∷ [] else []
 
-  unfoldable pub keptReport : List ℕ
-  keptReport = itemsFrom keptItem rowCount 0
+  unfoldable pub kept_report : List ℕ
+  kept_report = items_from kept_item row_count 0
 
-  unfoldable pub droppedReport : List ℕ
-  droppedReport = count unknown ∷ count copy ∷ count wrongSize ∷ count wrongValue ∷ []
+  unfoldable pub dropped_report : List ℕ
+  dropped_report = count unknown ∷ count copy ∷ count wrong_size ∷ count wrong_value ∷ []
     where
       count : ℕ → ℕ
-      count cause = droppedFrom queues features cause end (parts_of Parts damaged)
+      count cause = dropped_from queues features cause end (parts_of Parts damaged)
 
 -- ---- the call ----
 
@@ -146,28 +146,28 @@ salvage written list kept dropped left =
 -- written, each by its length
 unfoldable pub is_taken : ℕ → ℕ → ℕ → ℕ → ℕ → ℕ → Bool
 is_taken queues features damaged list kept dropped =
-    within 1 4 queues and eqb features featuresSize and leb damaged longestList
-    and leb (partsSize queues) list and leb (part_count queues) kept and leb 4 dropped
+    within 1 4 queues and eqb features features_size and leb damaged longest_list
+    and leb (parts_size queues) list and leb (part_count queues) kept and leb 4 dropped
 
 -- b is what was there before the call
 unfoldable pub salvaged : ℕ → List ℕ → List ℕ → Salvage → Salvage
 salvaged queues features damaged b =
-    salvage (partsSize queues)
+    salvage (parts_size queues)
     (put 0 (repaired queues features damaged) b.list)
-    (put 0 (keptReport queues features damaged) b.kept)
-    (put 0 (droppedReport queues features damaged) b.dropped)
-    (leftOver damaged)
+    (put 0 (kept_report queues features damaged) b.kept)
+    (put 0 (dropped_report queues features damaged) b.dropped)
+    (left_over damaged)
 
 -- what is refused writes nothing
 abbrev pub refused : Salvage → Salvage
 refused b = salvage 0 b.list b.kept b.dropped b.left
 
-unfoldable pub salvageOf : ℕ → List ℕ → List ℕ → Salvage → Salvage
-salvageOf queues features damaged b =
+unfoldable pub salvage_of : ℕ → List ℕ → List ℕ → Salvage → Salvage
+salvage_of queues features damaged b =
     if is_taken queues (length features) (length damaged) (length b.list) (length b.kept) (length b.dropped)
     then salvaged queues features damaged b
     else refused b
 
 -- s is what the setup says of the member; a bad setup, or a number that is no member's, is refused by the same name
-unfoldable pub salvageUnder : MemberSetup → List ℕ → Salvage → Salvage
-salvageUnder s damaged b = unless s.known answer refused b then salvageOf s.queues s.features damaged b
+unfoldable pub salvage_under : MemberSetup → List ℕ → Salvage → Salvage
+salvage_under s damaged b = unless s.known answer refused b then salvage_of s.queues s.features damaged b

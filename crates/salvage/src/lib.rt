@@ -1,9 +1,9 @@
 // A damaged list of parts made into one that step 10 passes, with a report: 02, request 8.
 ghost use Rattle.std.specs.Prelude.{◌≡◌, ◌≤◌, length};
 ghost use Rattle.theory.specs.Bytes.{put};
-ghost use Rattle.parts.specs.List.{partWith, longestList};
-ghost use Rattle.setups.specs.Member.{memberSetup};
-ghost use Rattle.salvage.specs.Salvage.{valueRight, salvage, salvaged, is_taken, salvageOf, salvageUnder};
+ghost use Rattle.parts.specs.List.{part_with, longest_list};
+ghost use Rattle.setups.specs.Member.{member_setup};
+ghost use Rattle.salvage.specs.Salvage.{value_right, salvage, salvaged, is_taken, salvage_of, salvage_under};
 ghost use Rattle.salvage.specs.Walk.{counted, state, taken, Sized, Countable, Walked, Begins, flags_of, KeptFits, Fits};
 
 use inventory::{DEVICE_FEATURES, Place, ROWS, SELECTORS, TYPES};
@@ -23,7 +23,7 @@ const CAUSES: usize = 4;
 
 // Whether a known part's value is right: a queue's size is one that a ring has, and device features are those given.
 fn is_value_right(features: &[u8], t: u16, value: &[u8]) -> bool
-    ensures { result ≡ valueRight features.now (partWith t 0 0 value.now) }
+    ensures { result ≡ value_right features.now (part_with t 0 0 value.now) }
 {
     if !inventory::is_value_allowed(t, value) {
         return false;
@@ -53,8 +53,8 @@ fn take_part(
     selector: u64,
     value: &[u8],
 )
-    requires { Sized longestList (state values.old kept.old dropped.old) }
-    ensures { state values.new kept.new dropped.new ≡ taken queues features.now (partWith t 0 selector value.now) (state values.old kept.old dropped.old) }
+    requires { Sized longest_list (state values.old kept.old dropped.old) }
+    ensures { state values.new kept.new dropped.new ≡ taken queues features.now (part_with t 0 selector value.now) (state values.old kept.old dropped.old) }
 {
     let Place::At(i) = inventory::place_of(queues, t, selector) else {
         count(dropped, UNKNOWN);
@@ -211,7 +211,7 @@ fn salvage_in(
     dropped: &mut [u32],
     left: &mut usize,
 ) -> usize
-    ensures { salvage result list.new kept.new dropped.new left.new ≡ salvageOf queues features.now damaged.now (salvage 0 list.old kept.old dropped.old left.old) }
+    ensures { salvage result list.new kept.new dropped.new left.new ≡ salvage_of queues features.now damaged.now (salvage 0 list.old kept.old dropped.old left.old) }
 {
     if !is_taken(
         queues,
@@ -236,7 +236,7 @@ pub fn salvage(
     dropped: &mut [u32],
     left: &mut usize,
 ) -> usize
-    ensures { salvage result list.new kept.new dropped.new left.new ≡ salvageUnder (memberSetup setup.now member) damaged.now (salvage 0 list.old kept.old dropped.old left.old) }
+    ensures { salvage result list.new kept.new dropped.new left.new ≡ salvage_under (member_setup setup.now member) damaged.now (salvage 0 list.old kept.old dropped.old left.old) }
 {
     let m = setups::member_setup(setup, member);
     if !m.known {

@@ -10,7 +10,7 @@ use Rattle.theory.proofs.Tests.{by_cases, tests}
 use Rattle.theory.specs.Logic.{◌and◌}
 use Rattle.theory.specs.Bytes.{put}
 use Rattle.setups.specs.Bits.{bit, bits_at}
-use Rattle.setups.specs.Setup.{all, noCounts, sixteen, setupWith}
+use Rattle.setups.specs.Setup.{all, no_counts, sixteen, setup_with}
 use Rattle.setups.specs.Writing.{written}
 use Rattle.setups.specs.Accepted.{GoodSetup, EqualCounts, Packed1, Packed2}
 use Rattle.setups.specs.Examples.{zeros, features, bench, five}
@@ -26,8 +26,8 @@ one-queue = record {
   some = omega arith;
   few = omega arith;
   each = refl;
-  fewGets = omega arith;
-  fewSets = omega arith;
+  few_gets = omega arith;
+  few_sets = omega arith;
   long = refl;
   least = λ i h. let e : i ≡ 0 = omega arith in rw e (omega arith);
   most = λ i h. let e : i ≡ 0 = omega arith in rw e (omega arith);
@@ -46,7 +46,7 @@ differ e = let h : ◌≡◌ {A = ℕ} 2 1 = e 1 (omega arith) in omega arith
 
 bench-packed : Packed1 bench
 unfolding bit bits_at
-bench-packed = record { version = refl; long = refl; fewGets = omega arith; fewSets = omega arith; zeros = refl }
+bench-packed = record { version = refl; long = refl; few_gets = omega arith; few_sets = omega arith; zeros = refl }
 
 five-packed : Packed2 5 five
 unfolding bit bits_at
@@ -54,9 +54,9 @@ five-packed = record {
   version = refl;
   members = refl;
   long = refl;
-  noCount = refl;
-  fewGets = omega arith;
-  fewSets = omega arith;
+  no_count = refl;
+  few_gets = omega arith;
+  few_sets = omega arith;
   zeros = refl;
   padding = refl;
 }
@@ -70,7 +70,7 @@ five-bytes i =
     (λ h. let k : length five ≤ i = omega tests in rw (get_or-eq_default five 0 k) (omega arith))
 
 five-back : written (replicate 21 0) 5 (1 ∷ 2 ∷ 3 ∷ 4 ∷ 4 ∷ []) 8 5 features ≡ (21, five ++ [])
-unfolding put noCounts sixteen
+unfolding put no_counts sixteen
 five-back =
-    claims.writtenBack five (replicate 21 0) five-bytes (omega arith)
-    (setupWith 5 (1 ∷ 2 ∷ 3 ∷ 4 ∷ 4 ∷ []) 8 5 features) read-five (λ v. differ)
+    claims.written_back five (replicate 21 0) five-bytes (omega arith)
+    (setup_with 5 (1 ∷ 2 ∷ 3 ∷ 4 ∷ 4 ∷ []) 8 5 features) read-five (λ v. differ)

@@ -10,8 +10,8 @@ use Rattle.theory.specs.Logic.{if◌then◌else◌}
 use Rattle.theory.proofs.Tests.{by_cases, never}
 use Rattle.theory.proofs.Bytes.{put_front, drop-after}
 use Rattle.setups.specs.declared.ReadAnswer.TheVariants.{Done, Version2}
-use Rattle.setups.specs.Reading.{versionIn, readVersion1, readSetup}
-use Rattle.setups.specs.Writing.{packedSetup, written}
+use Rattle.setups.specs.Reading.{version_in, read_version1, read_setup}
+use Rattle.setups.specs.Writing.{packed_setup, written}
 use Rattle.setups.specs.Claims.{ReadsBack, InRange, Claims}
 use Rattle.setups.proofs.ReadBack.{reads-back, reads-version-1}
 use Rattle.setups.proofs.InRange.{read-cases}
@@ -22,23 +22,23 @@ use Rattle.setups.proofs.WrittenBack.{written_back}
 -- ---- the writer ----
 
 module _ (buffer : List ℕ) (members : ℕ) (q : List ℕ) (gets sets : ℕ) (features : List ℕ) where
-  not-empty : length features ≤ length (packedSetup members q gets sets features)
-  unfolding packedSetup
+  not-empty : length features ≤ length (packed_setup members q gets sets features)
+  unfolding packed_setup
   not-empty = rw length-append (omega arith)
 
   module _ (n : ℕ) (b : List ℕ) (e : ◌≡◌ {A = ℕ × List ℕ} (n, b) (written buffer members q gets sets features)) where
     refused-leaves : ◌≡◌ {A = ℕ × List ℕ} (n, b) (0, buffer) → b ≡ buffer
     refused-leaves d = ap (λ (x : ℕ × List ℕ). x.1) d
 
-    read_back : (n ≡ 0 → ⊥) → ReadsBack buffer members q gets sets features n b
-    read_back z = written-cases buffer members q gets sets features n b e (λ d. absurd (z (ap (λ (x : ℕ × List ℕ). x.0) d))) λ s.
-        let x = packedSetup members q gets sets features in
+    read-back : (n ≡ 0 → ⊥) → ReadsBack buffer members q gets sets features n b
+    read-back z = written-cases buffer members q gets sets features n b e (λ d. absurd (z (ap (λ (x : ℕ × List ℕ). x.0) d))) λ s.
+        let x = packed_setup members q gets sets features in
         let k : n ≡ length x = s.count in
         let t : take n b ≡ x = rw (s.after, put_front x buffer s.fits) (take_at x _ n (sym k)) in
         record {
-          sameSetup = rw t (reads-back members q gets sets s.numbers features s.long);
-          byVersion1 = rw t (reads-version-1 members q gets sets s.numbers features s.long);
-          restKept = rw s.after (drop-after n 0 x buffer (omega arith));
+          same_setup = rw t (reads-back members q gets sets s.numbers features s.long);
+          by_version1 = rw t (reads-version-1 members q gets sets s.numbers features s.long);
+          rest_kept = rw s.after (drop-after n 0 x buffer (omega arith));
         }
 
     nothing_written : n ≡ 0 → b ≡ buffer
@@ -46,16 +46,16 @@ module _ (buffer : List ℕ) (members : ℕ) (q : List ℕ) (gets sets : ℕ) (f
 
 -- ---- the readers ----
 
-read_alike : (l : List ℕ) → (readVersion1 l).answer ≡ Done → readSetup l ≡ readVersion1 l
-unfolding readVersion1 readSetup if◌then◌else◌
-read_alike l e = by_cases (eqb (versionIn l) 2) (λ t. let d = rw t at e in cc) (λ t. rw t)
+read_alike : (l : List ℕ) → (read_version1 l).answer ≡ Done → read_setup l ≡ read_version1 l
+unfolding read_version1 read_setup if◌then◌else◌
+read_alike l e = by_cases (eqb (version_in l) 2) (λ t. let d = rw t at e in cc) (λ t. rw t)
 
-never-named : (l : List ℕ) → (readSetup l).answer ≡ Version2 → ⊥
+never-named : (l : List ℕ) → (read_setup l).answer ≡ Version2 → ⊥
 never-named l =
     read-cases (λ o. o.answer ≡ Version2 → ⊥) l (λ e. never cc)
     (λ s r e. never cc)
 
-in-range : (l : List ℕ) → (readSetup l).answer ≡ Done → InRange (readSetup l).setup
+in-range : (l : List ℕ) → (read_setup l).answer ≡ Done → InRange (read_setup l).setup
 in-range l =
     read-cases (λ o. o.answer ≡ Done → InRange o.setup) l (λ e. never cc)
     (λ s r e. r)
@@ -64,11 +64,11 @@ pub claims : Claims
 claims = record {
   writer = writes;
   readers = reads;
-  readsBack = read_back;
+  reads_back = read-back;
   unwritten = λ buffer members q gets sets features b e. nothing_written buffer members q gets sets features 0 b e refl;
   alike = read_alike;
-  neverNamed = never-named;
+  never_named = never-named;
   in_range = in-range;
-  memberInRange = member-in-range;
-  writtenBack = λ l buffer h room. written_back l h buffer room;
+  member_in_range = member-in-range;
+  written_back = λ l buffer h room. written_back l h buffer room;
 }

@@ -13,7 +13,7 @@ use lib.Pow.{pow_mono, shr-shr, field, high, low, mod-mod-pow, mod-pow-add}
 use lib.Seq.{get_or_at}
 use borrow.Author.Tests.{ltb-true}
 use Rattle.theory.proofs.Tests.{by_cases, tests}
-use Rattle.setups.specs.Bits.{bit, bits_at, Field, widths, joined, bigEndian, packed}
+use Rattle.setups.specs.Bits.{bit, bits_at, Field, widths, joined, big_endian, packed}
 
 -- ---- reading ----
 
@@ -73,13 +73,13 @@ joined-append x (y ∷ f) g = joined-append (x * 2 ^ y.width + y.value) f g
 
 -- ---- the bytes of a number: any bits of them are the number's ----
 
-pub length-big : (n x : ℕ) → length (bigEndian n x) ≡ n
-unfolding bigEndian
+pub length-big : (n x : ℕ) → length (big_endian n x) ≡ n
+unfolding big_endian
 length-big zero x = refl
 length-big (suc n) x = rw (length-append, length-big n (x / 256)) (omega arith)
 
-byte_of : (n x j : ℕ) (rest : List ℕ) → j < n → get_or (bigEndian n x ++ rest) j 0 ≡ x / 2 ^ (8 * (n - 1 - j)) % 256
-unfolding bigEndian
+byte_of : (n x j : ℕ) (rest : List ℕ) → j < n → get_or (big_endian n x ++ rest) j 0 ≡ x / 2 ^ (8 * (n - 1 - j)) % 256
+unfolding big_endian
 byte_of zero x j rest h = absurd (omega arith)
 byte_of (suc n) x j rest h =
     rw append_assoc (by_cases (ltb j n)
@@ -88,11 +88,11 @@ byte_of (suc n) x j rest h =
     let d : 8 + 8 * (n - 1 - j) ≡ 8 * (suc n - 1 - j) = omega arith in
     byte_of n (x / 256) j (x % 256 ∷ rest) k ∙ rw (shr-shr x 8 (8 * (n - 1 - j)), d))
     (λ e.
-    let k : length (bigEndian n (x / 256)) ≡ j = length-big n (x / 256) ∙ omega tests in
+    let k : length (big_endian n (x / 256)) ≡ j = length-big n (x / 256) ∙ omega tests in
     let d : 8 * (suc n - 1 - j) ≡ 0 = omega tests in
-    get_or_at (bigEndian n (x / 256)) (x % 256) rest 0 j k ∙ rw d (omega arith)))
+    get_or_at (big_endian n (x / 256)) (x % 256) rest 0 j k ∙ rw d (omega arith)))
 
-bit-of : (n x k : ℕ) (rest : List ℕ) → k < 8 * n → bit k (bigEndian n x ++ rest) ≡ x / 2 ^ (8 * n - 1 - k) % 2
+bit-of : (n x k : ℕ) (rest : List ℕ) → k < 8 * n → bit k (big_endian n x ++ rest) ≡ x / 2 ^ (8 * n - 1 - k) % 2
 unfolding bit
 bit-of n x k rest h =
     let y = x / 2 ^ (8 * (n - 1 - k / 8)) in
@@ -103,7 +103,7 @@ bit-of n x k rest h =
     rw (byte_of n x (k / 8) rest (omega arith), f, mod-mod-pow (y / 2 ^ s) (k % 8) 1, shr-shr x (8 * (n - 1 - k / 8)) s, d)
 
 -- THE LAW: the number at a position, of a width
-pub bits_of : (n x at w : ℕ) (rest : List ℕ) → at + w ≤ 8 * n → bits_at at w (bigEndian n x ++ rest) ≡ x / 2 ^ (8 * n - at - w) % 2 ^ w
+pub bits_of : (n x at w : ℕ) (rest : List ℕ) → at + w ≤ 8 * n → bits_at at w (big_endian n x ++ rest) ≡ x / 2 ^ (8 * n - at - w) % 2 ^ w
 unfolding bits_at
 bits_of n x at zero rest h = sym (mod-one _)
 bits_of n x at (suc w) rest h =
@@ -134,13 +134,13 @@ pub data Reads (l : List ℕ) : ℕ → List Field → Type 0 where
   none : {at : ℕ} → Reads l at []
   more : {at : ℕ} {f : Field} {fs : List Field} → bits_at at f.width l ≡ f.value → Reads l (at + f.width) fs → Reads l at (f ∷ fs)
 
-reads-from : {fs : List Field} (n x at : ℕ) (rest : List ℕ) → Fit fs → at + widths fs ≡ 8 * n → Reads (bigEndian n (joined x fs) ++ rest) at fs
+reads-from : {fs : List Field} (n x at : ℕ) (rest : List ℕ) → Fit fs → at + widths fs ≡ 8 * n → Reads (big_endian n (joined x fs) ++ rest) at fs
 unfolding joined widths
 reads-from n x at rest none e = none
 reads-from n x at rest (more {fs} f h k) e =
     let y = x * 2 ^ f.width + f.value in
     let d : 8 * n - at - f.width ≡ widths fs = omega arith in
-    let b : bits_at at f.width (bigEndian n (joined y fs) ++ rest) ≡ f.value =
+    let b : bits_at at f.width (big_endian n (joined y fs) ++ rest) ≡ f.value =
     bits_of n (joined y fs) at f.width rest (omega arith) ∙ rw (d, joined-high y k) (low x f.width h) in
     more b (reads-from n y (at + f.width) rest k (omega arith))
 

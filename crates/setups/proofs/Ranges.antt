@@ -10,7 +10,7 @@ use lib.ListN.{length, get_or, drop, drop_of_length-le}
 use lib.Seq.{drop-cons}
 use Rattle.theory.specs.Logic.{◌and◌}
 use Rattle.theory.proofs.Tests.{true-and, false-and, both, and_i, within_low, within-high}
-use Rattle.setups.specs.Setup.{mostMembers, inRanges, all, isCount, inNumbers}
+use Rattle.setups.specs.Setup.{most_members, in_ranges, all, is_count, in_numbers}
 use Rattle.setups.specs.Writing.{InNumbers}
 
 -- the numbers before i passed, and the rest decides
@@ -43,23 +43,23 @@ all_of f [] h = refl
 all_of f (x ∷ l) h = and_i _ _ (h 0 (omega arith)) (all_of f l λ i k. h (suc i) (omega arith))
 
 -- a queue count less one
-pub count_less : (q : ℕ) → isCount q ≡ true → q - 1 ≤ 3
+pub count_less : (q : ℕ) → is_count q ≡ true → q - 1 ≤ 3
 count_less q e = omega (arith, within-high 1 4 q e)
 
 -- ---- the numbers of a setup ----
 
-pub numbers-in : (members : ℕ) (q : List ℕ) (gets sets : ℕ) → inNumbers members q gets sets ≡ true → InNumbers members q gets sets
-unfolding inNumbers inRanges
+pub numbers-in : (members : ℕ) (q : List ℕ) (gets sets : ℕ) → in_numbers members q gets sets ≡ true → InNumbers members q gets sets
+unfolding in_numbers in_ranges
 numbers-in members q gets sets e =
     let a = both _ _ e in
     let b = both _ _ a.0 in
     let c = both _ _ b.0 in
     let d = both _ _ c.0 in
     record {
-      some = within_low 1 mostMembers members d.0;
-      few = within-high 1 mostMembers members d.0;
+      some = within_low 1 most_members members d.0;
+      few = within-high 1 most_members members d.0;
       each = eqb-true (length q) members b.1;
       counts = a.1;
-      fewGets = leb-true gets 8 d.1;
-      fewSets = leb-true sets 8 c.1;
+      few_gets = leb-true gets 8 d.1;
+      few_sets = leb-true sets 8 c.1;
     }

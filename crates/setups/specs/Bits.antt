@@ -33,10 +33,10 @@ joined x [] = x
 joined x (f ∷ fs) = joined (x * 2 ^ f.width + f.value) fs
 
 -- the n low bytes of a number, the highest first
-unfoldable pub bigEndian : ℕ → ℕ → List ℕ
-bigEndian zero x = []
-bigEndian (suc n) x = bigEndian n (x / 256) ++ (x % 256 ∷ [])
+unfoldable pub big_endian : ℕ → ℕ → List ℕ
+big_endian zero x = []
+big_endian (suc n) x = big_endian n (x / 256) ++ (x % 256 ∷ [])
 
 -- the bytes of fields that fill whole bytes
 unfoldable pub packed : List Field → List ℕ
-packed fs = bigEndian (widths fs / 8) (joined 0 fs)
+packed fs = big_endian (widths fs / 8) (joined 0 fs)

@@ -4,54 +4,54 @@ use Rattle.theory.specs.Logic.{if◌then◌else◌}
 use Rattle.setups.specs.declared.Setup.{Setup}
 use Rattle.setups.specs.declared.MemberSetup.{MemberSetup}
 use Rattle.setups.specs.declared.ReadAnswer.TheVariants.{Done, Version2}
-use Rattle.setups.specs.Setup.{featuresSize, isCount, inNumbers, setupWith}
-use Rattle.setups.specs.Reading.{readAs, refusedAs, readVersion1, readSetup}
-use Rattle.setups.specs.Member.{memberSetup}
+use Rattle.setups.specs.Setup.{features_size, is_count, in_numbers, setup_with}
+use Rattle.setups.specs.Reading.{read_as, refused_as, read_version1, read_setup}
+use Rattle.setups.specs.Member.{member_setup}
 use Rattle.setups.specs.Bits.{bits_at}
-use Rattle.setups.specs.Writing.{areEqual, written}
+use Rattle.setups.specs.Writing.{are_equal, written}
 use Rattle.setups.specs.Accepted.{EqualCounts, Writer, Readers}
 
 -- n bytes of a setup were written at the front of a buffer, which is b now: they read back the same, where the counts are
 -- equal by the reader of version 1 too, and the rest of the buffer keeps its bytes
 pub record ReadsBack (buffer : List ℕ) (members : ℕ) (queues : List ℕ) (gets sets : ℕ) (features : List ℕ) (n : ℕ) (b : List ℕ) : Type 0 where
-  pub sameSetup : readSetup (take n b) ≡ readAs (setupWith members queues gets sets features)
-  pub byVersion1 : readVersion1 (take n b)
-      ≡ (if areEqual queues then readAs (setupWith members queues gets sets features) else refusedAs Version2)
-  pub restKept : drop n b ≡ drop n buffer
+  pub same_setup : read_setup (take n b) ≡ read_as (setup_with members queues gets sets features)
+  pub by_version1 : read_version1 (take n b)
+      ≡ (if are_equal queues then read_as (setup_with members queues gets sets features) else refused_as Version2)
+  pub rest_kept : drop n b ≡ drop n buffer
 
 -- the queue counts of the members of a setup that was read
-abbrev pub countsRead : Setup → List ℕ
-countsRead s = take s.members s.queues
+abbrev pub counts_read : Setup → List ℕ
+counts_read s = take s.members s.queues
 
 -- a setup that was read: its numbers are in range, and there are 16 bytes of features
 pub record InRange (s : Setup) : Type 0 where
-  pub numbers : inNumbers s.members (countsRead s) s.gets s.sets ≡ true
-  pub features : length s.features ≡ featuresSize
+  pub numbers : in_numbers s.members (counts_read s) s.gets s.sets ≡ true
+  pub features : length s.features ≡ features_size
 
 -- what a setup says of a member
 pub record MemberInRange (s : MemberSetup) : Type 0 where
-  pub count : isCount s.queues ≡ true
-  pub features : length s.features ≡ featuresSize
+  pub count : is_count s.queues ≡ true
+  pub features : length s.features ≡ features_size
 
 pub record Claims : Type 0 where
   -- which setups are written, and which packed ones are read
   pub writer : (buffer : List ℕ) (members : ℕ) (queues : List ℕ) (gets sets : ℕ) (features : List ℕ)
       → Writer buffer members queues gets sets features
   pub readers : (l : List ℕ) → Readers l
-  pub readsBack : (buffer : List ℕ) (members : ℕ) (queues : List ℕ) (gets sets : ℕ) (features : List ℕ) (n : ℕ) (b : List ℕ)
+  pub reads_back : (buffer : List ℕ) (members : ℕ) (queues : List ℕ) (gets sets : ℕ) (features : List ℕ) (n : ℕ) (b : List ℕ)
       → ◌≡◌ {A = ℕ × List ℕ} (n, b) (written buffer members queues gets sets features) → (n ≡ 0 → ⊥)
       → ReadsBack buffer members queues gets sets features n b
   -- a refusal writes nothing
   pub unwritten : (buffer : List ℕ) (members : ℕ) (queues : List ℕ) (gets sets : ℕ) (features b : List ℕ)
       → ◌≡◌ {A = ℕ × List ℕ} (0, b) (written buffer members queues gets sets features) → b ≡ buffer
   -- what the reader of version 1 takes the reader of both takes alike
-  pub alike : (l : List ℕ) → (readVersion1 l).answer ≡ Done → readSetup l ≡ readVersion1 l
+  pub alike : (l : List ℕ) → (read_version1 l).answer ≡ Done → read_setup l ≡ read_version1 l
   -- the reader of both never refuses version 2 by name
-  pub neverNamed : (l : List ℕ) → (readSetup l).answer ≡ Version2 → ⊥
-  pub in_range : (l : List ℕ) → (readSetup l).answer ≡ Done → InRange (readSetup l).setup
-  pub memberInRange : (l : List ℕ) (m : ℕ) → (memberSetup l m).known ≡ true → MemberInRange (memberSetup l m)
+  pub never_named : (l : List ℕ) → (read_setup l).answer ≡ Version2 → ⊥
+  pub in_range : (l : List ℕ) → (read_setup l).answer ≡ Done → InRange (read_setup l).setup
+  pub member_in_range : (l : List ℕ) (m : ℕ) → (member_setup l m).known ≡ true → MemberInRange (member_setup l m)
   -- what is read as version 1, or as version 2 with counts that differ, is written back to the same bytes
-  pub writtenBack : (l buffer : List ℕ) → ((i : ℕ) → get_or l i 0 < 256) → length l ≤ length buffer
-      → (s : Setup) → readSetup l ≡ readAs s
-      → (bits_at 0 4 l ≡ 2 → EqualCounts (countsRead s) → ⊥)
-      → written buffer s.members (countsRead s) s.gets s.sets s.features ≡ (length l, l ++ drop (length l) buffer)
+  pub written_back : (l buffer : List ℕ) → ((i : ℕ) → get_or l i 0 < 256) → length l ≤ length buffer
+      → (s : Setup) → read_setup l ≡ read_as s
+      → (bits_at 0 4 l ≡ 2 → EqualCounts (counts_read s) → ⊥)
+      → written buffer s.members (counts_read s) s.gets s.sets s.features ≡ (length l, l ++ drop (length l) buffer)

@@ -3,9 +3,9 @@ use Rattle.std.specs.Prelude.{◌≡◌, true, List, [], ◌∷◌, ◌++◌, ma
 use Rattle.setups.specs.declared.ReadAnswer.TheVariants.{Version2, Refused}
 use Rattle.setups.specs.declared.ReadOutcome.{ReadOutcome}
 use Rattle.setups.specs.declared.MemberSetup.{MemberSetup}
-use Rattle.setups.specs.Setup.{setupWith}
-use Rattle.setups.specs.Reading.{readAs, refusedAs, readVersion1, readSetup}
-use Rattle.setups.specs.Member.{noMember, memberSetup}
+use Rattle.setups.specs.Setup.{setup_with}
+use Rattle.setups.specs.Reading.{read_as, refused_as, read_version1, read_setup}
+use Rattle.setups.specs.Member.{no_member, member_setup}
 use Rattle.setups.specs.Writing.{written}
 
 abbrev pub zeros : List ℕ
@@ -40,8 +40,8 @@ abbrev pub writes : ℕ → ℕ → List ℕ → ℕ → ℕ → List ℕ → �
 writes room members queues gets sets features count after =
     record { room = room; members = members; queues = queues; gets = gets; sets = sets; features = features; count = count; after = after }
 
-unfoldable pub setupsWritten : List Write
-setupsWritten =
+unfoldable pub setups_written : List Write
+setups_written =
     writes 20 2 (1 ∷ 1 ∷ []) 1 1 zeros 19 (bench ++ (9 ∷ []))
     ∷ writes 21 5 (1 ∷ 2 ∷ 3 ∷ 4 ∷ 4 ∷ []) 8 5 features 21 five
     -- one member, and sixteen of 4 queues, are version 1; sixteen that differ are 23 bytes
@@ -65,8 +65,8 @@ setupsWritten =
 
 abbrev pub SetupsWritten : Type 0
 SetupsWritten =
-    map (λ (w : Write). written (replicate w.room 9) w.members w.queues w.gets w.sets w.features) setupsWritten
-    ≡ map (λ (w : Write). (w.count, w.after)) setupsWritten
+    map (λ (w : Write). written (replicate w.room 9) w.members w.queues w.gets w.sets w.features) setups_written
+    ≡ map (λ (w : Write). (w.count, w.after)) setups_written
 
 -- ---- read ----
 
@@ -81,38 +81,38 @@ reads l o = record { bytes = l; both = o; version1 = o }
 
 -- by the reader of version 1 refused by name
 abbrev pub reads2 : List ℕ → ReadOutcome → Read
-reads2 l o = record { bytes = l; both = o; version1 = refusedAs Version2 }
+reads2 l o = record { bytes = l; both = o; version1 = refused_as Version2 }
 
-unfoldable pub setupsRead : List Read
-setupsRead =
-    reads bench (readAs (setupWith 2 (1 ∷ 1 ∷ []) 1 1 zeros))
-    ∷ reads2 five (readAs (setupWith 5 (1 ∷ 2 ∷ 3 ∷ 4 ∷ 4 ∷ []) 8 5 features))
+unfoldable pub setups_read : List Read
+setups_read =
+    reads bench (read_as (setup_with 2 (1 ∷ 1 ∷ []) 1 1 zeros))
+    ∷ reads2 five (read_as (setup_with 5 (1 ∷ 2 ∷ 3 ∷ 4 ∷ 4 ∷ []) 8 5 features))
     -- version 2 with equal counts
-    ∷ reads2 (0x21 ∷ 0x04 ∷ 0x40 ∷ 0x50 ∷ zeros) (readAs (setupWith 2 (2 ∷ 2 ∷ []) 1 1 zeros))
+    ∷ reads2 (0x21 ∷ 0x04 ∷ 0x40 ∷ 0x50 ∷ zeros) (read_as (setup_with 2 (2 ∷ 2 ∷ []) 1 1 zeros))
     -- no bytes; one byte, of version 1 and of version 2; a byte too few and one too many
-    ∷ reads [] (refusedAs Refused)
-    ∷ reads (0x11 ∷ []) (refusedAs Refused)
-    ∷ reads2 (0x2f ∷ []) (refusedAs Refused)
-    ∷ reads (0x11 ∷ 0x04 ∷ 0x40 ∷ replicate 15 0) (refusedAs Refused)
-    ∷ reads (bench ++ (0 ∷ [])) (refusedAs Refused)
-    ∷ reads2 (0x24 ∷ 0x21 ∷ 0x40 ∷ 0x1b ∷ features) (refusedAs Refused)
+    ∷ reads [] (refused_as Refused)
+    ∷ reads (0x11 ∷ []) (refused_as Refused)
+    ∷ reads2 (0x2f ∷ []) (refused_as Refused)
+    ∷ reads (0x11 ∷ 0x04 ∷ 0x40 ∷ replicate 15 0) (refused_as Refused)
+    ∷ reads (bench ++ (0 ∷ [])) (refused_as Refused)
+    ∷ reads2 (0x24 ∷ 0x21 ∷ 0x40 ∷ 0x1b ∷ features) (refused_as Refused)
     -- versions 0 and 3
-    ∷ reads (0x01 ∷ 0x04 ∷ 0x40 ∷ zeros) (refusedAs Refused)
-    ∷ reads (0x31 ∷ 0x04 ∷ 0x40 ∷ zeros) (refusedAs Refused)
+    ∷ reads (0x01 ∷ 0x04 ∷ 0x40 ∷ zeros) (refused_as Refused)
+    ∷ reads (0x31 ∷ 0x04 ∷ 0x40 ∷ zeros) (refused_as Refused)
     -- the six zero bits, in both versions; the bits after the fields; the Q field of version 2
-    ∷ reads (0x11 ∷ 0x04 ∷ 0x41 ∷ zeros) (refusedAs Refused)
-    ∷ reads2 (0x24 ∷ 0x21 ∷ 0x60 ∷ 0x1b ∷ 0xc0 ∷ features) (refusedAs Refused)
-    ∷ reads2 (0x24 ∷ 0x21 ∷ 0x40 ∷ 0x1b ∷ 0xe0 ∷ features) (refusedAs Refused)
-    ∷ reads2 (0x24 ∷ 0x61 ∷ 0x40 ∷ 0x1b ∷ 0xc0 ∷ features) (refusedAs Refused)
+    ∷ reads (0x11 ∷ 0x04 ∷ 0x41 ∷ zeros) (refused_as Refused)
+    ∷ reads2 (0x24 ∷ 0x21 ∷ 0x60 ∷ 0x1b ∷ 0xc0 ∷ features) (refused_as Refused)
+    ∷ reads2 (0x24 ∷ 0x21 ∷ 0x40 ∷ 0x1b ∷ 0xe0 ∷ features) (refused_as Refused)
+    ∷ reads2 (0x24 ∷ 0x61 ∷ 0x40 ∷ 0x1b ∷ 0xc0 ∷ features) (refused_as Refused)
     -- G 9, S 9
-    ∷ reads (0x11 ∷ 0x24 ∷ 0x40 ∷ zeros) (refusedAs Refused)
-    ∷ reads (0x11 ∷ 0x06 ∷ 0x40 ∷ zeros) (refusedAs Refused)
+    ∷ reads (0x11 ∷ 0x24 ∷ 0x40 ∷ zeros) (refused_as Refused)
+    ∷ reads (0x11 ∷ 0x06 ∷ 0x40 ∷ zeros) (refused_as Refused)
     ∷ []
 
 abbrev pub SetupsRead : Type 0
 SetupsRead =
-    map {B = ReadOutcome × ReadOutcome} (λ (r : Read). (readSetup r.bytes, readVersion1 r.bytes)) setupsRead
-    ≡ map (λ (r : Read). (r.both, r.version1)) setupsRead
+    map {B = ReadOutcome × ReadOutcome} (λ (r : Read). (read_setup r.bytes, read_version1 r.bytes)) setups_read
+    ≡ map (λ (r : Read). (r.both, r.version1)) setups_read
 
 -- ---- one member ----
 
@@ -124,16 +124,16 @@ pub record Asked : Type 0 where
 abbrev pub asks : List ℕ → ℕ → MemberSetup → Asked
 asks l m s = record { bytes = l; member = m; says = s }
 
-unfoldable pub membersAsked : List Asked
-membersAsked =
+unfoldable pub members_asked : List Asked
+members_asked =
     asks bench 2 (record { known = true; queues = 1; features = zeros })
     ∷ asks five 3 (record { known = true; queues = 3; features = features })
     -- no member 0 or 6, and 2³² + 1 is not 1; a bad setup has none
-    ∷ asks five 0 noMember
-    ∷ asks five 6 noMember
-    ∷ asks five 4294967297 noMember
-    ∷ asks (bench ++ (0 ∷ [])) 1 noMember
+    ∷ asks five 0 no_member
+    ∷ asks five 6 no_member
+    ∷ asks five 4294967297 no_member
+    ∷ asks (bench ++ (0 ∷ [])) 1 no_member
     ∷ []
 
 abbrev pub MembersAsked : Type 0
-MembersAsked = map (λ (a : Asked). memberSetup a.bytes a.member) membersAsked ≡ map (λ (a : Asked). a.says) membersAsked
+MembersAsked = map (λ (a : Asked). member_setup a.bytes a.member) members_asked ≡ map (λ (a : Asked). a.says) members_asked

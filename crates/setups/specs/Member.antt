@@ -3,18 +3,18 @@ use Rattle.std.specs.Prelude.{true, false, List, ℕ, ◌-◌, get_or, replicate
 use Rattle.theory.specs.Logic.{unless◌answer◌then◌, within}
 use Rattle.setups.specs.declared.Setup.{Setup}
 use Rattle.setups.specs.declared.MemberSetup.{MemberSetup}
-use Rattle.setups.specs.Setup.{featuresSize}
-use Rattle.setups.specs.Reading.{readSetup}
+use Rattle.setups.specs.Setup.{features_size}
+use Rattle.setups.specs.Reading.{read_setup}
 
-unfoldable pub noMember : MemberSetup
-noMember = record { known = false; queues = 0; features = replicate featuresSize 0 }
+unfoldable pub no_member : MemberSetup
+no_member = record { known = false; queues = 0; features = replicate features_size 0 }
 
 -- the member's own queue count, and the features, which are those of all; "a number not 1 to N counts as a bad setup"
-unfoldable pub memberOf : Setup → ℕ → MemberSetup
-memberOf s m =
-    unless within 1 s.members m answer noMember then
+unfoldable pub member_of : Setup → ℕ → MemberSetup
+member_of s m =
+    unless within 1 s.members m answer no_member then
     record { known = true; queues = get_or s.queues (m - 1) 0; features = s.features }
 
 -- a bad setup is read as one of no members, so that it says nothing of any
-unfoldable pub memberSetup : List ℕ → ℕ → MemberSetup
-memberSetup l m = memberOf (readSetup l).setup m
+unfoldable pub member_setup : List ℕ → ℕ → MemberSetup
+member_setup l m = member_of (read_setup l).setup m

@@ -4,9 +4,9 @@ mod writer;
 
 ghost use Rattle.std.specs.Prelude.{◌≡◌, ◌≤◌};
 ghost use Rattle.theory.specs.Logic.{within};
-ghost use Rattle.setups.specs.Setup.{inRanges, all, inNumbers};
-ghost use Rattle.setups.specs.Reading.{readNumber, readVersion1, readSetup};
-ghost use Rattle.setups.specs.Member.{noMember, memberOf, memberSetup};
+ghost use Rattle.setups.specs.Setup.{in_ranges, all, in_numbers};
+ghost use Rattle.setups.specs.Reading.{read_number, read_version1, read_setup};
+ghost use Rattle.setups.specs.Member.{no_member, member_of, member_setup};
 ghost use Rattle.setups.specs.Writing.{written};
 
 pub const MOST_MEMBERS: usize = 16;
@@ -59,7 +59,7 @@ struct Front {
 
 // N 1 to 16, G and S at most 8.
 pub fn in_ranges(members: u64, gets: u64, sets: u64) -> bool
-    ensures { result ≡ inRanges members gets sets }
+    ensures { result ≡ in_ranges members gets sets }
 {
     if members < 1 {
         return false;
@@ -92,7 +92,7 @@ fn are_within(low: u8, high: u8, numbers: &[u8]) -> bool
 
 // These ranges, and one queue count of 1 to 4 for each member.
 pub fn in_numbers(members: u64, queues: &[u8], gets: u64, sets: u64) -> bool
-    ensures { result ≡ inNumbers members queues.now gets sets }
+    ensures { result ≡ in_numbers members queues.now gets sets }
 {
     if !in_ranges(members, gets, sets) {
         return false;
@@ -106,7 +106,7 @@ pub fn in_numbers(members: u64, queues: &[u8], gets: u64, sets: u64) -> bool
 // ---- reading ----
 
 pub fn read_number(answer: ReadAnswer) -> u8
-    ensures { result ≡ readNumber answer }
+    ensures { result ≡ read_number answer }
 {
     match answer {
         ReadAnswer::Done => 0,
@@ -117,7 +117,7 @@ pub fn read_number(answer: ReadAnswer) -> u8
 
 // The reader of version 1, which refuses version 2 by name.
 pub fn read_version_1(s: &[u8]) -> ReadOutcome
-    ensures { result ≡ readVersion1 s.now }
+    ensures { result ≡ read_version1 s.now }
 {
     if reader::bits(s, 0, 4) == 2 {
         return reader::refused(ReadAnswer::Version2);
@@ -127,7 +127,7 @@ pub fn read_version_1(s: &[u8]) -> ReadOutcome
 
 // The reader of both versions.
 pub fn read(s: &[u8]) -> ReadOutcome
-    ensures { result ≡ readSetup s.now }
+    ensures { result ≡ read_setup s.now }
 {
     if reader::bits(s, 0, 4) == 2 {
         return reader::take_version_2(s);
@@ -138,7 +138,7 @@ pub fn read(s: &[u8]) -> ReadOutcome
 // ---- one member ----
 
 fn no_member() -> MemberSetup
-    ensures { result ≡ noMember }
+    ensures { result ≡ no_member }
 {
     MemberSetup {
         known: false,
@@ -150,7 +150,7 @@ fn no_member() -> MemberSetup
 // What a setup says of a member.
 fn member_of(s: Setup, member: u64) -> MemberSetup
     requires { s.members ≤ 16 }
-    ensures { result ≡ memberOf s member }
+    ensures { result ≡ member_of s member }
 {
     if member < 1 {
         return no_member();
@@ -169,7 +169,7 @@ fn member_of(s: Setup, member: u64) -> MemberSetup
 
 // What a packed setup of either version says of a member.
 pub fn member_setup(s: &[u8], member: u64) -> MemberSetup
-    ensures { result ≡ memberSetup s.now member }
+    ensures { result ≡ member_setup s.now member }
 {
     let outcome = read(s);
     member_of(outcome.setup, member)

@@ -1,8 +1,8 @@
 // Packed setups read: each field at its bits, and which bytes are a setup of either version.
 ghost use Rattle.std.specs.Prelude.{◌≡◌, ◌^◌, ◌≤◌, ◌<◌, length};
 ghost use Rattle.setups.specs.Bits.{bit, bits_at};
-ghost use Rattle.setups.specs.Setup.{featuresSize, sixteen};
-ghost use Rattle.setups.specs.Reading.{countsFrom, setupAt, headRight, isVersion1, isVersion2, refusedAs, takeVersion1, takeVersion2};
+ghost use Rattle.setups.specs.Setup.{features_size, sixteen};
+ghost use Rattle.setups.specs.Reading.{counts_from, setup_at, head_right, is_version1, is_version2, refused_as, take_version1, take_version2};
 
 use super::{FEATURES_SIZE, HEAD_SIZE, MOST_MEMBERS, ReadAnswer, ReadOutcome, Setup};
 
@@ -36,7 +36,7 @@ pub fn bits(s: &[u8], at: usize, n: usize) -> u8
 // n queue counts from a position on, so many bits apart.
 fn counts(s: &[u8], from: usize, step: usize, n: usize) -> [u8; MOST_MEMBERS]
     requires { (n ≤ 16) × (from ≤ 24) × (step ≤ 2) }
-    ensures { result ≡ sixteen (countsFrom s.now from step n) }
+    ensures { result ≡ sixteen (counts_from s.now from step n) }
 {
     let mut counts = [0u8; MOST_MEMBERS];
     let mut at = from;
@@ -51,8 +51,8 @@ fn counts(s: &[u8], from: usize, step: usize, n: usize) -> [u8; MOST_MEMBERS]
 
 // The setup whose queue counts stand from a position on.
 fn setup_at(s: &[u8], from: usize, step: usize) -> Setup
-    requires { (featuresSize ≤ length s.now) × (from ≤ 24) × (step ≤ 2) }
-    ensures { result ≡ setupAt s.now from step }
+    requires { (features_size ≤ length s.now) × (from ≤ 24) × (step ≤ 2) }
+    ensures { result ≡ setup_at s.now from step }
 {
     let members = bits(s, 4, 4) + 1;
     let queues = counts(s, from, step, members as usize);
@@ -70,7 +70,7 @@ fn setup_at(s: &[u8], from: usize, step: usize) -> Setup
 
 // The six zero bits, and the numbers that can be out of range.
 fn is_head_right(s: &[u8]) -> bool
-    ensures { result ≡ headRight s.now }
+    ensures { result ≡ head_right s.now }
 {
     if bits(s, 18, 6) != 0 {
         return false;
@@ -83,7 +83,7 @@ fn is_head_right(s: &[u8]) -> bool
 
 // Whether these bytes are a setup of version 1.
 fn is_version_1(s: &[u8]) -> bool
-    ensures { result ≡ isVersion1 s.now }
+    ensures { result ≡ is_version1 s.now }
 {
     if bits(s, 0, 4) != 1 {
         return false;
@@ -97,7 +97,7 @@ fn is_version_1(s: &[u8]) -> bool
 // Whether they are one of version 2 with n members, if that is their version.
 fn is_version_2(s: &[u8], n: usize) -> bool
     requires { (1 ≤ n) × (n ≤ 16) }
-    ensures { result ≡ isVersion2 n s.now }
+    ensures { result ≡ is_version2 n s.now }
 {
     let count_bytes = (n + 3) / 4;
     if s.len() != HEAD_SIZE + count_bytes + FEATURES_SIZE {
@@ -113,7 +113,7 @@ fn is_version_2(s: &[u8], n: usize) -> bool
 }
 
 pub fn refused(answer: ReadAnswer) -> ReadOutcome
-    ensures { result ≡ refusedAs answer }
+    ensures { result ≡ refused_as answer }
 {
     ReadOutcome {
         answer,
@@ -128,7 +128,7 @@ pub fn refused(answer: ReadAnswer) -> ReadOutcome
 }
 
 pub fn take_version_1(s: &[u8]) -> ReadOutcome
-    ensures { result ≡ takeVersion1 s.now }
+    ensures { result ≡ take_version1 s.now }
 {
     if !is_version_1(s) {
         return refused(ReadAnswer::Refused);
@@ -140,7 +140,7 @@ pub fn take_version_1(s: &[u8]) -> ReadOutcome
 }
 
 pub fn take_version_2(s: &[u8]) -> ReadOutcome
-    ensures { result ≡ takeVersion2 s.now }
+    ensures { result ≡ take_version2 s.now }
 {
     let n = bits(s, 4, 4) as usize + 1;
     if !is_version_2(s, n) {

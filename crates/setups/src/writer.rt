@@ -1,24 +1,24 @@
 // Packed setups written: the fields as one number, and its bytes, the highest first.
 ghost use Rattle.std.specs.Prelude.{◌≡◌, true, map, ◌*◌, ◌-◌, ◌^◌, ◌≤◌, ◌<◌, length};
 ghost use Rattle.theory.specs.Bytes.{put};
-ghost use Rattle.setups.specs.Bits.{joined, bigEndian};
-ghost use Rattle.setups.specs.Setup.{all, isCount};
+ghost use Rattle.setups.specs.Bits.{joined, big_endian};
+ghost use Rattle.setups.specs.Setup.{all, is_count};
 ghost use Rattle.setups.specs.Reading.{padding};
-ghost use Rattle.setups.specs.Writing.{headFields, countField, fields_of, HeadFits, frontOf, InNumbers};
+ghost use Rattle.setups.specs.Writing.{head_fields, count_field, fields_of, HeadFits, front_of, InNumbers};
 
 use super::{Front, HEAD_SIZE};
 
 // The head's fields, each behind the one before it.
 fn head(version: u64, members: u64, q: u64, gets: u64, sets: u64) -> u64
     requires { HeadFits version members q gets sets }
-    ensures { (result ≡ joined 0 (headFields version members q gets sets)) × (result < 2 ^ 24) }
+    ensures { (result ≡ joined 0 (head_fields version members q gets sets)) × (result < 2 ^ 24) }
 {
     ((((version * 16 + (members - 1)) * 4 + q) * 16 + gets) * 16 + sets) * 64
 }
 
 // A queue count as its field has it.
 fn less_one(q: u8) -> u64
-    requires { isCount q ≡ true }
+    requires { is_count q ≡ true }
     ensures { (result ≡ q - 1) × (result ≤ 3) }
 {
     q as u64 - 1
@@ -26,8 +26,8 @@ fn less_one(q: u8) -> u64
 
 // A field of two bits for each queue count, behind x.
 fn with_counts(x: u64, queues: &[u8]) -> u64
-    requires { (x < 2 ^ 24) × (length queues.now ≤ 16) × (all isCount queues.now ≡ true) }
-    ensures { (result ≡ joined x (map countField queues.now)) × (result < 2 ^ 56) }
+    requires { (x < 2 ^ 24) × (length queues.now ≤ 16) × (all is_count queues.now ≡ true) }
+    ensures { (result ≡ joined x (map count_field queues.now)) × (result < 2 ^ 56) }
 {
     let mut r = x;
     let mut i = 0;
@@ -49,7 +49,7 @@ fn padded(x: u64, n: usize) -> u64
 // Equal counts as version 1, others as version 2.
 pub fn front_of(members: u64, queues: &[u8], gets: u64, sets: u64) -> Front
     requires { InNumbers members queues.now gets sets }
-    ensures { (result ≡ frontOf (fields_of members queues.now gets sets)) × (result.size ≤ 7) }
+    ensures { (result ≡ front_of (fields_of members queues.now gets sets)) × (result.size ≤ 7) }
 {
     let q = queues[0];
     if super::are_within(q, q, queues) {
@@ -69,7 +69,7 @@ pub fn front_of(members: u64, queues: &[u8], gets: u64, sets: u64) -> Front
 // The n low bytes of x, the highest first.
 pub fn write_number(out: &mut [u8], n: usize, x: u64)
     requires { n ≤ length out.old }
-    ensures { out.new ≡ put 0 (bigEndian n x) out.old }
+    ensures { out.new ≡ put 0 (big_endian n x) out.old }
 {
     let mut v = x;
     let mut i = n;

@@ -14,7 +14,7 @@ use Rattle.theory.specs.Bytes.{bytes_at, put, same}
 use Rattle.theory.proofs.Table.{every, at}
 use Rattle.theory.proofs.Tests.{same_true}
 use Rattle.decimal.specs.Decimal.{line}
-use Rattle.tally.specs.Rows.{Row, row, rows, rowCount}
+use Rattle.tally.specs.Rows.{Row, row, rows, row_count}
 use Rattle.sheet.specs.Text.{name_at}
 
 abbrev names : List ℕ
@@ -39,11 +39,11 @@ names =
 abbrev sizes : List ℕ
 sizes = 4 ∷ 8 ∷ 3 ∷ 7 ∷ 6 ∷ 4 ∷ 8 ∷ 5 ∷ 4 ∷ 5 ∷ 5 ∷ 5 ∷ 5 ∷ 5 ∷ 5 ∷ 5 ∷ []
 
-every-name : (f : ℕ → List ℕ → Bool) → every (λ k (r : Row). f k r.name) 0 rows ≡ true → (i : ℕ) → i < rowCount → f i (name_at i) ≡ true
+every-name : (f : ℕ → List ℕ → Bool) → every (λ k (r : Row). f k r.name) 0 rows ≡ true → (i : ℕ) → i < row_count → f i (name_at i) ≡ true
 unfolding name_at rows
 every-name f t i h = at (λ k (r : Row). f k r.name) (row [] (λ queues k c. 0)) rows t i h
 
-module _ (i : ℕ) (h : i < rowCount) where
+module _ (i : ℕ) (h : i < row_count) where
   pub size_is : get_or sizes i 0 ≡ length (name_at i)
   unfolding rows every ◌and◌
   size_is = eqb-true _ _ (every-name (λ k x. eqb (get_or sizes k 0) (length x)) refl i h)

@@ -1,11 +1,11 @@
 // The text of the sheet, 02, request 11: sixteen lines of a name and a number, and how the stream ended.
 ghost use Rattle.std.specs.Prelude.{◌≡◌, ◌+◌, ◌*◌, ◌^◌, ◌≤◌, ◌<◌, length};
 ghost use Rattle.theory.specs.Bytes.{put};
-ghost use Rattle.theory.specs.Items.{itemsFrom};
+ghost use Rattle.theory.specs.Items.{items_from};
 ghost use Rattle.decimal.specs.Decimal.{line};
 ghost use Rattle.tally.specs.Counts.{Below};
-ghost use Rattle.tally.specs.Rows.{rowCount};
-ghost use Rattle.sheet.specs.Text.{name_at, endLine, numberLine, figures, text_of, sheetRoom};
+ghost use Rattle.tally.specs.Rows.{row_count};
+ghost use Rattle.sheet.specs.Text.{name_at, end_line, number_line, figures, text_of, sheet_room};
 
 use tally::LINES;
 
@@ -22,7 +22,7 @@ const NAME_SIZES: [u8; LINES] = [4, 8, 3, 7, 6, 4, 8, 5, 4, 5, 5, 5, 5, 5, 5, 5]
 
 // Where the name of a line ends among the names.
 fn name_end(i: usize) -> usize
-    requires { i < rowCount }
+    requires { i < row_count }
     ensures { result ≡ 8 * i + length (name_at i) }
 {
     NAME_ROOM * i + NAME_SIZES[i] as usize
@@ -30,7 +30,7 @@ fn name_end(i: usize) -> usize
 
 // A line of the sheet, from a place on. Answers the place after it.
 fn put_number(out: &mut [u8], at: usize, i: usize, n: u64) -> usize
-    requires { (i < rowCount) × (at + length (line (name_at i) n) ≤ length out.old) }
+    requires { (i < row_count) × (at + length (line (name_at i) n) ≤ length out.old) }
     ensures { (out.new ≡ put at (line (name_at i) n) out.old) × (result ≡ at + length (line (name_at i) n)) }
 {
     let names = NAMES;
@@ -41,8 +41,8 @@ fn put_number(out: &mut [u8], at: usize, i: usize, n: u64) -> usize
 
 // The lines with a number, from the start of the buffer. Answers the place after them.
 fn put_numbers(out: &mut [u8], counts: [u64; LINES]) -> usize
-    requires { length (itemsFrom (numberLine counts) rowCount 0) ≤ length out.old }
-    ensures { (out.new ≡ put 0 (itemsFrom (numberLine counts) rowCount 0) out.old) × (result ≡ length (itemsFrom (numberLine counts) rowCount 0)) }
+    requires { length (items_from (number_line counts) row_count 0) ≤ length out.old }
+    ensures { (out.new ≡ put 0 (items_from (number_line counts) row_count 0) out.old) × (result ≡ length (items_from (number_line counts) row_count 0)) }
 {
     let mut at = 0;
     let mut i = 0;
@@ -56,7 +56,7 @@ fn put_numbers(out: &mut [u8], counts: [u64; LINES]) -> usize
 // How the stream ended, from a place on. Answers the place after it.
 fn put_end(out: &mut [u8], at: usize, whole: bool) -> usize
     requires { at + 10 ≤ length out.old }
-    ensures { (out.new ≡ put at (endLine whole) out.old) × (result ≡ at + length (endLine whole)) }
+    ensures { (out.new ≡ put at (end_line whole) out.old) × (result ≡ at + length (end_line whole)) }
 {
     if whole {
         wire::copy(out, at, b"end whole\n");
@@ -68,7 +68,7 @@ fn put_end(out: &mut [u8], at: usize, whole: bool) -> usize
 
 // The sheet, from the start of the buffer. Answers how long it is.
 pub fn write(out: &mut [u8], counts: [u64; LINES], whole: bool) -> usize
-    requires { Below (2 ^ 64) counts × (sheetRoom ≤ length out.old) }
+    requires { Below (2 ^ 64) counts × (sheet_room ≤ length out.old) }
     ensures { (out.new ≡ put 0 (text_of (figures counts whole)) out.old) × (result ≡ length (text_of (figures counts whole))) }
 {
     let at = put_numbers(out, counts);

@@ -7,24 +7,24 @@ use native.Mathlib.Omega.{arith}
 use lib.ListN.{length}
 use borrow.Author.Tests.{leb-true}
 use Rattle.theory.proofs.Tests.{unless-cases}
-use Rattle.card.specs.Layout.{setupOf}
-use Rattle.card.specs.Sound.{isSound}
+use Rattle.card.specs.Layout.{setup_of}
+use Rattle.card.specs.Sound.{is_sound}
 use Rattle.card.proofs.HeaderLaws.{setup-with-use}
 use Rattle.card.proofs.MemberLaws.{setup-with-member}
 use Rattle.card.proofs.SoundLaws.{is-sound}
 use Rattle.frame.specs.declared.Ask.{Ask}
 use Rattle.frame.specs.declared.Ask.TheVariants.{Refused, QueryList, UseList, Read, Change}
-use Rattle.host.specs.Request.{setParts}
-use Rattle.reply.specs.Reply.{headSize}
+use Rattle.host.specs.Request.{set_parts}
+use Rattle.reply.specs.Reply.{head_size}
 use Rattle.admin.specs.Command.{perform, respond}
 use Rattle.admin.proofs.Respond.{card-cases}
 use Rattle.admin.proofs.Marks.{respond-mark}
-use Rattle.staging.specs.Staging.{heldIn, heldBytes, beginOf, feedOf, finishOf, dropOf}
+use Rattle.staging.specs.Staging.{held_in, held_bytes, begin_of, feed_of, finish_of, drop_of}
 use Rattle.staging.proofs.Refusals.{on-member-cases, on-open-cases}
 use Rattle.staging.proofs.Places.{few-fed, number-sound, held-sound, gone-sound}
 
 -- a command leaves the setup
-perform-setup : (c r : List ℕ) (a : Ask) → setupOf (perform c r a).card ≡ setupOf c
+perform-setup : (c r : List ℕ) (a : Ask) → setup_of (perform c r a).card ≡ setup_of c
 unfolding perform
 perform-setup c r (Refused a) = refl
 perform-setup c r QueryList = refl
@@ -32,31 +32,31 @@ perform-setup c r (UseList mask) = setup-with-use c mask
 perform-setup c r (Read m op) = refl
 perform-setup c r (Change m op) = setup-with-member c m _
 
-pub respond-setup : (c r : List ℕ) (room : ℕ) → setupOf (respond c r room).0 ≡ setupOf c
-respond-setup c r room = card-cases c r room (λ d. setupOf d ≡ setupOf c) refl (λ s. perform-setup c r _)
+pub respond-setup : (c r : List ℕ) (room : ℕ) → setup_of (respond c r room).0 ≡ setup_of c
+respond-setup c r room = card-cases c r room (λ d. setup_of d ≡ setup_of c) refl (λ s. perform-setup c r _)
 
 abbrev Leaves : ℕ × List ℕ → Type 0
-Leaves y = isSound y.1 ≡ true
+Leaves y = is_sound y.1 ≡ true
 
-module _ (c : List ℕ) (m : ℕ) (s : isSound c ≡ true) where
-  pub begin-sound : isSound (beginOf c m).1 ≡ true
-  unfolding beginOf
+module _ (c : List ℕ) (m : ℕ) (s : is_sound c ≡ true) where
+  pub begin-sound : is_sound (begin_of c m).1 ≡ true
+  unfolding begin_of
   begin-sound = on-member-cases c m _ Leaves (λ a. s) λ p.
       unless-cases Leaves _ _ _ (λ t. s) (λ t. is-sound _ (number-sound c m s p.member p.unmarked 1 (omega arith)))
 
-  pub feed-sound : (x : List ℕ) → isSound (feedOf c m x).1 ≡ true
-  unfolding feedOf
+  pub feed-sound : (x : List ℕ) → is_sound (feed_of c m x).1 ≡ true
+  unfolding feed_of
   feed-sound x = on-open-cases c m _ Leaves (λ a. s) λ p.
       unless-cases Leaves _ _ _ (λ t. gone-sound c m s p.member p.unmarked)
-      (λ t. held-sound c m s p.member p.unmarked _ (few-fed (heldIn c m) (length x) (leb-true _ _ t)) _)
+      (λ t. held-sound c m s p.member p.unmarked _ (few-fed (held_in c m) (length x) (leb-true _ _ t)) _)
 
-  pub drop-sound : isSound (dropOf c m).1 ≡ true
-  unfolding dropOf
+  pub drop-sound : is_sound (drop_of c m).1 ≡ true
+  unfolding drop_of
   drop-sound = on-open-cases c m _ Leaves (λ a. s) (λ p. gone-sound c m s p.member p.unmarked)
 
   -- the command that finish is leaves a sound card
-  pub finish-sound : (id : ℕ) → isSound (respond c (setParts m id (heldBytes c m)) headSize).0 ≡ true → isSound (finishOf c m id).1 ≡ true
-  unfolding finishOf
+  pub finish-sound : (id : ℕ) → is_sound (respond c (set_parts m id (held_bytes c m)) head_size).0 ≡ true → is_sound (finish_of c m id).1 ≡ true
+  unfolding finish_of
   finish-sound id f = on-open-cases c m _ Leaves (λ a. s) λ p.
-      let r = setParts m id (heldBytes c m) in
-      gone-sound _ m f (rw (respond-setup c r headSize) p.member) (respond-mark c r headSize m ∙ p.unmarked)
+      let r = set_parts m id (held_bytes c m) in
+      gone-sound _ m f (rw (respond-setup c r head_size) p.member) (respond-mark c r head_size m ∙ p.unmarked)

@@ -9,51 +9,51 @@ use lib.Dec.{ltb}
 use lib.ListN.{length}
 use Rattle.theory.specs.Logic.{if◌then◌else◌, unless◌answer◌then◌}
 use Rattle.theory.proofs.Tests.{by_cases}
-use Rattle.frame.specs.Frame.{longest, givenAt}
+use Rattle.frame.specs.Frame.{longest, given_at}
 use Rattle.protocol.specs.declared.Answer.{Answer}
 use Rattle.protocol.specs.declared.Answer.TheVariants.{BadOpcode, BadField}
 use Rattle.protocol.specs.declared.ChangeOp.TheVariants.{SetParts}
-use Rattle.protocol.specs.Answers.{isDone}
+use Rattle.protocol.specs.Answers.{is_done}
 use Rattle.protocol.specs.Opcodes.{bit}
 use Rattle.changes.specs.declared.Changed.{Changed}
-use Rattle.changes.specs.Changes.{changeOf}
-use Rattle.card.specs.Layout.{setupOf, inUseOf, isMember, memberIn, withMember, isMarked}
-use Rattle.card.specs.Sound.{isSound}
+use Rattle.changes.specs.Changes.{change_of}
+use Rattle.card.specs.Layout.{setup_of, in_use_of, is_member, member_in, with_member, is_marked}
+use Rattle.card.specs.Sound.{is_sound}
 use Rattle.card.proofs.SoundLaws.{sound-of, member-small}
-use Rattle.reply.specs.Reply.{headSize, head_of}
+use Rattle.reply.specs.Reply.{head_size, head_of}
 use Rattle.reply.proofs.Reply.{reply-empty, final-empty}
-use Rattle.admin.specs.Command.{effect, askIn, perform, respond}
-use Rattle.host.specs.Request.{setParts}
+use Rattle.admin.specs.Command.{effect, ask_in, perform, respond}
+use Rattle.host.specs.Request.{set_parts}
 use Rattle.admin.proofs.Respond.{ended, respond-is}
 use Rattle.host.proofs.Asked.{parts-given, set-target, set-parts-asked}
 
 -- what a change of member m comes to: its answer, and the card after it
 abbrev settled : List ℕ → ℕ → Changed → Answer × List ℕ
-settled c m x = (x.answer, if isDone x.answer then withMember c m x.member else c)
+settled c m x = (x.answer, if is_done x.answer then with_member c m x.member else c)
 
-unfoldable pub partsSetOf : List ℕ → ℕ → ℕ → List ℕ → Answer × List ℕ
-partsSetOf c m id list =
-    unless bit (inUseOf c) 0x10 answer (BadOpcode, c) then  -- 4: not in use
-    unless ltb id ((setupOf c).gets + (setupOf c).sets) answer (BadField, c) then  -- 7: id not valid
-    settled c m (changeOf (setupOf c).gets (setupOf c).sets list (SetParts id) (memberIn c m))  -- 8 to 10
+unfoldable pub parts_set_of : List ℕ → ℕ → ℕ → List ℕ → Answer × List ℕ
+parts_set_of c m id list =
+    unless bit (in_use_of c) 0x10 answer (BadOpcode, c) then  -- 4: not in use
+    unless ltb id ((setup_of c).gets + (setup_of c).sets) answer (BadField, c) then  -- 7: id not valid
+    settled c m (change_of (setup_of c).gets (setup_of c).sets list (SetParts id) (member_in c m))  -- 8 to 10
 
-module _ (c : List ℕ) (m : ℕ) (e : isSound c ≡ true) (here : isMember c m ≡ true) (u : isMarked c m ≡ false) (room : ℕ) (h : headSize ≤ room) where
+module _ (c : List ℕ) (m : ℕ) (e : is_sound c ≡ true) (here : is_member c m ≡ true) (u : is_marked c m ≡ false) (room : ℕ) (h : head_size ≤ room) where
   -- a reply with no result fits
-  ends : (a : Answer) (next : List ℕ) → ended c room (effect a next []) ≡ (if isDone a then next else c, head_of a)
+  ends : (a : Answer) (next : List ℕ) → ended c room (effect a next []) ≡ (if is_done a then next else c, head_of a)
   ends a next = rw (final-empty a room h, reply-empty)
 
-  pub respond-parts-set : (id : ℕ) → id < 256 ^ 4 → (list : List ℕ) → givenAt + length list ≤ longest
-      → respond c (setParts m id list) room ≡ ((partsSetOf c m id list).1, head_of (partsSetOf c m id list).0)
-  unfolding askIn perform partsSetOf if◌then◌else◌ unless◌answer◌then◌
+  pub respond-parts-set : (id : ℕ) → id < 256 ^ 4 → (list : List ℕ) → given_at + length list ≤ longest
+      → respond c (set_parts m id list) room ≡ ((parts_set_of c m id list).1, head_of (parts_set_of c m id list).0)
+  unfolding ask_in perform parts_set_of if◌then◌else◌ unless◌answer◌then◌
   respond-parts-set id small list short =
       rw (
-        respond-is c (setParts m id list) room h e,
+        respond-is c (set_parts m id list) room h e,
         set-target m id list (member-small c m e here),
         u,
-        set-parts-asked m id list _ _ (inUseOf c) (sound-of c e).numbers.fewMembers here small short,
+        set-parts-asked m id list _ _ (in_use_of c) (sound-of c e).numbers.few_members here small short,
       )
-      (by_cases (bit (inUseOf c) 0x10)
-      (λ u. rw u (by_cases (ltb id ((setupOf c).gets + (setupOf c).sets))
+      (by_cases (bit (in_use_of c) 0x10)
+      (λ u. rw u (by_cases (ltb id ((setup_of c).gets + (setup_of c).sets))
       (λ v. rw (v, parts-given m id list) (ends _ _))
       (λ v. rw v (ends BadField c))))
       (λ u. rw u (ends BadOpcode c)))

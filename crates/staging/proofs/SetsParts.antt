@@ -5,11 +5,11 @@ use Prim.Native.Nat.{ℕ, ◌+◌, ◌*◌}
 use native.Mathlib.Omega.{arith}
 use Rattle.wire.specs.Le.{number}
 use Rattle.wire.proofs.Le.{number-none, number_step}
-use Rattle.host.specs.Request.{setParts}
-use Rattle.reply.specs.Reply.{headSize}
+use Rattle.host.specs.Request.{set_parts}
+use Rattle.reply.specs.Reply.{head_size}
 use Rattle.admin.specs.Command.{respond}
 use Rattle.staging.proofs.PartsSet.{respond-parts-set}
-use Rattle.staging.specs.Staging.{heldBytes, concluded, finishOf}
+use Rattle.staging.specs.Staging.{held_bytes, concluded, finish_of}
 use Rattle.staging.specs.Claims.{FinishIsPartsSet}
 use Rattle.staging.proofs.Refusals.{on-open}
 use Rattle.staging.proofs.Places.{held-short, has, open-unmarked}
@@ -25,15 +25,15 @@ halves l =
     rw (a, b, c, d, e) (omega arith)
 
 pub finish-is-parts-set : FinishIsPartsSet
-unfolding finishOf
+unfolding finish_of
 finish-is-parts-set c m id room s h o small l =
     let u = open-unmarked c m s h o in
-    let x = heldBytes c m in
+    let x = held_bytes c m in
     let w = held-short c m (has c m s h) in
-    let short = respond-parts-set c m s h u headSize (omega arith) id small x (omega arith) in
+    let short = respond-parts-set c m s h u head_size (omega arith) id small x (omega arith) in
     let long = respond-parts-set c m s h u room l id small x (omega arith) in
-    let r : respond c (setParts m id x) headSize ≡ respond c (setParts m id x) room = short ∙ sym long in
-    let f : finishOf c m id ≡ concluded m (respond c (setParts m id x) room) = on-open c m _ s h u o ∙ ap (concluded m) r in
+    let r : respond c (set_parts m id x) head_size ≡ respond c (set_parts m id x) room = short ∙ sym long in
+    let f : finish_of c m id ≡ concluded m (respond c (set_parts m id x) room) = on-open c m _ s h u o ∙ ap (concluded m) r in
     record {
       answer = ap (λ (z : ℕ × List ℕ). z.0) f ∙ halves _;
       card = ap (λ (z : ℕ × List ℕ). z.1) f;

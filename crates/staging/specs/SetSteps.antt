@@ -7,11 +7,11 @@ use Rattle.protocol.specs.declared.ChangeOp.TheVariants.{SetParts}
 use Rattle.protocol.specs.Opcodes.{bit}
 use Rattle.member.specs.declared.Member.{Member}
 use Rattle.changes.specs.declared.Changed.{Changed}
-use Rattle.changes.specs.Changes.{refuse, changeOf}
-use Rattle.card.specs.Layout.{setupOf, inUseOf}
+use Rattle.changes.specs.Changes.{refuse, change_of}
+use Rattle.card.specs.Layout.{setup_of, in_use_of}
 
-unfoldable pub setInto : List ℕ → ℕ → List ℕ → Member → Changed
-setInto c id list x =
-    unless bit (inUseOf c) 0x10 answer refuse x BadOpcode then  -- 4
-    unless ltb id ((setupOf c).gets + (setupOf c).sets) answer refuse x BadField then  -- 7
-    changeOf (setupOf c).gets (setupOf c).sets list (SetParts id) x  -- 8 to 10
+unfoldable pub set_into : List ℕ → ℕ → List ℕ → Member → Changed
+set_into c id list x =
+    unless bit (in_use_of c) 0x10 answer refuse x BadOpcode then  -- 4
+    unless ltb id ((setup_of c).gets + (setup_of c).sets) answer refuse x BadField then  -- 7
+    change_of (setup_of c).gets (setup_of c).sets list (SetParts id) x  -- 8 to 10

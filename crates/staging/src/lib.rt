@@ -2,12 +2,12 @@
 // answers status + 65,536 x qualifier, and 9 for an unsound card.
 ghost use Rattle.std.specs.Prelude.{◌≡◌, true, ◌+◌, ◌≤◌, length, take};
 ghost use Rattle.theory.specs.Bytes.{put};
-ghost use Rattle.member.specs.Record.{holdingSize};
-ghost use Rattle.member.specs.Member.{withHeld};
-ghost use Rattle.card.specs.Layout.{HasRecord, isMember, withMember, holdingIn, withHolding, noBytes};
-ghost use Rattle.card.specs.Sound.{isSound};
-ghost use Rattle.staging.specs.SetSteps.{setInto};
-ghost use Rattle.staging.specs.Staging.{answerNumber, memberRefusal, openRefusal, beginOf, feedOf, finishOf, dropOf};
+ghost use Rattle.member.specs.Record.{holding_size};
+ghost use Rattle.member.specs.Member.{with_held};
+ghost use Rattle.card.specs.Layout.{HasRecord, is_member, with_member, holding_in, with_holding, no_bytes};
+ghost use Rattle.card.specs.Sound.{is_sound};
+ghost use Rattle.staging.specs.SetSteps.{set_into};
+ghost use Rattle.staging.specs.Staging.{answer_number, member_refusal, open_refusal, begin_of, feed_of, finish_of, drop_of};
 
 use changes::Changed;
 use member::{HOLDING_SIZE, Member};
@@ -22,14 +22,14 @@ const PARTS_SET: usize = 0x10;
 // ---- the answers ----
 
 fn number(a: Answer) -> u32
-    ensures { result ≡ answerNumber a }
+    ensures { result ≡ answer_number a }
 {
     protocol::status(a) as u32 + 65536 * (protocol::qualifier(a) as u32)
 }
 
 // A call for one member: the first refusal that applies, or 0.
 fn member_refusal(card: &[u8], m: u64) -> u32
-    ensures { result ≡ memberRefusal card.now m }
+    ensures { result ≡ member_refusal card.now m }
 {
     if !card::is_sound(card) {
         return NOT_SOUND;
@@ -45,7 +45,7 @@ fn member_refusal(card: &[u8], m: u64) -> u32
 
 // A call for one member that has begun a restore: the first refusal that applies, or 0.
 fn open_refusal(card: &[u8], m: u64) -> u32
-    ensures { result ≡ openRefusal card.now m }
+    ensures { result ≡ open_refusal card.now m }
 {
     let a = member_refusal(card, m);
     if a != DONE {
@@ -64,7 +64,7 @@ fn open_refusal(card: &[u8], m: u64) -> u32
 // The holding place is gone, and nothing of its bytes is left; x is the member.
 fn end(card: &mut [u8], m: u64, x: Member)
     requires { HasRecord card.old m }
-    ensures { card.new ≡ withHolding (withMember card.old m (withHeld x 0)) m noBytes }
+    ensures { card.new ≡ with_holding (with_member card.old m (with_held x 0)) m no_bytes }
 {
     card::save_member(card, m, x.with_held(0));
     card::zero_holding(card, m);
@@ -72,7 +72,7 @@ fn end(card: &mut [u8], m: u64, x: Member)
 
 // An empty holding place is opened.
 pub fn begin(card: &mut [u8], m: u64) -> u32
-    ensures { (result, card.new) ≡ beginOf card.old m }
+    ensures { (result, card.new) ≡ begin_of card.old m }
 {
     let a = member_refusal(card, m);
     if a != DONE {
@@ -89,8 +89,8 @@ pub fn begin(card: &mut [u8], m: u64) -> u32
 
 // The holding place has these bytes from a place on; x is the member.
 fn hold(card: &mut [u8], m: u64, x: Member, from: usize, bytes: &[u8])
-    requires { HasRecord card.old m × (from + length bytes.now ≤ holdingSize) }
-    ensures { card.new ≡ withHolding (withMember card.old m x) m (put from bytes.now (holdingIn card.old m)) }
+    requires { HasRecord card.old m × (from + length bytes.now ≤ holding_size) }
+    ensures { card.new ≡ with_holding (with_member card.old m x) m (put from bytes.now (holding_in card.old m)) }
 {
     card::save_member(card, m, x);
     card::write_holding(card, m, from, bytes);
@@ -98,7 +98,7 @@ fn hold(card: &mut [u8], m: u64, x: Member, from: usize, bytes: &[u8])
 
 // A fragment goes behind the bytes that are held; one that does not fit ends the holding place.
 pub fn feed(card: &mut [u8], m: u64, fragment: &[u8]) -> u32
-    ensures { (result, card.new) ≡ feedOf card.old m fragment.now }
+    ensures { (result, card.new) ≡ feed_of card.old m fragment.now }
 {
     let a = open_refusal(card, m);
     if a != DONE {
@@ -125,8 +125,8 @@ fn first(bytes: &[u8], k: usize) -> &[u8]
 
 // What a parts set of the first k bytes of the holding place comes to, read where they stand; x is the member.
 fn set_held(card: &[u8], m: u64, x: Member, id: u32, k: usize) -> Changed
-    requires { (isSound card.now ≡ true) × (isMember card.now m ≡ true) × (k ≤ holdingSize) }
-    ensures { result ≡ setInto card.now id (take k (holdingIn card.now m)) x }
+    requires { (is_sound card.now ≡ true) × (is_member card.now m ≡ true) × (k ≤ holding_size) }
+    ensures { result ≡ set_into card.now id (take k (holding_in card.now m)) x }
 {
     if !protocol::bit(card::in_use(card), PARTS_SET) {
         return Changed {
@@ -148,7 +148,7 @@ fn set_held(card: &[u8], m: u64, x: Member, id: u32, k: usize) -> Changed
 
 // One parts set of the bytes held, through the set object of this id; then the holding place ends, whatever the answer.
 pub fn finish(card: &mut [u8], m: u64, id: u32) -> u32
-    ensures { (result, card.new) ≡ finishOf card.old m id }
+    ensures { (result, card.new) ≡ finish_of card.old m id }
 {
     let a = open_refusal(card, m);
     if a != DONE {
@@ -165,7 +165,7 @@ pub fn finish(card: &mut [u8], m: u64, id: u32) -> u32
 
 // The holding place ends.
 pub fn discard(card: &mut [u8], m: u64) -> u32
-    ensures { (result, card.new) ≡ dropOf card.old m }
+    ensures { (result, card.new) ≡ drop_of card.old m }
 {
     let a = open_refusal(card, m);
     if a != DONE {

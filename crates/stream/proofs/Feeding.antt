@@ -10,12 +10,12 @@ use lib.ListN.{length, take, drop, replicate, take-append-drop, drop_of_length-l
 use lib.Seq.{drop-drop}
 use Rattle.theory.specs.Logic.{if◌then◌else◌}
 use Rattle.theory.specs.Bytes.{put}
-use Rattle.theory.proofs.Bytes.{length-bytesAt}
+use Rattle.theory.proofs.Bytes.{length-bytes_at}
 use Rattle.tally.specs.Counts.{◌plus◌, Below}
-use Rattle.tally.specs.Rows.{rowCount, longest, addsOf}
+use Rattle.tally.specs.Rows.{row_count, longest, adds_of}
 use Rattle.tally.proofs.Plus.{below_more}
 use Rattle.sheet.specs.Text.{figures, text_of}
-use Rattle.stream.specs.Progress.{figuresFrom, started, endedIn, ended, stoppedIn, stopped, finishedOf, Counted, Ready, Took, Run}
+use Rattle.stream.specs.Progress.{figures_from, started, ended_in, ended, stopped_in, stopped, finished_of, Counted, Ready, Took, Run}
 use Rattle.stream.specs.Steps.{progress, awaiting, opened}
 use Rattle.stream.specs.declared.Item.{Item}
 use Rattle.stream.specs.declared.Item.TheVariants as item
@@ -29,7 +29,7 @@ pub record Along (q : ℕ) (features : List ℕ) (p : Progress) (b chunk : List 
   pub count : at ≤ length chunk
   pub long : length buffer ≡ length b
   pub ready : Ready s buffer
-  pub same : (l : List ℕ) → figuresFrom q features s buffer (drop at chunk ++ l) ≡ figuresFrom q features p b (chunk ++ l)
+  pub same : (l : List ℕ) → figures_from q features s buffer (drop at chunk ++ l) ≡ figures_from q features p b (chunk ++ l)
 
 pub along-start : (q : ℕ) (features : List ℕ) (p : Progress) (b chunk : List ℕ) → Ready p b → Along q features p b chunk p b 0
 along-start q features p b chunk w = record { count = omega arith; long = refl; ready = w; same = λ l. refl }
@@ -40,7 +40,7 @@ module _ (q : ℕ) (features : List ℕ) (p : Progress) (b chunk : List ℕ) (s 
       → Run s.left (length (take (at + n - at) (drop at chunk))) (length (take (at + n - at) (drop at chunk)))
   run_fits n z =
       let e : at + n - at ≡ n = omega arith in
-      let l : length (take (at + n - at) (drop at chunk)) ≡ n = rw e (length-bytesAt at n chunk (omega (arith, a.count, z.chunk))) in
+      let l : length (take (at + n - at) (drop at chunk)) ≡ n = rw e (length-bytes_at at n chunk (omega (arith, a.count, z.chunk))) in
       rw l (record { some = z.some; item = z.item; chunk = le_refl n })
 
   pub along-on : (n : ℕ) (r : Progress) (after : List ℕ) → Run s.left (length chunk - at) n
@@ -56,33 +56,33 @@ module _ (q : ℕ) (features : List ℕ) (p : Progress) (b chunk : List ℕ) (s 
         ready = t.ready;
         same = λ x.
             t.same (drop (at + n) chunk ++ x)
-            ∙ ap (figuresFrom q features s buffer) (sym (append_assoc (take (at + n - at) (drop at chunk)) (drop (at + n) chunk) x) ∙ ap (◌++ x) cut) ∙ a.same x;
+            ∙ ap (figures_from q features s buffer) (sym (append_assoc (take (at + n - at) (drop at chunk)) (drop (at + n) chunk) x) ∙ ap (◌++ x) cut) ∙ a.same x;
       }
 
   pub along-end : length chunk ≤ at → Took q features p b chunk s buffer
-  along-end h = record { ready = a.ready; same = λ l. ap (λ x. figuresFrom q features s buffer (x ++ l)) (sym (drop_of_length-le chunk h)) ∙ a.same l }
+  along-end h = record { ready = a.ready; same = λ l. ap (λ x. figures_from q features s buffer (x ++ l)) (sym (drop_of_length-le chunk h)) ∙ a.same l }
 
 -- ---- the sheet ----
 
 pub counts-fit : (counts : List ℕ) → Counted counts → Below (2 ^ 64) counts
 counts-fit counts w = below_more (2 ^ 62) (2 ^ 64) counts (counts-room counts w) (omega arith)
 
-pub ended_is : (p : Progress) (i : Item) (x : Bool) → p.item ≡ i → x ≡ endedIn i p.have → x ≡ ended p
-ended_is p i x e f = f ∙ ap (λ j. endedIn j p.have) (sym e)
+pub ended_is : (p : Progress) (i : Item) (x : Bool) → p.item ≡ i → x ≡ ended_in i p.have → x ≡ ended p
+ended_is p i x e f = f ∙ ap (λ j. ended_in j p.have) (sym e)
 
-pub stopped-is : (p : Progress) (i : Item) (x : Bool) → p.item ≡ i → x ≡ stoppedIn i → x ≡ stopped p
-stopped-is p i x e f = f ∙ ap stoppedIn (sym e)
+pub stopped-is : (p : Progress) (i : Item) (x : Bool) → p.item ≡ i → x ≡ stopped_in i → x ≡ stopped p
+stopped-is p i x e f = f ∙ ap stopped_in (sym e)
 
 module _ (p : Progress) (w : Bool) (e : w ≡ ended p) where
-  pub finish-put : (out after : List ℕ) → after ≡ put 0 (text_of (figures p.counts w)) out → after ≡ put 0 (finishedOf p) out
-  unfolding finishedOf
+  pub finish-put : (out after : List ℕ) → after ≡ put 0 (text_of (figures p.counts w)) out → after ≡ put 0 (finished_of p) out
+  unfolding finished_of
   finish-put out after f = rw e at f
 
-  pub finish-length : (r : ℕ) → r ≡ length (text_of (figures p.counts w)) → r ≡ length (finishedOf p)
-  unfolding finishedOf
+  pub finish-length : (r : ℕ) → r ≡ length (text_of (figures p.counts w)) → r ≡ length (finished_of p)
+  unfolding finished_of
   finish-length r f = rw e at f
 
-pub starts : (r : Progress) → r ≡ awaiting (replicate rowCount 0) → r ≡ started
+pub starts : (r : Progress) → r ≡ awaiting (replicate row_count 0) → r ≡ started
 unfolding awaiting if◌then◌else◌
 starts r e = e
 
@@ -91,7 +91,7 @@ closes r x y e f = rw (← f) e
 
 -- n is the length that was read, x what it is in the definition
 module _ (q : ℕ) (features counts : List ℕ) (n x : ℕ) (e : n ≡ x) where
-  pub opened-empty : (r : Progress) → r ≡ awaiting (counts plus addsOf q features []) → n ≡ 0 → r ≡ opened q features counts x
+  pub opened-empty : (r : Progress) → r ≡ awaiting (counts plus adds_of q features []) → n ≡ 0 → r ≡ opened q features counts x
   unfolding opened if◌then◌else◌
   opened-empty r f h = rw (← e, h) f
 

@@ -11,39 +11,39 @@ use lib.Seq.{take_at, drop_at, take-add, take_all, drop-append-add}
 use borrow.Author.Tests.{lt-ltb, le-leb, lt-leb, eqb-true, eqb-false, leb-true, leb-false, ltb-true, ltb-false}
 use Rattle.theory.specs.Logic.{if◌then◌else◌, unless◌answer◌then◌}
 use Rattle.theory.specs.Bytes.{put}
-use Rattle.theory.proofs.Bytes.{take-before, bytesAt-put}
+use Rattle.theory.proofs.Bytes.{take-before, bytes_at-put}
 use Rattle.theory.proofs.Tests.{by_cases, if-cases}
 use Rattle.wire.specs.Le.{number}
 use Rattle.tally.specs.Counts.{◌plus◌}
-use Rattle.tally.specs.Rows.{longest, addsOf, addsLong}
+use Rattle.tally.specs.Rows.{longest, adds_of, adds_long}
 use Rattle.tally.proofs.Captures.{read_more}
-use Rattle.stream.specs.Stream.{Captures, capture, long, lengthSize, most, captureThen, capturesIn}
-use Rattle.stream.specs.Progress.{read_of, longThen, withRest, figuresFrom, Counted, Ready}
+use Rattle.stream.specs.Stream.{Captures, capture, long, length_size, most, capture_then, captures_in}
+use Rattle.stream.specs.Progress.{read_of, long_then, with_rest, figures_from, Counted, Ready}
 use Rattle.stream.specs.Steps.{awaiting, opened}
 use Rattle.stream.proofs.Totals.{one-counted, long-counted, counted-capture, counted-long}
 
 -- ---- a capture, or what is left of a long one, has come ----
 
 pub capture-come : (n : ℕ) (c l : List ℕ) (rest : List ℕ → Captures) → length c ≡ n → n ≤ longest
-    → captureThen n (c ++ l) rest ≡ capture c (rest l)
-unfolding captureThen unless◌answer◌then◌ if◌then◌else◌
+    → capture_then n (c ++ l) rest ≡ capture c (rest l)
+unfolding capture_then unless◌answer◌then◌ if◌then◌else◌
 capture-come n c l rest e h =
     let m : n ≤ length (c ++ l) = simp length-append (omega arith) in
     rw (le-leb n (length (c ++ l)) m, le-leb n longest h, take_at c l n e, drop_at c l n e)
 
-pub long-come : (n : ℕ) (c l : List ℕ) (rest : List ℕ → Captures) → length c ≡ n → longThen n (c ++ l) rest ≡ long (rest l)
-unfolding longThen unless◌answer◌then◌
+pub long-come : (n : ℕ) (c l : List ℕ) (rest : List ℕ → Captures) → length c ≡ n → long_then n (c ++ l) rest ≡ long (rest l)
+unfolding long_then unless◌answer◌then◌
 long-come n c l rest e =
     let m : n ≤ length (c ++ l) = simp length-append (omega arith) in
     rw (le-leb n (length (c ++ l)) m, drop_at c l n e)
 
-pub long-opened : (n : ℕ) (l : List ℕ) (rest : List ℕ → Captures) → leb n longest ≡ false → captureThen n l rest ≡ longThen n l rest
-unfolding captureThen longThen if◌then◌else◌
+pub long-opened : (n : ℕ) (l : List ℕ) (rest : List ℕ → Captures) → leb n longest ≡ false → capture_then n l rest ≡ long_then n l rest
+unfolding capture_then long_then if◌then◌else◌
 long-opened n l rest e = rw e
 
 -- bytes of a long one
-pub long-on : (n : ℕ) (c l : List ℕ) (rest : List ℕ → Captures) → length c ≤ n → longThen n (c ++ l) rest ≡ longThen (n - length c) l rest
-unfolding longThen unless◌answer◌then◌
+pub long-on : (n : ℕ) (c l : List ℕ) (rest : List ℕ → Captures) → length c ≤ n → long_then n (c ++ l) rest ≡ long_then (n - length c) l rest
+unfolding long_then unless◌answer◌then◌
 long-on n c l rest h =
     let d : drop n (c ++ l) ≡ drop (n - length c) l = dropped in
     by_cases (leb (n - length c) (length l))
@@ -60,15 +60,15 @@ long-on n c l rest h =
     dropped = let z : n ≡ length c + (n - length c) = omega arith in ap (λ k. drop k (c ++ l)) z ∙ drop-append-add c l (n - length c)
 
 -- a length has come
-pub length-come : (m : ℕ) (c l : List ℕ) → length c ≡ lengthSize → 0 < m
-    → capturesIn m (c ++ l) ≡ captureThen (number 0 lengthSize c) l (capturesIn (m - 1))
-unfolding capturesIn unless◌answer◌then◌ number
+pub length-come : (m : ℕ) (c l : List ℕ) → length c ≡ length_size → 0 < m
+    → captures_in m (c ++ l) ≡ capture_then (number 0 length_size c) l (captures_in (m - 1))
+unfolding captures_in unless◌answer◌then◌ number
 length-come zero c l e h = absurd (omega arith)
 length-come (suc m) c l e h =
     let s : 0 < length (c ++ l) = simp length-append (omega arith) in
-    let t : lengthSize ≤ length (c ++ l) = simp length-append (omega arith) in
+    let t : length_size ≤ length (c ++ l) = simp length-append (omega arith) in
     let z : suc m - 1 ≡ m = omega arith in
-    rw (lt-ltb 0 (length (c ++ l)) s, le-leb lengthSize (length (c ++ l)) t, take_at c l lengthSize e, drop_at c l lengthSize e, take_all lengthSize c (omega arith), z)
+    rw (lt-ltb 0 (length (c ++ l)) s, le-leb length_size (length (c ++ l)) t, take_at c l length_size e, drop_at c l length_size e, take_all length_size c (omega arith), z)
 
 -- ---- what a run of bytes leaves in the buffer ----
 
@@ -76,14 +76,14 @@ pub held_more : (have : ℕ) (run b after : List ℕ) → after ≡ put have run
     → take (have + length run) after ≡ take have b ++ run
 held_more have run b after e h =
     rw e (take-add have (length run) (put have run b)
-    ∙ rw (take-before have have run b (le_refl have), bytesAt-put have run b h))
+    ∙ rw (take-before have have run b (le_refl have), bytes_at-put have run b h))
 
 -- ---- the next item ----
 
 module _ (q : ℕ) (features counts : List ℕ) (w : Counted counts) where
   -- a capture has ended
-  awaits : (b l : List ℕ) → figuresFrom q features (awaiting counts) b l ≡ withRest q features counts (capturesIn (most - read_of counts) l)
-  unfolding awaiting if◌then◌else◌ capturesIn
+  awaits : (b l : List ℕ) → figures_from q features (awaiting counts) b l ≡ with_rest q features counts (captures_in (most - read_of counts) l)
+  unfolding awaiting if◌then◌else◌ captures_in
   awaits b l =
       by_cases (ltb (read_of counts) most) (λ e. rw e)
       (λ e.
@@ -101,33 +101,33 @@ module _ (q : ℕ) (features counts : List ℕ) (w : Counted counts) where
 module _ (q : ℕ) (features counts : List ℕ) (w : Counted counts) (h : read_of counts < most) where
   -- a capture of these bytes
   pub capture-closed : (c b l : List ℕ) → length c ≤ longest
-      → figuresFrom q features (awaiting (counts plus addsOf q features c)) b l
-      ≡ withRest q features counts (capture c (capturesIn (most - read_of counts - 1) l))
+      → figures_from q features (awaiting (counts plus adds_of q features c)) b l
+      ≡ with_rest q features counts (capture c (captures_in (most - read_of counts - 1) l))
   capture-closed c b l s =
-      let r : read_of (counts plus addsOf q features c) ≡ read_of counts + 1 = read_more counts q _ c w.some in
-      let z : most - read_of (counts plus addsOf q features c) ≡ most - read_of counts - 1 = omega arith in
+      let r : read_of (counts plus adds_of q features c) ≡ read_of counts + 1 = read_more counts q _ c w.some in
+      let z : most - read_of (counts plus adds_of q features c) ≡ most - read_of counts - 1 = omega arith in
       awaits q features _ (counted-capture counts w h q features c s) b l
-      ∙ ap (λ m. withRest q features (counts plus addsOf q features c) (capturesIn m l)) z ∙ one-counted q features counts c _
+      ∙ ap (λ m. with_rest q features (counts plus adds_of q features c) (captures_in m l)) z ∙ one-counted q features counts c _
 
-  pub long-closed : (b l : List ℕ) → figuresFrom q features (awaiting (counts plus addsLong)) b l
-      ≡ withRest q features counts (long (capturesIn (most - read_of counts - 1) l))
+  pub long-closed : (b l : List ℕ) → figures_from q features (awaiting (counts plus adds_long)) b l
+      ≡ with_rest q features counts (long (captures_in (most - read_of counts - 1) l))
   long-closed b l =
-      let r : read_of (counts plus addsLong) ≡ read_of counts + 1 = read_more counts 0 8 [] w.some in
-      let z : most - read_of (counts plus addsLong) ≡ most - read_of counts - 1 = omega arith in
+      let r : read_of (counts plus adds_long) ≡ read_of counts + 1 = read_more counts 0 8 [] w.some in
+      let z : most - read_of (counts plus adds_long) ≡ most - read_of counts - 1 = omega arith in
       awaits q features _ (counted-long counts w h) b l
-      ∙ ap (λ m. withRest q features (counts plus addsLong) (capturesIn m l)) z ∙ long-counted q features counts _
+      ∙ ap (λ m. with_rest q features (counts plus adds_long) (captures_in m l)) z ∙ long-counted q features counts _
 
   -- a length of n
-  pub length-closed : (n : ℕ) (b l : List ℕ) → figuresFrom q features (opened q features counts n) b l
-      ≡ withRest q features counts (captureThen n l (capturesIn (most - read_of counts - 1)))
+  pub length-closed : (n : ℕ) (b l : List ℕ) → figures_from q features (opened q features counts n) b l
+      ≡ with_rest q features counts (capture_then n l (captures_in (most - read_of counts - 1)))
   unfolding opened if◌then◌else◌
   length-closed n b l =
       by_cases (eqb n 0)
       (λ e. let z : n ≡ 0 = eqb-true _ _ e in
-      rw (e, z, capture-come 0 [] l (capturesIn (most - read_of counts - 1)) refl (omega arith)) (capture-closed [] b l (omega arith)))
+      rw (e, z, capture-come 0 [] l (captures_in (most - read_of counts - 1)) refl (omega arith)) (capture-closed [] b l (omega arith)))
       (λ e.
       by_cases (leb n longest) (λ f. rw (e, f, zero-add))
-      (λ f. rw (e, f) (ap (withRest q features counts) (sym (long-opened n l (capturesIn (most - read_of counts - 1)) f)))))
+      (λ f. rw (e, f) (ap (with_rest q features counts) (sym (long-opened n l (captures_in (most - read_of counts - 1)) f)))))
 
   pub opened-ready : (n : ℕ) (b : List ℕ) → length b ≡ longest → Ready (opened q features counts n) b
   unfolding opened

@@ -16,9 +16,9 @@ use Rattle.theory.specs.Bytes.{put}
 use Rattle.theory.proofs.Bytes.{length-put}
 use Rattle.wire.specs.Le.{le, number}
 use Rattle.tally.specs.Counts.{◌plus◌}
-use Rattle.tally.specs.Rows.{longest, addsOf}
-use Rattle.stream.specs.Stream.{lengthSize, most, captureThen, capturesIn}
-use Rattle.stream.specs.Progress.{read_of, restIn, rest_of, withRest, Within, Going, Ready, Took, Run}
+use Rattle.tally.specs.Rows.{longest, adds_of}
+use Rattle.stream.specs.Stream.{length_size, most, capture_then, captures_in}
+use Rattle.stream.specs.Progress.{read_of, rest_in, rest_of, with_rest, Within, Going, Ready, Took, Run}
 use Rattle.stream.specs.Steps.{progress, awaiting, opened, skipped}
 use Rattle.stream.specs.declared.Item.{Item}
 use Rattle.stream.specs.declared.Item.TheVariants as item
@@ -29,8 +29,8 @@ use Rattle.stream.proofs.Rest.{capture-come, long-come, long-on, length-come, he
 -- ---- the item under way ----
 
 module _ (p : Progress) (b : List ℕ) (i : Item) (e : p.item ≡ i) where
-  pub rest-is : (l : List ℕ) → rest_of p b l ≡ restIn i p.have p.left (most - read_of p.counts) (take p.have b) l
-  rest-is l = ap (λ x. restIn x p.have p.left (most - read_of p.counts) (take p.have b) l) e
+  pub rest-is : (l : List ℕ) → rest_of p b l ≡ rest_in i p.have p.left (most - read_of p.counts) (take p.have b) l
+  rest-is l = ap (λ x. rest_in x p.have p.left (most - read_of p.counts) (take p.have b) l) e
 
   pub within-is : Ready p b → Within i p.have p.left
   within-is w = rw e at w.within
@@ -38,14 +38,14 @@ module _ (p : Progress) (b : List ℕ) (i : Item) (e : p.item ≡ i) where
   pub going-is : Ready p b → Going i (read_of p.counts)
   going-is w = rw e at w.going
 
-number-front : (x : List ℕ) → number 0 lengthSize (take lengthSize x) ≡ number 0 lengthSize x
+number-front : (x : List ℕ) → number 0 length_size (take length_size x) ≡ number 0 length_size x
 unfolding number
-number-front x = ap le (take-take lengthSize lengthSize x (le_refl lengthSize))
+number-front x = ap le (take-take length_size length_size x (le_refl length_size))
 
 -- ---- a length ----
 
 module _ (p : Progress) (b run : List ℕ) (w : Ready p b) (e : p.item ≡ item.Length) (z : Run p.left (length run) (length run)) where
-  length-size : p.have + p.left ≡ lengthSize
+  length-size : p.have + p.left ≡ length_size
   length-size = within-is p b item.Length e w
 
   pub length-room : p.have + length run ≤ length b
@@ -61,7 +61,7 @@ module _ (p : Progress) (b run : List ℕ) (w : Ready p b) (e : p.item ≡ item.
     long_after : length after ≡ longest
     long_after = rw (put-there, length-put) w.room
 
-    pub length_front : lengthSize ≤ length after
+    pub length_front : length_size ≤ length after
     length_front = omega (arith, long_after)
 
     pub length_more : length run < p.left
@@ -75,28 +75,28 @@ module _ (p : Progress) (b run : List ℕ) (w : Ready p b) (e : p.item ≡ item.
         going = going-is p b item.Length e w;
       };
       same = λ l.
-          ap (withRest q features p.counts)
+          ap (with_rest q features p.counts)
           (rw (held, append_assoc) (sym (rest-is p b item.Length e (run ++ l))));
     }
 
-    pub length-done : (r : Progress) → r ≡ opened q features p.counts (number 0 lengthSize after) → p.left ≤ length run
+    pub length-done : (r : Progress) → r ≡ opened q features p.counts (number 0 length_size after) → p.left ≤ length run
         → Took q features p b run r after
     length-done r f h =
         let going : read_of p.counts < most = going-is p b item.Length e w in
-        let four : p.have + length run ≡ lengthSize = omega (arith, length-size, z.item) in
-        let c : take lengthSize after ≡ take p.have b ++ run = rw four at held in
-        let n : number 0 lengthSize (take p.have b ++ run) ≡ number 0 lengthSize after = rw (← c) (number-front after) in
-        let m : length (take p.have b ++ run) ≡ lengthSize = rw (← c) (length-take-le lengthSize after length_front) in
+        let four : p.have + length run ≡ length_size = omega (arith, length-size, z.item) in
+        let c : take length_size after ≡ take p.have b ++ run = rw four at held in
+        let n : number 0 length_size (take p.have b ++ run) ≡ number 0 length_size after = rw (← c) (number-front after) in
+        let m : length (take p.have b ++ run) ≡ length_size = rw (← c) (length-take-le length_size after length_front) in
         rw f (record {
-          ready = opened-ready q features p.counts w.counted going (number 0 lengthSize after) after long_after;
+          ready = opened-ready q features p.counts w.counted going (number 0 length_size after) after long_after;
           same = λ l.
-              let come : captureThen (number 0 lengthSize after) l (capturesIn (most - read_of p.counts - 1))
-              ≡ capturesIn (most - read_of p.counts) ((take p.have b ++ run) ++ l) =
+              let come : capture_then (number 0 length_size after) l (captures_in (most - read_of p.counts - 1))
+              ≡ captures_in (most - read_of p.counts) ((take p.have b ++ run) ++ l) =
               rw (← n) (sym (length-come (most - read_of p.counts) (take p.have b ++ run) l m (omega arith))) in
-              let rest : capturesIn (most - read_of p.counts) ((take p.have b ++ run) ++ l) ≡ rest_of p b (run ++ l) =
+              let rest : captures_in (most - read_of p.counts) ((take p.have b ++ run) ++ l) ≡ rest_of p b (run ++ l) =
               rw append_assoc (sym (rest-is p b item.Length e (run ++ l))) in
-              length-closed q features p.counts w.counted going (number 0 lengthSize after) after l
-              ∙ ap (withRest q features p.counts) (come ∙ rest);
+              length-closed q features p.counts w.counted going (number 0 length_size after) after l
+              ∙ ap (with_rest q features p.counts) (come ∙ rest);
         })
 
 -- ---- a capture ----
@@ -120,17 +120,17 @@ module _ (p : Progress) (b run : List ℕ) (w : Ready p b) (e : p.item ≡ item.
   -- c: all its bytes
   done : (q : ℕ) (features after c : List ℕ) → c ≡ take p.have b ++ run → p.left ≤ length run → length c ≤ longest
       → length c ≡ p.have + p.left → length after ≡ longest
-      → Took q features p b run (awaiting (p.counts plus addsOf q features c)) after
+      → Took q features p b run (awaiting (p.counts plus adds_of q features c)) after
   done q features after c k h s n a = record {
     ready = awaiting-ready q features _ (counted-capture p.counts w.counted capture-going q features c s) after a;
     same = λ l.
         capture-closed q features p.counts w.counted capture-going c after l s
-        ∙ ap (withRest q features p.counts)
-        (sym (capture-come (p.have + p.left) c l (capturesIn (most - read_of p.counts - 1)) n capture-size)
+        ∙ ap (with_rest q features p.counts)
+        (sym (capture-come (p.have + p.left) c l (captures_in (most - read_of p.counts - 1)) n capture-size)
         ∙ rw (k, append_assoc) (sym (rest-is p b item.Capture e (run ++ l))));
   }
 
-  pub capture-here : (q : ℕ) (features : List ℕ) (r : Progress) → r ≡ awaiting (p.counts plus addsOf q features run)
+  pub capture-here : (q : ℕ) (features : List ℕ) (r : Progress) → r ≡ awaiting (p.counts plus adds_of q features run)
       → p.left ≤ length run → p.have ≡ 0 → Took q features p b run r b
   capture-here q features r f h k =
       let none : run ≡ take p.have b ++ run = rw k in
@@ -162,11 +162,11 @@ module _ (p : Progress) (b run : List ℕ) (w : Ready p b) (e : p.item ≡ item.
             going = capture-going;
           };
           same = λ l.
-              ap (withRest q features p.counts)
+              ap (with_rest q features p.counts)
               (rw (same_size, held-here, append_assoc) (sym (rest-is p b item.Capture e (run ++ l))));
         }
 
-    pub capture-done : (r : Progress) → r ≡ awaiting (p.counts plus addsOf q features (take (p.have + length run - 0) (drop 0 after)))
+    pub capture-done : (r : Progress) → r ≡ awaiting (p.counts plus adds_of q features (take (p.have + length run - 0) (drop 0 after)))
         → p.left ≤ length run → Took q features p b run r after
     capture-done r f h =
         let n : length (take (p.have + length run) after) ≡ p.have + length run = length-take-le (p.have + length run) after after-room in
@@ -185,8 +185,8 @@ module _ (p : Progress) (b run : List ℕ) (w : Ready p b) (z : Run p.left (leng
       rw (f, t) (record {
         ready = record { room = w.room; more = omega arith; counted = w.counted; within = tt; going = going-is p b item.Skipped e w };
         same = λ l.
-            ap (withRest q features p.counts)
-            (sym (rest-is p b item.Skipped e (run ++ l) ∙ long-on p.left run l (capturesIn (most - read_of p.counts - 1)) z.item));
+            ap (with_rest q features p.counts)
+            (sym (rest-is p b item.Skipped e (run ++ l) ∙ long-on p.left run l (captures_in (most - read_of p.counts - 1)) z.item));
       }))
       (λ t.
       let h : p.left ≤ length run = ltb-false _ _ t in
@@ -195,13 +195,13 @@ module _ (p : Progress) (b run : List ℕ) (w : Ready p b) (z : Run p.left (leng
         ready = awaiting-ready q features _ (counted-long p.counts w.counted going) b w.room;
         same = λ l.
             long-closed q features p.counts w.counted going b l
-            ∙ ap (withRest q features p.counts)
+            ∙ ap (with_rest q features p.counts)
             (sym (rest-is p b item.Skipped e (run ++ l)
-            ∙ long-come p.left run l (capturesIn (most - read_of p.counts - 1)) (omega (arith, z.item))));
+            ∙ long-come p.left run l (captures_in (most - read_of p.counts - 1)) (omega (arith, z.item))));
       }))
 
   pub stop-took : (q : ℕ) (features : List ℕ) → p.item ≡ item.Stopped → Took q features p b run p b
   stop-took q features e = record {
     ready = w;
-    same = λ l. ap (withRest q features p.counts) (rest-is p b item.Stopped e l ∙ sym (rest-is p b item.Stopped e (run ++ l)));
+    same = λ l. ap (with_rest q features p.counts) (rest-is p b item.Stopped e l ∙ sym (rest-is p b item.Stopped e (run ++ l)));
   }

@@ -2,8 +2,8 @@
 use Rattle.std.specs.Prelude.{◌≡◌, Bool, true, false, List, ◌++◌, ℕ, ◌+◌, ◌-◌, ◌*◌, ◌≤◌, ◌<◌, eqb, leb, length, get_or, take, drop, replicate}
 use Rattle.theory.specs.Logic.{unless◌answer◌then◌}
 use Rattle.tally.specs.Counts.{◌plus◌}
-use Rattle.tally.specs.Rows.{longest, rowCount}
-use Rattle.stream.specs.Stream.{Captures, torn, long, lengthSize, most, captureThen, capturesIn, is_whole}
+use Rattle.tally.specs.Rows.{longest, row_count}
+use Rattle.stream.specs.Stream.{Captures, torn, long, length_size, most, capture_then, captures_in, is_whole}
 use Rattle.sheet.specs.Text.{Figures, figures, text_of}
 use Rattle.stream.specs.Totals.{totals}
 use Rattle.stream.specs.declared.Item.{Item}
@@ -15,56 +15,56 @@ abbrev pub read_of : List ℕ → ℕ
 read_of counts = get_or counts 0 0
 
 -- a long capture of which n bytes are still to come
-unfoldable pub longThen : ℕ → List ℕ → (List ℕ → Captures) → Captures
-longThen n l rest = unless leb n (length l) answer torn then long (rest (drop n l))
+unfoldable pub long_then : ℕ → List ℕ → (List ℕ → Captures) → Captures
+long_then n l rest = unless leb n (length l) answer torn then long (rest (drop n l))
 
 -- the captures that are not counted yet, where these bytes are held and l follows
-abbrev pub restIn : Item → ℕ → ℕ → ℕ → List ℕ → List ℕ → Captures
-restIn item.Length have left more held l = capturesIn more (held ++ l)
-restIn item.Capture have left more held l = captureThen (have + left) (held ++ l) (capturesIn (more - 1))
-restIn item.Skipped have left more held l = longThen left l (capturesIn (more - 1))
-restIn item.Stopped have left more held l = torn
+abbrev pub rest_in : Item → ℕ → ℕ → ℕ → List ℕ → List ℕ → Captures
+rest_in item.Length have left more held l = captures_in more (held ++ l)
+rest_in item.Capture have left more held l = capture_then (have + left) (held ++ l) (captures_in (more - 1))
+rest_in item.Skipped have left more held l = long_then left l (captures_in (more - 1))
+rest_in item.Stopped have left more held l = torn
 
 -- as many of the buffer's bytes are held as the progress has
 abbrev pub rest_of : Progress → List ℕ → List ℕ → Captures
-rest_of p buffer l = restIn p.item p.have p.left (most - read_of p.counts) (take p.have buffer) l
+rest_of p buffer l = rest_in p.item p.have p.left (most - read_of p.counts) (take p.have buffer) l
 
 -- counts, and captures that are still to be counted
-unfoldable pub withRest : ℕ → List ℕ → List ℕ → Captures → Figures
-withRest queues features counts cs =
+unfoldable pub with_rest : ℕ → List ℕ → List ℕ → Captures → Figures
+with_rest queues features counts cs =
     record { counts = counts plus totals queues features cs; ended = is_whole cs }
 
 -- the figures of all captures, where l follows
-abbrev pub figuresFrom : ℕ → List ℕ → Progress → List ℕ → List ℕ → Figures
-figuresFrom queues features p buffer l = withRest queues features p.counts (rest_of p buffer l)
+abbrev pub figures_from : ℕ → List ℕ → Progress → List ℕ → List ℕ → Figures
+figures_from queues features p buffer l = with_rest queues features p.counts (rest_of p buffer l)
 
 -- nothing is taken yet
 abbrev pub started : Progress
-started = record { item = item.Length; have = 0; left = lengthSize; counts = replicate rowCount 0 }
+started = record { item = item.Length; have = 0; left = length_size; counts = replicate row_count 0 }
 
 -- the stream ends here: it is whole between captures
-abbrev pub endedIn : Item → ℕ → Bool
-endedIn item.Length have = eqb have 0
-endedIn item.Capture have = false
-endedIn item.Skipped have = false
-endedIn item.Stopped have = false
+abbrev pub ended_in : Item → ℕ → Bool
+ended_in item.Length have = eqb have 0
+ended_in item.Capture have = false
+ended_in item.Skipped have = false
+ended_in item.Stopped have = false
 
 abbrev pub ended : Progress → Bool
-ended p = endedIn p.item p.have
+ended p = ended_in p.item p.have
 
 -- the sheet of a stream that ends here
-unfoldable pub finishedOf : Progress → List ℕ
-finishedOf p = text_of (figures p.counts (ended p))
+unfoldable pub finished_of : Progress → List ℕ
+finished_of p = text_of (figures p.counts (ended p))
 
 -- nothing more is taken, whatever follows
-abbrev pub stoppedIn : Item → Bool
-stoppedIn item.Length = false
-stoppedIn item.Capture = false
-stoppedIn item.Skipped = false
-stoppedIn item.Stopped = true
+abbrev pub stopped_in : Item → Bool
+stopped_in item.Length = false
+stopped_in item.Capture = false
+stopped_in item.Skipped = false
+stopped_in item.Stopped = true
 
 abbrev pub stopped : Progress → Bool
-stopped p = stoppedIn p.item
+stopped p = stopped_in p.item
 
 -- ---- what holds of every progress ----
 
@@ -76,7 +76,7 @@ pub record Counted (counts : List ℕ) : Type 0 where
 
 -- an item that is held has room, and captures are taken up to the last one
 abbrev pub Within : Item → ℕ → ℕ → Type 0
-Within item.Length have left = have + left ≡ lengthSize
+Within item.Length have left = have + left ≡ length_size
 Within item.Capture have left = have + left ≤ longest
 Within item.Skipped have left = Unit {0}
 Within item.Stopped have left = Unit {0}
@@ -97,7 +97,7 @@ pub record Ready (p : Progress) (buffer : List ℕ) : Type 0 where
 -- a chunk was taken: whatever follows, the figures are those of the chunk and what follows
 pub record Took (queues : ℕ) (features : List ℕ) (p : Progress) (buffer chunk : List ℕ) (r : Progress) (after : List ℕ) : Type 0 where
   pub ready : Ready r after
-  pub same : (l : List ℕ) → figuresFrom queues features r after l ≡ figuresFrom queues features p buffer (chunk ++ l)
+  pub same : (l : List ℕ) → figures_from queues features r after l ≡ figures_from queues features p buffer (chunk ++ l)
 
 -- so many bytes of a chunk are a run: no more than the item under way still takes
 pub record Run (left rest n : ℕ) : Type 0 where

@@ -12,26 +12,26 @@ pub data Captures : Type 0 where
   long : Captures → Captures
 
 -- each stands behind its length, in four bytes
-abbrev pub lengthSize : ℕ
-lengthSize = 4
+abbrev pub length_size : ℕ
+length_size = 4
 
 -- as many are taken
 abbrev pub most : ℕ
 most = 4294967295
 
 -- a capture of n bytes, then the rest; one over 4,064 bytes is not looked into. It is torn where the stream ends in it
-unfoldable pub captureThen : ℕ → List ℕ → (List ℕ → Captures) → Captures
-captureThen n l rest =
+unfoldable pub capture_then : ℕ → List ℕ → (List ℕ → Captures) → Captures
+capture_then n l rest =
     unless leb n (length l) answer torn then
     if leb n longest then capture (take n l) (rest (drop n l)) else long (rest (drop n l))
 
 -- a stream of which n captures at most are taken: it is torn after so many, whatever follows, also nothing
-unfoldable pub capturesIn : ℕ → List ℕ → Captures
-capturesIn zero l = torn
-capturesIn (suc n) l =
+unfoldable pub captures_in : ℕ → List ℕ → Captures
+captures_in zero l = torn
+captures_in (suc n) l =
     unless ltb 0 (length l) answer whole then
-    unless leb lengthSize (length l) answer torn then
-    captureThen (number 0 lengthSize l) (drop lengthSize l) (capturesIn n)
+    unless leb length_size (length l) answer torn then
+    capture_then (number 0 length_size l) (drop length_size l) (captures_in n)
 
 unfoldable pub is_whole : Captures → Bool
 is_whole whole = true

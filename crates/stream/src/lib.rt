@@ -4,10 +4,10 @@ ghost use Rattle.std.specs.Prelude.{◌≡◌, ◌<◌, ◌≤◌, length};
 ghost use Rattle.theory.specs.Bytes.{put};
 ghost use Rattle.wire.specs.Le.{number};
 ghost use Rattle.tally.specs.Counts.{◌plus◌};
-ghost use Rattle.tally.specs.Rows.{longest, addsOf};
-ghost use Rattle.sheet.specs.Text.{sheetRoom};
-ghost use Rattle.stream.specs.Stream.{lengthSize};
-ghost use Rattle.stream.specs.Progress.{started, ended, stopped, finishedOf, Counted, Ready, Run, Took};
+ghost use Rattle.tally.specs.Rows.{longest, adds_of};
+ghost use Rattle.sheet.specs.Text.{sheet_room};
+ghost use Rattle.stream.specs.Stream.{length_size};
+ghost use Rattle.stream.specs.Progress.{started, ended, stopped, finished_of, Counted, Ready, Run, Took};
 ghost use Rattle.stream.specs.Steps.{awaiting, opened, skipped};
 
 use tally::{LINES, LONGEST, READ};
@@ -62,15 +62,15 @@ fn await_length(counts: [u64; LINES]) -> Progress
 // A capture has come whole.
 fn close_capture(counts: [u64; LINES], queues: u8, features: &[u8], capture: &[u8]) -> Progress
     requires { Counted counts × (length capture.now ≤ longest) }
-    ensures { result ≡ awaiting (counts plus addsOf queues features.now capture.now) }
+    ensures { result ≡ awaiting (counts plus adds_of queues features.now capture.now) }
 {
     await_length(tally::count_capture(counts, queues, features, capture))
 }
 
 // A length has come whole; its four bytes are the first ones held.
 fn open_capture(counts: [u64; LINES], queues: u8, features: &[u8], held: &[u8]) -> Progress
-    requires { Counted counts × (lengthSize ≤ length held.now) }
-    ensures { result ≡ opened queues features.now counts (number 0 lengthSize held.now) }
+    requires { Counted counts × (length_size ≤ length held.now) }
+    ensures { result ≡ opened queues features.now counts (number 0 length_size held.now) }
 {
     let n = wire::read_u32(held, 0) as usize;
     if n == 0 {
@@ -234,8 +234,8 @@ pub fn is_stopped(p: Progress) -> bool
 
 // The stream has ended: its sheet, from the start of the buffer. Answers how long it is.
 pub fn finish(p: Progress, out: &mut [u8]) -> usize
-    requires { Counted p.counts × (sheetRoom ≤ length out.old) }
-    ensures { (out.new ≡ put 0 (finishedOf p) out.old) × (result ≡ length (finishedOf p)) }
+    requires { Counted p.counts × (sheet_room ≤ length out.old) }
+    ensures { (out.new ≡ put 0 (finished_of p) out.old) × (result ≡ length (finished_of p)) }
 {
     let counts = p.counts;
     sheet::write(out, counts, is_whole(p))

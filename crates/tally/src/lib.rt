@@ -2,9 +2,9 @@
 ghost use Rattle.std.specs.Prelude.{◌≡◌, ◌≤◌, ◌^◌, length};
 ghost use Rattle.parts.specs.declared.ListForm.TheVariants.{Parts};
 ghost use Rattle.parts.specs.List.{parts_of};
-ghost use Rattle.tally.specs.Rows.{causeLine, longLine, longest, addsOf, addsLong};
+ghost use Rattle.tally.specs.Rows.{cause_line, long_line, longest, adds_of, adds_long};
 ghost use Rattle.tally.specs.Counts.{◌plus◌, Below};
-ghost use Rattle.tally.specs.Steps.{partAdds, partsAdd, contentsAdd, captureAdds};
+ghost use Rattle.tally.specs.Steps.{part_adds, parts_add, contents_add, capture_adds};
 
 use inventory::{DEVICE_FEATURES, Place};
 use parts::{ListForm, Step};
@@ -28,7 +28,7 @@ const BYTES: usize = 15;
 
 // The line that counts captures of a cause.
 fn cause_line(cause: Cause) -> usize
-    ensures { result ≡ causeLine cause }
+    ensures { result ≡ cause_line cause }
 {
     match cause {
         Cause::Accepted => ACCEPTED,
@@ -44,7 +44,7 @@ fn cause_line(cause: Cause) -> usize
 // One part more in the line of its type, where a member with so many queues has got the part.
 fn count_part(counts: &mut [u64; LINES], queues: u8, t: u16, selector: u64)
     requires { Below (2 ^ 63) counts.old }
-    ensures { counts.new ≡ counts.old plus partAdds queues t selector }
+    ensures { counts.new ≡ counts.old plus part_adds queues t selector }
 {
     let Place::At(_) = inventory::place_of(queues, t, selector) else {
         return;
@@ -56,7 +56,7 @@ fn count_part(counts: &mut [u64; LINES], queues: u8, t: u16, selector: u64)
 // The parts of a capture, each in the line of its type.
 fn count_parts(counts: &mut [u64; LINES], queues: u8, capture: &[u8])
     requires { Below (2 ^ 62) counts.old × (length capture.now ≤ longest) }
-    ensures { counts.new ≡ counts.old plus partsAdd queues (parts_of Parts capture.now) }
+    ensures { counts.new ≡ counts.old plus parts_add queues (parts_of Parts capture.now) }
 {
     let mut at = 0;
     loop {
@@ -78,7 +78,7 @@ fn count_parts(counts: &mut [u64; LINES], queues: u8, capture: &[u8])
 // What an accepted capture adds besides: its parts and its bytes.
 fn with_contents(counts: [u64; LINES], queues: u8, capture: &[u8]) -> [u64; LINES]
     requires { Below (2 ^ 62) counts × (length capture.now ≤ longest) }
-    ensures { result ≡ counts plus contentsAdd queues capture.now }
+    ensures { result ≡ counts plus contents_add queues capture.now }
 {
     let mut sums = counts;
     count_parts(&mut sums, queues, capture);
@@ -88,8 +88,8 @@ fn with_contents(counts: [u64; LINES], queues: u8, capture: &[u8]) -> [u64; LINE
 
 // One capture more, in `read` and in another line.
 fn with_capture(counts: [u64; LINES], line: usize) -> [u64; LINES]
-    requires { Below (2 ^ 63) counts × (line ≤ longLine) }
-    ensures { result ≡ counts plus captureAdds line }
+    requires { Below (2 ^ 63) counts × (line ≤ long_line) }
+    ensures { result ≡ counts plus capture_adds line }
 {
     let mut sums = counts;
     sums[READ] += 1;
@@ -105,7 +105,7 @@ pub fn count_capture(
     capture: &[u8],
 ) -> [u64; LINES]
     requires { Below (2 ^ 62) counts × (length capture.now ≤ longest) }
-    ensures { result ≡ counts plus addsOf queues features.now capture.now }
+    ensures { result ≡ counts plus adds_of queues features.now capture.now }
 {
     let line = cause_line(rules::check_list(queues, features, capture));
     if line == ACCEPTED {
@@ -117,7 +117,7 @@ pub fn count_capture(
 // The counts with one long capture more.
 pub fn count_long(counts: [u64; LINES]) -> [u64; LINES]
     requires { Below (2 ^ 62) counts }
-    ensures { result ≡ counts plus addsLong }
+    ensures { result ≡ counts plus adds_long }
 {
     with_capture(counts, LONG)
 }

@@ -47,12 +47,12 @@ put-comm (suc i) x zero y (b ∷ l) h = absurd (omega arith)
 put-comm (suc i) x (suc j) y (b ∷ l) h = ap (b ∷◌) (put-comm i x j y l (omega arith))
 
 -- to put what is there changes nothing
-pub put-bytesAt : (at n : ℕ) (l : List ℕ) → put at (bytes_at at n l) l ≡ l
+pub put-bytes_at : (at n : ℕ) (l : List ℕ) → put at (bytes_at at n l) l ≡ l
 unfolding put
-put-bytesAt at n [] = refl
-put-bytesAt zero zero (b ∷ l) = refl
-put-bytesAt zero (suc n) (b ∷ l) = ap (b ∷◌) (put-bytesAt zero n l)
-put-bytesAt (suc at) n (b ∷ l) = ap (b ∷◌) (put-bytesAt at n l)
+put-bytes_at at n [] = refl
+put-bytes_at zero zero (b ∷ l) = refl
+put-bytes_at zero (suc n) (b ∷ l) = ap (b ∷◌) (put-bytes_at zero n l)
+put-bytes_at (suc at) n (b ∷ l) = ap (b ∷◌) (put-bytes_at at n l)
 
 -- past the end nothing is put
 pub put-out : (at : ℕ) (x l : List ℕ) → length l ≤ at → put at x l ≡ l
@@ -132,25 +132,25 @@ take_put (suc n) zero (v ∷ x) (b ∷ l) = ap (v ∷◌) (take_put n zero x l)
 take_put (suc n) (suc i) x (b ∷ l) = ap (b ∷◌) (take_put n i x l)
 
 -- a part that lies before, and one that lies after, is as it was
-pub bytesAt-before : (at n i : ℕ) (x l : List ℕ) → at + n ≤ i → bytes_at at n (put i x l) ≡ bytes_at at n l
-bytesAt-before at n i x l h =
+pub bytes_at-before : (at n i : ℕ) (x l : List ℕ) → at + n ≤ i → bytes_at at n (put i x l) ≡ bytes_at at n l
+bytes_at-before at n i x l h =
     let e : i ≡ at + (i - at) = omega arith in
     ap (λ k. bytes_at at n (put k x l)) e
     ∙ rw drop-put (take-before n (i - at) x (drop at l) (omega arith))
 
-pub bytesAt-after : (at n i : ℕ) (x l : List ℕ) → i + length x ≤ at → bytes_at at n (put i x l) ≡ bytes_at at n l
-bytesAt-after at n i x l h = ap (take n) (drop-after at i x l h)
+pub bytes_at-after : (at n i : ℕ) (x l : List ℕ) → i + length x ≤ at → bytes_at at n (put i x l) ≡ bytes_at at n l
+bytes_at-after at n i x l h = ap (take n) (drop-after at i x l h)
 
 -- what was put
-pub bytesAt-put : (at : ℕ) (x l : List ℕ) → at + length x ≤ length l → bytes_at at (length x) (put at x l) ≡ x
-bytesAt-put at x l h =
+pub bytes_at-put : (at : ℕ) (x l : List ℕ) → at + length x ≤ length l → bytes_at at (length x) (put at x l) ≡ x
+bytes_at-put at x l h =
     ap (bytes_at at (length x)) (put-eq at x l h)
     ∙ ap (take (length x)) (drop_at (take at l) _ at (length-take-le at l (omega arith)))
     ∙ take_at x _ (length x) refl
 
 -- the same, at a length that is known
-pub bytesAt-put-as : (at n : ℕ) (x l : List ℕ) → length x ≡ n → at + n ≤ length l → bytes_at at n (put at x l) ≡ x
-bytesAt-put-as at n x l e h = rw (← e) (bytesAt-put at x l (rw e h))
+pub bytes_at-put-as : (at n : ℕ) (x l : List ℕ) → length x ≡ n → at + n ≤ length l → bytes_at at n (put at x l) ≡ x
+bytes_at-put-as at n x l e h = rw (← e) (bytes_at-put at x l (rw e h))
 
 -- ---- a part ----
 
@@ -159,18 +159,18 @@ drop-take zero m l = rw zero-add
 drop-take (suc n) m [] = rw (suc-add, take-nil)
 drop-take (suc n) m (x ∷ l) = rw suc-add (drop-take n m l)
 
-pub length-bytesAt : (at n : ℕ) (l : List ℕ) → at + n ≤ length l → length (bytes_at at n l) ≡ n
-length-bytesAt at n l h = length-take-le n (drop at l) (rw length-drop (omega arith))
+pub length-bytes_at : (at n : ℕ) (l : List ℕ) → at + n ≤ length l → length (bytes_at at n l) ≡ n
+length-bytes_at at n l h = length-take-le n (drop at l) (rw length-drop (omega arith))
 
-pub length-bytesAt-le : (at n : ℕ) (l : List ℕ) → length (bytes_at at n l) ≤ n
-length-bytesAt-le at n l = rw length-take (omega arith)
+pub length-bytes_at-le : (at n : ℕ) (l : List ℕ) → length (bytes_at at n l) ≤ n
+length-bytes_at-le at n l = rw length-take (omega arith)
 
-pub getD-bytesAt : (at n i : ℕ) (l : List ℕ) → i < n → get_or (bytes_at at n l) i 0 ≡ get_or l (at + i) 0
-getD-bytesAt at n i l h = rw (get_or-take, get_or-drop)
+pub get_or-bytes_at : (at n i : ℕ) (l : List ℕ) → i < n → get_or (bytes_at at n l) i 0 ≡ get_or l (at + i) 0
+get_or-bytes_at at n i l h = rw (get_or-take, get_or-drop)
 
 -- a part of a part
-pub bytesAt-bytesAt : (at n b m : ℕ) (l : List ℕ) → at + n ≤ m → bytes_at at n (bytes_at b m l) ≡ bytes_at (b + at) n l
-bytesAt-bytesAt at n b m l h =
+pub bytes_at-bytes_at : (at n b m : ℕ) (l : List ℕ) → at + n ≤ m → bytes_at at n (bytes_at b m l) ≡ bytes_at (b + at) n l
+bytes_at-bytes_at at n b m l h =
     let k : n ≤ m - at = omega arith in
     let e : m ≡ at + (m - at) = omega arith in
     ap (λ j. bytes_at at n (bytes_at b j l)) e
@@ -181,5 +181,5 @@ pub put-within : (at n i : ℕ) (x l : List ℕ) → i + length x ≤ n → at +
 put-within at n i x l h k =
     let l' = put (at + i) x l in
     let e : put i x (bytes_at at n l) ≡ bytes_at at n l' = sym (take_put n i x (drop at l)) ∙ ap (take n) (sym (drop-put at i x l)) in
-    let m : length (bytes_at at n l') ≡ n = length-bytesAt at n l' (rw length-put k) in
-    rw e (sym (put-over at (at + i) x (bytes_at at n l') l (omega arith) (omega arith)) ∙ put-bytesAt at n l')
+    let m : length (bytes_at at n l') ≡ n = length-bytes_at at n l' (rw length-put k) in
+    rw e (sym (put-over at (at + i) x (bytes_at at n l') l (omega arith) (omega arith)) ∙ put-bytes_at at n l')

@@ -24,12 +24,12 @@ module _ {State Call Reply : Type 0} {step : State → Call → State × Reply} 
   swappable stays x y h t [] s g =
       let e = h s g in
       record {
-        sameReplies = rw (e.first, e.second, e.states);
-        sameEnd = ap (λ u. run step u t) e.states;
+        same_replies = rw (e.first, e.second, e.states);
+        same_end = ap (λ u. run step u t) e.states;
       }
   swappable stays x y h t (c ∷ p) s g =
       let e = swappable stays x y h t p (step s c).0 (stays s c g) in
-      record { sameReplies = ap ((step s c).1 ∷◌) e.sameReplies; sameEnd = e.sameEnd }
+      record { same_replies = ap ((step s c).1 ∷◌) e.same_replies; same_end = e.same_end }
 
   -- ---- by masks ----
 

@@ -22,68 +22,68 @@ abbrev cells : ℕ → ℕ → ℕ → Cells
 cells l r k = record { left = l; right = r; locked = k }
 
 data Call : Type 0 where
-  storeLeft : ℕ → Call
-  storeRight : ℕ → Call
+  store_left : ℕ → Call
+  store_right : ℕ → Call
   lock : Call
-  resetLeft : Call
+  reset_left : Call
 
 -- a store replies what the cell held; a reset clears the left cell and replies 0, or is refused with 1 where the lock is set
 step : Cells → Call → Cells × ℕ
-step s (storeLeft n) = (cells n s.right s.locked, s.left)
-step s (storeRight n) = (cells s.left n s.locked, s.right)
+step s (store_left n) = (cells n s.right s.locked, s.left)
+step s (store_right n) = (cells s.left n s.locked, s.right)
 step s lock = (cells s.left s.right 1, 0)
-step s resetLeft = if eqb s.locked 0 then (cells 0 s.right s.locked, 0) else (s, 1)
+step s reset_left = if eqb s.locked 0 then (cells 0 s.right s.locked, 0) else (s, 1)
 
 Good : Cells → Type 0
 Good s = s.locked ≤ 1
 
 stays : (s : Cells) (c : Call) → Good s → Good (step s c).0
 unfolding step Good
-stays s (storeLeft n) g = g
-stays s (storeRight n) g = g
+stays s (store_left n) g = g
+stays s (store_right n) g = g
 stays s lock g = omega arith
-stays s resetLeft g = if-cases (λ (y : Cells × ℕ). y.0.locked ≤ 1) _ _ _ (λ e. g) (λ e. g)
+stays s reset_left g = if-cases (λ (y : Cells × ℕ). y.0.locked ≤ 1) _ _ _ (λ e. g) (λ e. g)
 
 -- ---- the left cell hidden ----
 
-namesLeft : Call → Bool
-namesLeft (storeLeft n) = true
-namesLeft (storeRight n) = false
-namesLeft lock = false
-namesLeft resetLeft = false
+names_left : Call → Bool
+names_left (store_left n) = true
+names_left (store_right n) = false
+names_left lock = false
+names_left reset_left = false
 
 -- a reset that is not refused
 data Wipes : Call → ℕ → Type 0 where
-  reset : Wipes resetLeft 0
+  reset : Wipes reset_left 0
 
-clearLeft : Cells → Cells
-clearLeft s = cells 0 s.right s.locked
+clear_left : Cells → Cells
+clear_left s = cells 0 s.right s.locked
 
-hides-left : (s : Cells) (c : Call) → namesLeft c ≡ true → clearLeft (step s c).0 ≡ clearLeft s
-unfolding step namesLeft clearLeft
-hides-left s (storeLeft n) h = refl
-hides-left s (storeRight n) h = cc
+hides-left : (s : Cells) (c : Call) → names_left c ≡ true → clear_left (step s c).0 ≡ clear_left s
+unfolding step names_left clear_left
+hides-left s (store_left n) h = refl
+hides-left s (store_right n) h = cc
 hides-left s lock h = cc
-hides-left s resetLeft h = cc
+hides-left s reset_left h = cc
 
-answers-left : (s : Cells) (c : Call) → namesLeft c ≡ false
-    → ((step (clearLeft s) c).1 ≡ (step s c).1) × (clearLeft (step (clearLeft s) c).0 ≡ clearLeft (step s c).0)
-unfolding step namesLeft clearLeft if◌then◌else◌
-answers-left s (storeLeft n) h = (cc, refl)
-answers-left s (storeRight n) h = (refl, refl)
+answers-left : (s : Cells) (c : Call) → names_left c ≡ false
+    → ((step (clear_left s) c).1 ≡ (step s c).1) × (clear_left (step (clear_left s) c).0 ≡ clear_left (step s c).0)
+unfolding step names_left clear_left if◌then◌else◌
+answers-left s (store_left n) h = (cc, refl)
+answers-left s (store_right n) h = (refl, refl)
 answers-left s lock h = (refl, refl)
-answers-left s resetLeft h = by_cases (eqb s.locked 0) (λ e. rw e (refl, refl)) (λ e. rw e (refl, refl))
+answers-left s reset_left h = by_cases (eqb s.locked 0) (λ e. rw e (refl, refl)) (λ e. rw e (refl, refl))
 
-shown : (c : Call) (x : ℕ) → Wipes c x → namesLeft c ≡ false
-unfolding namesLeft
+shown : (c : Call) (x : ℕ) → Wipes c x → names_left c ≡ false
+unfolding names_left
 shown _ _ reset = refl
 
-wiped : (s : Cells) (c : Call) (x : ℕ) → Wipes c x → x ≡ (step s c).1 → step (clearLeft s) c ≡ step s c
-unfolding step clearLeft if◌then◌else◌
+wiped : (s : Cells) (c : Call) (x : ℕ) → Wipes c x → x ≡ (step s c).1 → step (clear_left s) c ≡ step s c
+unfolding step clear_left if◌then◌else◌
 wiped s _ _ reset e =
     by_cases (eqb s.locked 0) (λ q. rw q) (λ q. let z : ◌≡◌ {A = ℕ} 0 1 = rw q at e in absurd (omega arith))
 
-left-masking : Masking step namesLeft Wipes Good clearLeft
+left-masking : Masking step names_left Wipes Good clear_left
 left-masking = record {
   stays = stays;
   hides = λ s c g. hides-left s c;
@@ -94,59 +94,59 @@ left-masking = record {
 
 -- ---- two runs, and what is seen of them ----
 
-runA : List Call
-runA = storeLeft 5 ∷ storeRight 7 ∷ []
+run_a : List Call
+run_a = store_left 5 ∷ store_right 7 ∷ []
 
-runB : List Call
-runB = storeRight 7 ∷ storeLeft 6 ∷ storeLeft 8 ∷ []
+run_b : List Call
+run_b = store_right 7 ∷ store_left 6 ∷ store_left 8 ∷ []
 
 -- the runs leave other states: the calls that name the left cell do change it
-ends-differ : run step (cells 1 2 0) runA ≡ run step (cells 4 2 0) runB → ⊥
-unfolding run step runA runB
+ends-differ : run step (cells 1 2 0) run_a ≡ run step (cells 4 2 0) run_b → ⊥
+unfolding run step run_a run_b
 ends-differ e = let z : ◌≡◌ {A = ℕ} 5 8 = ap (λ s. s.left) e in omega arith
 
 -- with a reset after each, and whatever calls after that, the observer sees the same
 sees-the-same : (t : List Call)
-    → seen namesLeft (length runA) (trace step (cells 1 2 0) (runA ++ resetLeft ∷ t))
-    ≡ seen namesLeft (length runB) (trace step (cells 4 2 0) (runB ++ resetLeft ∷ t))
-unfolding Good clearLeft visible run step if◌then◌else◌ namesLeft runA runB
+    → seen names_left (length run_a) (trace step (cells 1 2 0) (run_a ++ reset_left ∷ t))
+    ≡ seen names_left (length run_b) (trace step (cells 4 2 0) (run_b ++ reset_left ∷ t))
+unfolding Good clear_left visible run step if◌then◌else◌ names_left run_a run_b
 sees-the-same =
-    isolated-by-mask left-masking (cells 1 2 0) (cells 4 2 0) (omega arith) (omega arith) refl runA runB refl resetLeft reset
+    isolated-by-mask left-masking (cells 1 2 0) (cells 4 2 0) (omega arith) (omega arith) refl run_a run_b refl reset_left reset
 
 -- and it does see: the visible reply, and after the reset everything
-sees-something : seen namesLeft (length runA) (trace step (cells 1 2 0) (runA ++ resetLeft ∷ []))
-    ≡ replied (storeRight 7) 2 ∷ exposed resetLeft 0 (cells 0 7 0) ∷ []
-unfolding seen trace step if◌then◌else◌ namesLeft runA
+sees-something : seen names_left (length run_a) (trace step (cells 1 2 0) (run_a ++ reset_left ∷ []))
+    ≡ replied (store_right 7) 2 ∷ exposed reset_left 0 (cells 0 7 0) ∷ []
+unfolding seen trace step if◌then◌else◌ names_left run_a
 sees-something = refl
 
 -- ---- the right cell hidden, and two calls that change places ----
 
-namesRight : Call → Bool
-namesRight (storeLeft n) = false
-namesRight (storeRight n) = true
-namesRight lock = false
-namesRight resetLeft = false
+names_right : Call → Bool
+names_right (store_left n) = false
+names_right (store_right n) = true
+names_right lock = false
+names_right reset_left = false
 
-clearRight : Cells → Cells
-clearRight s = cells s.left 0 s.locked
+clear_right : Cells → Cells
+clear_right s = cells s.left 0 s.locked
 
-hides-right : (s : Cells) (c : Call) → namesRight c ≡ true → clearRight (step s c).0 ≡ clearRight s
-unfolding step namesRight clearRight
-hides-right s (storeLeft n) h = cc
-hides-right s (storeRight n) h = refl
+hides-right : (s : Cells) (c : Call) → names_right c ≡ true → clear_right (step s c).0 ≡ clear_right s
+unfolding step names_right clear_right
+hides-right s (store_left n) h = cc
+hides-right s (store_right n) h = refl
 hides-right s lock h = cc
-hides-right s resetLeft h = cc
+hides-right s reset_left h = cc
 
-answers-right : (s : Cells) (c : Call) → namesRight c ≡ false
-    → ((step (clearRight s) c).1 ≡ (step s c).1) × (clearRight (step (clearRight s) c).0 ≡ clearRight (step s c).0)
-unfolding step namesRight clearRight if◌then◌else◌
-answers-right s (storeLeft n) h = (refl, refl)
-answers-right s (storeRight n) h = (cc, refl)
+answers-right : (s : Cells) (c : Call) → names_right c ≡ false
+    → ((step (clear_right s) c).1 ≡ (step s c).1) × (clear_right (step (clear_right s) c).0 ≡ clear_right (step s c).0)
+unfolding step names_right clear_right if◌then◌else◌
+answers-right s (store_left n) h = (refl, refl)
+answers-right s (store_right n) h = (cc, refl)
 answers-right s lock h = (refl, refl)
-answers-right s resetLeft h = by_cases (eqb s.locked 0) (λ e. rw e (refl, refl)) (λ e. rw e (refl, refl))
+answers-right s reset_left h = by_cases (eqb s.locked 0) (λ e. rw e (refl, refl)) (λ e. rw e (refl, refl))
 
 -- no call clears the right cell
-right-masking : Masking step namesRight (λ c x. ⊥) Good clearRight
+right-masking : Masking step names_right (λ c x. ⊥) Good clear_right
 right-masking = record {
   stays = stays;
   hides = λ s c g. hides-right s c;
@@ -155,16 +155,16 @@ right-masking = record {
   wiped = λ s c g w. absurd w;
 }
 
-determined : (a b : Cells) → clearLeft a ≡ clearLeft b → clearRight a ≡ clearRight b → a ≡ b
-unfolding clearLeft clearRight
+determined : (a b : Cells) → clear_left a ≡ clear_left b → clear_right a ≡ clear_right b → a ≡ b
+unfolding clear_left clear_right
 determined a b e f =
     let l : a.left ≡ b.left = ap (λ s. s.left) f in
     let r : a.right ≡ b.right = ap (λ s. s.right) e in
     let k : a.locked ≡ b.locked = ap (λ s. s.locked) e in
     rw (l, r, k) (refl {a = cells b.left b.right b.locked})
 
-change-places : (l r : ℕ) (s : Cells) → Good s → (p t : List Call) → Swappable step s p (storeLeft l) (storeRight r) t
-unfolding namesLeft namesRight
+change-places : (l r : ℕ) (s : Cells) → Good s → (p t : List Call) → Swappable step s p (store_left l) (store_right r) t
+unfolding names_left names_right
 change-places l r s g p t =
-    swappable stays (storeLeft l) (storeRight r)
+    swappable stays (store_left l) (store_right r)
     (λ u h. commute-by-masks left-masking right-masking (λ a b x y. determined a b) u _ _ h refl refl refl refl) t p s g

@@ -17,10 +17,10 @@ module _ {A : Type 0} where
   length-zero (x ∷ l) e = absurd (omega arith)
 
   -- an element over and over: it is read everywhere, past the end too
-  pub getD-same : (n i : ℕ) (a : A) → get_or (replicate n a) i a ≡ a
-  getD-same zero i a = refl
-  getD-same (suc n) zero a = refl
-  getD-same (suc n) (suc i) a = getD-same n i a
+  pub get_or-same : (n i : ℕ) (a : A) → get_or (replicate n a) i a ≡ a
+  get_or-same zero i a = refl
+  get_or-same (suc n) zero a = refl
+  get_or-same (suc n) (suc i) a = get_or-same n i a
 
   -- fewer of them
   pub take-replicate : (n k : ℕ) (a : A) → n ≤ k → take n (replicate k a) ≡ replicate n a

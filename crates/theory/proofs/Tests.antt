@@ -226,8 +226,8 @@ same_step a b i e h =
     let l : i < length b = omega arith in
     rw (drop-cons a i 0 h, drop-cons b i 0 l, add-one)
 
-pub same_end : (a b : List ℕ) (i : ℕ) → length a ≡ length b → length a ≤ i → same (drop i a) (drop i b) ≡ true
+pub same-end : (a b : List ℕ) (i : ℕ) → length a ≡ length b → length a ≤ i → same (drop i a) (drop i b) ≡ true
 unfolding same
-same_end a b i e h =
+same-end a b i e h =
     let l : length b ≤ i = omega arith in
     rw (drop_of_length-le a h, drop_of_length-le b l)

@@ -2,6 +2,6 @@
 use Rattle.std.specs.Prelude.{List, [], ◌++◌, ℕ, zero, suc, ◌+◌}
 
 -- k items from the i-th on
-unfoldable pub itemsFrom : (ℕ → List ℕ) → ℕ → ℕ → List ℕ
-itemsFrom item zero i = []
-itemsFrom item (suc k) i = item i ++ itemsFrom item k (i + 1)
+unfoldable pub items_from : (ℕ → List ℕ) → ℕ → ℕ → List ℕ
+items_from item zero i = []
+items_from item (suc k) i = item i ++ items_from item k (i + 1)

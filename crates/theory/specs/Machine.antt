@@ -58,5 +58,5 @@ swap_at (suc n) (a ∷ l) = a ∷ swap_at n l
 -- same one by one, and so is the state at the end
 pub record Swappable {State Call Reply : Type 0} (step : State → Call → State × Reply) (s : State)
     (p : List Call) (x y : Call) (t : List Call) : Type 0 where
-  pub sameReplies : replies step s (p ++ y ∷ x ∷ t) ≡ swap_at (length p) (replies step s (p ++ x ∷ y ∷ t))
-  pub sameEnd : run step s (p ++ y ∷ x ∷ t) ≡ run step s (p ++ x ∷ y ∷ t)
+  pub same_replies : replies step s (p ++ y ∷ x ∷ t) ≡ swap_at (length p) (replies step s (p ++ x ∷ y ∷ t))
+  pub same_end : run step s (p ++ y ∷ x ∷ t) ≡ run step s (p ++ x ∷ y ∷ t)

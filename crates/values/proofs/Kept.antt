@@ -11,13 +11,13 @@ use lib.ListN.{length}
 use Rattle.theory.specs.Logic.{if◌then◌else◌, unless◌answer◌then◌, ◌and◌}
 use Rattle.theory.specs.Bytes.{bytes_at, put}
 use Rattle.theory.proofs.Tests.{by_cases, if-cases, unless-cases, both, and_i}
-use Rattle.theory.proofs.Bytes.{length-put, bytesAt-before}
+use Rattle.theory.proofs.Bytes.{length-put, bytes_at-before}
 use Rattle.inventory.proofs.Values.{own_value, other-value}
 use Rattle.protocol.specs.declared.EventAnswer.{EventAnswer}
 use Rattle.protocol.specs.declared.EventAnswer.TheVariants.{Done, NoPart, WrongLength, BadQueueSize}
-use Rattle.protocol.specs.Answers.{isEventDone}
-use Rattle.inventory.specs.Inventory.{featuresSize, row_at, offset_of, valuesSize, place_of, onPlace}
-use Rattle.inventory.specs.Queue.{valueAllowed, queuesAllowed}
+use Rattle.protocol.specs.Answers.{is_event_done}
+use Rattle.inventory.specs.Inventory.{features_size, row_at, offset_of, values_size, place_of, on_place}
+use Rattle.inventory.specs.Queue.{value_allowed, queues_allowed}
 use Rattle.inventory.specs.declared.Place.{Place}
 use Rattle.inventory.specs.declared.Place.TheVariants.{At, Absent}
 use Rattle.inventory.proofs.Find.{place_found}
@@ -35,7 +35,7 @@ module _ (q t s : ℕ) (x v : List ℕ) where
   stored-cases P none some = cases (place_of q t s) refl
     where
       cases : (p : Place) → place_of q t s ≡ p
-          → P (onPlace p (λ i. if ltb 0 i and eqb (length x) (row_at i).size then put (offset_of i) x v else v) v)
+          → P (on_place p (λ i. if ltb 0 i and eqb (length x) (row_at i).size then put (offset_of i) x v else v) v)
       cases (At i) e =
           if-cases P (ltb 0 i and eqb (length x) (row_at i).size) (put (offset_of i) x v) v
           (λ h. let b = both _ _ h in some i e (ltb-true 0 i b.0) (eqb-true _ _ b.1))
@@ -50,16 +50,16 @@ module _ (q t s : ℕ) (x v : List ℕ) where
   stored-length = stored-cases (λ w. length w ≡ length v) refl (λ i f h l. length-put (offset_of i) x v)
 
   -- the rows after the first start where it ends
-  pub stored-features : bytes_at 0 featuresSize (stored q t s x v) ≡ bytes_at 0 featuresSize v
+  pub stored-features : bytes_at 0 features_size (stored q t s x v) ≡ bytes_at 0 features_size v
   stored-features =
-      stored-cases (λ w. bytes_at 0 featuresSize w ≡ bytes_at 0 featuresSize v) refl
-      (λ i f h l. bytesAt-before 0 featuresSize (offset_of i) x v (rw (offset-zero, row_zero) at (rows_apart 0 (omega arith) i (place_found q t s i f).below h)))
+      stored-cases (λ w. bytes_at 0 features_size w ≡ bytes_at 0 features_size v) refl
+      (λ i f h l. bytes_at-before 0 features_size (offset_of i) x v (rw (offset-zero, row_zero) at (rows_apart 0 (omega arith) i (place_found q t s i f).below h)))
 
 -- a value that is allowed, stored, leaves the queues with allowed ones
-pub stored-allowed : (q t s : ℕ) (x v : List ℕ) → length v ≡ valuesSize → queuesAllowed q v ≡ true
-    → ((i : ℕ) → place_of q t s ≡ At i → valueAllowed t x ≡ true) → queuesAllowed q (stored q t s x v) ≡ true
+pub stored-allowed : (q t s : ℕ) (x v : List ℕ) → length v ≡ values_size → queues_allowed q v ≡ true
+    → ((i : ℕ) → place_of q t s ≡ At i → value_allowed t x ≡ true) → queues_allowed q (stored q t s x v) ≡ true
 stored-allowed q t s x v n a ok =
-    stored-cases q t s x v (λ w. queuesAllowed q w ≡ true) a λ i p h l.
+    stored-cases q t s x v (λ w. queues_allowed q w ≡ true) a λ i p h l.
     let f = place_found q t s i p in
     rows-allowed q _ (length-put (offset_of i) x v ∙ n) λ j b y.
     by_cases (eqb j i)
@@ -67,19 +67,19 @@ stored-allowed q t s x v n a ok =
     (λ e. rw (other-value i f.below x v l j b (eqb-false j i e)) (row-allowed q v a j b y))
 
 -- a value whose store is done is allowed
-pub done-allowed : (q t s : ℕ) (x : List ℕ) → isEventDone (storable q t s x) ≡ true → valueAllowed t x ≡ true
+pub done-allowed : (q t s : ℕ) (x : List ℕ) → is_event_done (storable q t s x) ≡ true → value_allowed t x ≡ true
 unfolding storable
 done-allowed q t s x = cases (place_of q t s)
   where
     Says : EventAnswer → Type 0
-    Says a = isEventDone a ≡ true → valueAllowed t x ≡ true
+    Says a = is_event_done a ≡ true → value_allowed t x ≡ true
 
     cases : (p : Place)
-        → Says (onPlace p
+        → Says (on_place p
         (λ i.
         unless ltb 0 i answer NoPart then
         unless eqb (length x) (row_at i).size answer WrongLength then
-        unless valueAllowed t x answer BadQueueSize then
+        unless value_allowed t x answer BadQueueSize then
         Done)
         NoPart)
     cases (At i) =
@@ -96,11 +96,11 @@ unfolding applied
 applied-keeps look q keeps end v = refl
 applied-keeps look q keeps cut v = refl
 applied-keeps look q keeps (part p ps) v =
-    applied-keeps look q keeps ps (stored q p.partType p.selector p.value v)
-    ∙ keeps p.partType p.selector p.value v
+    applied-keeps look q keeps ps (stored q p.part_type p.selector p.value v)
+    ∙ keeps p.part_type p.selector p.value v
 
 pub applied-length : (q : ℕ) (ps : PartList) (v : List ℕ) → length (applied q ps v) ≡ length v
 applied-length q = applied-keeps length q (stored-length q)
 
-pub applied-features : (q : ℕ) (ps : PartList) (v : List ℕ) → bytes_at 0 featuresSize (applied q ps v) ≡ bytes_at 0 featuresSize v
-applied-features q = applied-keeps (bytes_at 0 featuresSize) q (stored-features q)
+pub applied-features : (q : ℕ) (ps : PartList) (v : List ℕ) → bytes_at 0 features_size (applied q ps v) ≡ bytes_at 0 features_size v
+applied-features q = applied-keeps (bytes_at 0 features_size) q (stored-features q)

@@ -11,25 +11,25 @@ use Rattle.theory.specs.Bytes.{bytes_at}
 use Rattle.parts.specs.declared.ListForm.{ListForm}
 use Rattle.parts.specs.declared.Step.{Step}
 use Rattle.parts.specs.declared.Step.TheVariants as step
-use Rattle.parts.specs.List.{stepAt, part, partIn, partsFrom}
+use Rattle.parts.specs.List.{step_at, part, part_in, parts_from}
 use Rattle.parts.proofs.Turns.{stopped, opened}
 use Rattle.values.specs.Apply.{stored, applied}
 
-module _ (form : ListForm) (l : List ℕ) (at : ℕ) (r : Step) (here : r ≡ stepAt form l at) where
+module _ (form : ListForm) (l : List ℕ) (at : ℕ) (r : Step) (here : r ≡ step_at form l at) where
   -- the walk treats the end and a part that is cut short alike
   module _ (none : OneOf (1 ∷ 2 ∷ []) (tag_of Rattle.parts.specs.contracts.Step.the_type r)) where
-    pub applied-stop : (queues : ℕ) (x v : List ℕ) → x ≡ applied queues (partsFrom form l at) v → x ≡ v
+    pub applied-stop : (queues : ℕ) (x v : List ℕ) → x ≡ applied queues (parts_from form l at) v → x ≡ v
     unfolding applied
     applied-stop queues x v e = e ∙ stopped form l at r here none (λ ps. applied queues ps v) v refl refl
 
   module _ (t f s start len : ℕ) (found : r ≡ step.Part t f s start len) where
-    at_part : partsFrom form l at ≡ part (partIn l t f s start len) (partsFrom form l (start + len))
+    at_part : parts_from form l at ≡ part (part_in l t f s start len) (parts_from form l (start + len))
     at_part = opened form l at r here t f s start len found
 
     -- w: the values with its value stored
-    pub applied-on : (queues : ℕ) (x v w : List ℕ) → x ≡ applied queues (partsFrom form l at) v
+    pub applied-on : (queues : ℕ) (x v w : List ℕ) → x ≡ applied queues (parts_from form l at) v
         → w ≡ stored queues t s (take (start + len - start) (drop start l)) v
-        → x ≡ applied queues (partsFrom form l (start + len)) w
+        → x ≡ applied queues (parts_from form l (start + len)) w
     unfolding applied
     applied-on queues x v w e told =
         let here : w ≡ stored queues t s (bytes_at start len l) v = rw add-sub_cancel_left at told in

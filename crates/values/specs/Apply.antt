@@ -4,26 +4,26 @@ use Rattle.theory.specs.Logic.{if◌then◌else◌, unless◌answer◌then◌, �
 use Rattle.theory.specs.Bytes.{put}
 use Rattle.protocol.specs.declared.EventAnswer.{EventAnswer}
 use Rattle.protocol.specs.declared.EventAnswer.TheVariants.{Done, NoPart, WrongLength, BadQueueSize}
-use Rattle.inventory.specs.Inventory.{featuresRow, row_at, offset_of, place_of, onPlace}
-use Rattle.inventory.specs.Queue.{valueAllowed}
+use Rattle.inventory.specs.Inventory.{features_row, row_at, offset_of, place_of, on_place}
+use Rattle.inventory.specs.Queue.{value_allowed}
 use Rattle.parts.specs.List.{PartList, end, cut, part}
 
 -- whether a value can be stored; device features are never set, so they count as no part
 unfoldable pub storable : ℕ → ℕ → ℕ → List ℕ → EventAnswer
 storable queues t s value =
-    onPlace (place_of queues t s)
+    on_place (place_of queues t s)
     (λ i.
-    unless ltb featuresRow i answer NoPart then
+    unless ltb features_row i answer NoPart then
     unless eqb (length value) (row_at i).size answer WrongLength then
-    unless valueAllowed t value answer BadQueueSize then  -- SPEC 13.5
+    unless value_allowed t value answer BadQueueSize then  -- SPEC 13.5
     Done)
     NoPart
 
 -- the values with this one stored, where it can be
 unfoldable pub stored : ℕ → ℕ → ℕ → List ℕ → List ℕ → List ℕ
 stored queues t s value values =
-    onPlace (place_of queues t s)
-    (λ i. if ltb featuresRow i and eqb (length value) (row_at i).size then put (offset_of i) value values else values)
+    on_place (place_of queues t s)
+    (λ i. if ltb features_row i and eqb (length value) (row_at i).size then put (offset_of i) value values else values)
     values
 
 -- the values after a list, part by part; what is unknown is skipped
@@ -31,4 +31,4 @@ unfoldable pub applied : ℕ → PartList → List ℕ → List ℕ
 applied queues end values = values
 applied queues cut values = values
 applied queues (part p ps) values =
-    applied queues ps (stored queues p.partType p.selector p.value values)
+    applied queues ps (stored queues p.part_type p.selector p.value values)

@@ -1,6 +1,6 @@
 // What a card store sets, SPEC 7.5, and what an accepted list sets, SPEC 5.7.
 ghost use Rattle.std.specs.Prelude.{◌≡◌, length};
-ghost use Rattle.inventory.specs.Inventory.{valuesSize};
+ghost use Rattle.inventory.specs.Inventory.{values_size};
 ghost use Rattle.parts.specs.declared.ListForm.TheVariants.{Parts};
 ghost use Rattle.parts.specs.List.{parts_of};
 ghost use Rattle.values.specs.Apply.{storable, stored, applied};
@@ -30,7 +30,7 @@ pub fn store_answer(queues: u8, t: u16, selector: u64, value: &[u8]) -> EventAns
 
 // A value, stored where it can be.
 pub fn store_part(values: &mut [u8], queues: u8, t: u16, selector: u64, value: &[u8])
-    requires { length values.old ≡ valuesSize }
+    requires { length values.old ≡ values_size }
     ensures { values.new ≡ stored queues t selector value.now values.old }
 {
     let Place::At(i) = inventory::place_of(queues, t, selector) else {
@@ -47,7 +47,7 @@ pub fn store_part(values: &mut [u8], queues: u8, t: u16, selector: u64, value: &
 
 // The values of an accepted list, part by part.
 pub fn apply(values: &mut [u8], queues: u8, list: &[u8])
-    requires { length values.old ≡ valuesSize }
+    requires { length values.old ≡ values_size }
     ensures { values.new ≡ applied queues (parts_of Parts list.now) values.old }
 {
     let mut at = 0;

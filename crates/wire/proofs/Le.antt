@@ -8,7 +8,7 @@ use native.Mathlib.Omega.{arith}
 use lib.ListN.{length, get_or, take, drop}
 use lib.Seq.{take-nil, drop-nil}
 use Rattle.theory.specs.Bytes.{put}
-use Rattle.theory.proofs.Bytes.{bytesAt-before, bytesAt-put-as}
+use Rattle.theory.proofs.Bytes.{bytes_at-before, bytes_at-put-as}
 use Rattle.wire.specs.Le.{le, bytes, number}
 
 -- ---- the bytes of a number ----
@@ -103,8 +103,8 @@ le-alike (x ∷ a) (y ∷ d) f = rw (f 0, le-alike a d (λ i. f (suc i)))
 
 pub number-before : (at n i : ℕ) (x l : List ℕ) → at + n ≤ i → number at n (put i x l) ≡ number at n l
 unfolding number
-number-before at n i x l h = ap le (bytesAt-before at n i x l h)
+number-before at n i x l h = ap le (bytes_at-before at n i x l h)
 
 pub number_put : (at n x : ℕ) (l : List ℕ) → at + n ≤ length l → x < 256 ^ n → number at n (put at (bytes n x) l) ≡ x
 unfolding number
-number_put at n x l h k = ap le (bytesAt-put-as at n (bytes n x) l (length-bytes n x) h) ∙ le_bytes n x k
+number_put at n x l h k = ap le (bytes_at-put-as at n (bytes n x) l (length-bytes n x) h) ∙ le_bytes n x k

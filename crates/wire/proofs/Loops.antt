@@ -11,7 +11,7 @@ use lib.ListN.{length, get_or, take, drop, set, replicate, replicate-append-repl
 use lib.Seq.{take-suc-set, take_all}
 use Rattle.theory.specs.Logic.{◌and◌}
 use Rattle.theory.specs.Bytes.{put, same}
-use Rattle.theory.proofs.Tests.{and_assoc, and-true, true-and, same_step, same_end}
+use Rattle.theory.proofs.Tests.{and_assoc, and-true, true-and, same_step, same-end}
 use Rattle.theory.proofs.Bytes.{put-nil, put-cons}
 use Rattle.wire.specs.Le.{bytes, number}
 use Rattle.wire.proofs.Le.{number-none, number_step, number-byte}
@@ -85,4 +85,4 @@ module _ (a b : List ℕ) (alike : Bool) (i : ℕ) (l : length a ≡ length b) (
   compares-on r h k = e ∙ rw (same_step a b i l h, k) (sym (and_assoc alike (eqb (get_or a i 0) (get_or b i 0)) (same (drop (i + 1) a) (drop (i + 1) b))))
 
   pub compared : length a ≤ i → alike ≡ same a b
-  compared h = sym (e ∙ rw (same_end a b i l h) (and-true alike))
+  compared h = sym (e ∙ rw (same-end a b i l h) (and-true alike))

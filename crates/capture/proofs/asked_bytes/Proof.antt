@@ -4,21 +4,21 @@ use mathlib.Core.Path.{◌≡◌, sym, ◌∙◌}
 use Prim.Native.Nat.{◌+◌, ◌*◌, ◌-◌, ◌≤◌}
 use native.Mathlib.Omega.{arith}
 use borrow.Author.Rules.{rules}
-use Rattle.inventory.specs.Inventory.{rows, rowCount}
+use Rattle.inventory.specs.Inventory.{rows, row_count}
 use Rattle.capture.specs.Capture.{Asked}
-use Rattle.theory.proofs.Sums.{sumFrom, sum-start, sum-on, summed}
-use Rattle.capture.proofs.Sizes.{itemSize, parts-length}
+use Rattle.theory.proofs.Sums.{sum_from, sum-start, sum-on, summed}
+use Rattle.capture.proofs.Sizes.{item_size, parts-length}
 use Rattle.capture.proofs.Writes.{row-bytes, row-most}
 use Rattle.capture.proofs.asked_bytes.Statement.{statement}
 use Rattle.capture.proofs.asked_bytes.Tie as tie
 
 abbrev invariant-loop : tie.invariant-loop
 invariant-loop queues asked types selectors sizes n₀ i₀ n i =
-    (i ≤ rowCount) × (n ≤ 272 * i)
-    × (n + sumFrom (itemSize Asked queues asked) (rowCount - i) i ≡ sumFrom (itemSize Asked queues asked) rowCount 0)
+    (i ≤ row_count) × (n ≤ 272 * i)
+    × (n + sum_from (item_size Asked queues asked) (row_count - i) i ≡ sum_from (item_size Asked queues asked) row_count 0)
 
 abbrev decreases-loop : tie.decreases-loop
-decreases-loop queues asked types selectors sizes n₀ i₀ n i = rowCount - i
+decreases-loop queues asked types selectors sizes n₀ i₀ n i = row_count - i
 
 most : (c : tie.After-asked-size invariant-loop decreases-loop) → c.asked-size.result ≤ 272
 unfolding rows

@@ -4,21 +4,21 @@ use Prim.Native.Nat.{◌-◌}
 use native.Mathlib.Omega.{arith}
 use borrow.Author.Rules.{rules}
 use Rattle.theory.proofs.Items.{Written, written_start, written-end}
-use Rattle.inventory.specs.Inventory.{rows, rowCount}
-use Rattle.capture.specs.Capture.{Asked, partItem, partsWritten}
+use Rattle.inventory.specs.Inventory.{rows, row_count}
+use Rattle.capture.specs.Capture.{Asked, part_item, parts_written}
 use Rattle.capture.proofs.Writes.{selector-fits, row_small, row_inside, parts-room, parts-on, parts-skip}
 use Rattle.capture.proofs.write_asked.Statement.{statement}
 use Rattle.capture.proofs.write_asked.Tie as tie
 
 abbrev invariant-loop : tie.invariant-loop
 invariant-loop out₀ values queues asked types selectors sizes offsets at₀ i₀ out at i =
-    Written (partItem Asked queues asked values) rowCount 0 out₀ out at i
+    Written (part_item Asked queues asked values) row_count 0 out₀ out at i
 
 abbrev decreases-loop : tie.decreases-loop
-decreases-loop out₀ values queues asked types selectors sizes offsets at₀ i₀ out at i = rowCount - i
+decreases-loop out₀ values queues asked types selectors sizes offsets at₀ i₀ out at i = row_count - i
 
 pub write-asked-spec : {M : Type 1} → statement M
-unfolding partsWritten rows
+unfolding parts_written rows
 write-asked-spec =
     tie.close
     (tie.spec invariant-loop decreases-loop (λ c. search (rules, written_start)) (λ c. omega arith) (λ c. omega arith) (λ c. omega arith)

@@ -3,20 +3,20 @@ use mathlib.Core.Path.{◌≡◌, refl, sym}
 use Prim.Native.Nat.{◌-◌}
 use native.Mathlib.Omega.{arith}
 use borrow.Author.Rules.{rules}
-use Rattle.inventory.specs.Inventory.{rows, rowCount}
+use Rattle.inventory.specs.Inventory.{rows, row_count}
 use Rattle.parts.specs.declared.ListForm.TheVariants.{Parts}
 use Rattle.parts.specs.List.{parts_of}
-use Rattle.difference.specs.Difference.{hasRows}
+use Rattle.difference.specs.Difference.{has_rows}
 use Rattle.difference.proofs.Full.{rows_out, rows_on, rows_end}
 use Rattle.difference.proofs.is_full.Statement.{statement}
 use Rattle.difference.proofs.is_full.Tie as tie
 
 abbrev invariant-loop : tie.invariant-loop
 invariant-loop queues list types selectors i₀ i =
-    hasRows queues (parts_of Parts list) rowCount 0 ≡ hasRows queues (parts_of Parts list) (rowCount - i) i
+    has_rows queues (parts_of Parts list) row_count 0 ≡ has_rows queues (parts_of Parts list) (row_count - i) i
 
 abbrev decreases-loop : tie.decreases-loop
-decreases-loop queues list types selectors i₀ i = rowCount - i
+decreases-loop queues list types selectors i₀ i = row_count - i
 
 pub is-full-spec : {M : Type 1} → statement M
 unfolding rows

@@ -5,15 +5,15 @@ use Prim.Native.Nat.{◌-◌}
 use borrow.Author.Rules.{rules}
 use lib.ListN.{length}
 use Rattle.parts.specs.declared.ListForm.TheVariants.{Parts}
-use Rattle.parts.specs.List.{partsFrom}
+use Rattle.parts.specs.List.{parts_from}
 use Rattle.parts.proofs.Turns.{walk}
-use Rattle.difference.specs.Difference.{spanFrom, span_of}
+use Rattle.difference.specs.Difference.{span_from, span_of}
 use Rattle.difference.proofs.Places.{span-stop, span-here, span-on}
 use Rattle.difference.proofs.span_of.Statement.{statement}
 use Rattle.difference.proofs.span_of.Tie as tie
 
 abbrev invariant-loop : tie.invariant-loop
-invariant-loop list t selector at₀ at = span_of t selector list ≡ spanFrom t selector at (partsFrom Parts list at)
+invariant-loop list t selector at₀ at = span_of t selector list ≡ span_from t selector at (parts_from Parts list at)
 
 abbrev decreases-loop : tie.decreases-loop
 decreases-loop list t selector at₀ at = length list - at

@@ -4,17 +4,17 @@ use Prim.Native.Nat.{◌-◌}
 use native.Mathlib.Omega.{arith}
 use borrow.Author.Rules.{rules}
 use Rattle.theory.proofs.Items.{Written, written_start, written-end}
-use Rattle.inventory.specs.Inventory.{rows, rowCount}
-use Rattle.difference.specs.Difference.{madeItem, made}
+use Rattle.inventory.specs.Inventory.{rows, row_count}
+use Rattle.difference.specs.Difference.{made_item, made}
 use Rattle.difference.proofs.Writing.{made-room, made-on, made-skip}
 use Rattle.difference.proofs.write_made.Statement.{statement}
 use Rattle.difference.proofs.write_made.Tie as tie
 
 abbrev invariant-loop : tie.invariant-loop
-invariant-loop out₀ queues full later types selectors sizes at₀ i₀ out at i = Written (madeItem queues full later) rowCount 0 out₀ out at i
+invariant-loop out₀ queues full later types selectors sizes at₀ i₀ out at i = Written (made_item queues full later) row_count 0 out₀ out at i
 
 abbrev decreases-loop : tie.decreases-loop
-decreases-loop out₀ queues full later types selectors sizes at₀ i₀ out at i = rowCount - i
+decreases-loop out₀ queues full later types selectors sizes at₀ i₀ out at i = row_count - i
 
 write-part-requires : tie.Need-write-part-requires invariant-loop decreases-loop
 unfolding rows

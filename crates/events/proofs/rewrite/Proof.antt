@@ -2,12 +2,12 @@
 use mathlib.Core.Path.{◌≡◌}
 use borrow.Author.Rules.{rules}
 use lib.ListN.{length}
-use Rattle.member.specs.Member.{featuresSize}
+use Rattle.member.specs.Member.{features_size}
 use Rattle.events.proofs.WriteLaws.{fresh-rewritten}
 use Rattle.events.proofs.rewrite.Statement.{statement}
 use Rattle.events.proofs.rewrite.Tie as tie
 
-features-long : (s : tie.Start) → length s.args.s.features ≡ featuresSize
+features-long : (s : tie.Start) → length s.args.s.features ≡ features_size
 features-long s = search rules
 
 pub rewrite-spec : {M : Type 1} → statement M

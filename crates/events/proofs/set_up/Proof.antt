@@ -1,4 +1,4 @@
--- `events::set_up` meets its contract: each return is a step of `setUp`. Assumes nothing.
+-- `events::set_up` meets its contract: each return is a step of `set_up`. Assumes nothing.
 use borrow.Author.Rules.{rules}
 use Rattle.events.proofs.EventLaws.{setup-refused, setup-bounds, setup-sixteen, setup-long, setup-done}
 use Rattle.events.proofs.set_up.Statement.{statement}

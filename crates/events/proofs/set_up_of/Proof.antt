@@ -2,12 +2,12 @@
 use mathlib.Core.Path.{◌≡◌}
 use borrow.Author.Rules.{rules}
 use lib.ListN.{length}
-use Rattle.setups.specs.Setup.{mostMembers}
+use Rattle.setups.specs.Setup.{most_members}
 use Rattle.events.proofs.EventLaws.{set-up-by}
 use Rattle.events.proofs.set_up_of.Statement.{statement}
 use Rattle.events.proofs.set_up_of.Tie as tie
 
-long : (s : tie.Start) → length s.args.s.queues ≡ mostMembers
+long : (s : tie.Start) → length s.args.s.queues ≡ most_members
 long s = search rules
 
 part-set-up-end : tie.Need-slice-bounds-set-up-end

@@ -2,12 +2,12 @@
 use mathlib.Core.Path.{◌≡◌}
 use borrow.Author.Rules.{rules}
 use lib.ListN.{length}
-use Rattle.member.specs.Member.{featuresSize}
+use Rattle.member.specs.Member.{features_size}
 use Rattle.events.proofs.WriteLaws.{fresh-written}
 use Rattle.events.proofs.write_fresh.Statement.{statement}
 use Rattle.events.proofs.write_fresh.Tie as tie
 
-features-long : (s : tie.Start) → length s.args.s.features ≡ featuresSize
+features-long : (s : tie.Start) → length s.args.s.features ≡ features_size
 features-long s = search rules
 
 pub write-fresh-spec : {M : Type 1} → statement M

@@ -3,12 +3,12 @@ use mathlib.Core.Path.{◌≡◌}
 use native.Mathlib.Omega.{arith}
 use borrow.Author.Rules.{rules}
 use lib.ListN.{length}
-use Rattle.member.specs.Member.{featuresSize}
+use Rattle.member.specs.Member.{features_size}
 use Rattle.events.proofs.WriteLaws.{header-written}
 use Rattle.events.proofs.write_header.Statement.{statement}
 use Rattle.events.proofs.write_header.Tie as tie
 
-features-long : (s : tie.Start) → length s.args.s.features ≡ featuresSize
+features-long : (s : tie.Start) → length s.args.s.features ≡ features_size
 features-long s = search rules
 
 copy-requires : tie.Need-copy-requires-2

@@ -2,15 +2,15 @@
 use mathlib.Core.Path.{◌≡◌}
 use borrow.Author.Rules.{rules}
 use lib.ListN.{length}
-use Rattle.setups.specs.Setup.{mostMembers, featuresSize}
+use Rattle.setups.specs.Setup.{most_members, features_size}
 use Rattle.kajurnat.proofs.SetupTold.{setup-unread, counts-unfit, features-unfit, setup-told}
 use Rattle.kajurnat.proofs.tell_setup.Statement.{statement}
 use Rattle.kajurnat.proofs.tell_setup.Tie as tie
 
-counts-long : (s : tie.Start) → length s.args.read.setup.queues ≡ mostMembers
+counts-long : (s : tie.Start) → length s.args.read.setup.queues ≡ most_members
 counts-long s = search rules
 
-features-long : (s : tie.Start) → length s.args.read.setup.features ≡ featuresSize
+features-long : (s : tie.Start) → length s.args.read.setup.features ≡ features_size
 features-long s = search rules
 
 copy-requires : tie.Need-copy-requires

@@ -3,17 +3,17 @@ use mathlib.Core.Path.{◌≡◌}
 use Prim.Native.Nat.{◌+◌, ◌-◌, ◌≤◌}
 use borrow.Author.Rules.{rules}
 use lib.ListN.{drop}
-use Rattle.objects.specs.Objects.{objectsSize, count}
+use Rattle.objects.specs.Objects.{objects_size, count}
 use Rattle.objects.proofs.Counts.{counted}
 use Rattle.loads.proofs.SummaryLaws.{more-low, more-fits, count-more}
 use Rattle.loads.proofs.count_of.Statement.{statement}
 use Rattle.loads.proofs.count_of.Tie as tie
 
 abbrev invariant-loop : tie.invariant-loop
-invariant-loop v bytes n₀ i₀ n i = (i ≤ objectsSize) × (n ≤ i) × (count v bytes ≡ n + count v (drop i bytes))
+invariant-loop v bytes n₀ i₀ n i = (i ≤ objects_size) × (n ≤ i) × (count v bytes ≡ n + count v (drop i bytes))
 
 abbrev decreases-loop : tie.decreases-loop
-decreases-loop v bytes n₀ i₀ n i = objectsSize - i
+decreases-loop v bytes n₀ i₀ n i = objects_size - i
 
 pub count-of-spec : {M : Type 1} → statement M
 count-of-spec =

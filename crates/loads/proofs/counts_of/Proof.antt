@@ -5,7 +5,7 @@ use borrow.Author.Rules.{rules}
 use lib.ListN.{length}
 use Rattle.theory.specs.Bytes.{put}
 use Rattle.setups.specs.Setup.{sixteen}
-use Rattle.card.specs.Layout.{countsFrom}
+use Rattle.card.specs.Layout.{counts_from}
 use Rattle.loads.proofs.CallLaws.{bytes-lent}
 use Rattle.loads.proofs.SetupLaws.{counts_start, counts-has, counts-on, counts_end}
 use Rattle.loads.proofs.counts_of.Statement.{statement}
@@ -13,7 +13,7 @@ use Rattle.loads.proofs.counts_of.Tie as tie
 
 abbrev invariant-loop : tie.invariant-loop
 invariant-loop card n counts₀ i₀ counts i =
-    (i ≤ n) × (length counts ≡ 16) × (sixteen (countsFrom card 1 n) ≡ put i (countsFrom card (i + 1) (n - i)) counts)
+    (i ≤ n) × (length counts ≡ 16) × (sixteen (counts_from card 1 n) ≡ put i (counts_from card (i + 1) (n - i)) counts)
 
 abbrev decreases-loop : tie.decreases-loop
 decreases-loop card n counts₀ i₀ counts i = n - i

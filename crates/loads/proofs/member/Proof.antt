@@ -1,13 +1,13 @@
 -- `loads::member` meets its contract. Assumes nothing.
 use borrow.Author.Rules.{rules}
 use Rattle.events.proofs.EventLaws.{told}
-use Rattle.loads.specs.Loads.{memberTold}
+use Rattle.loads.specs.Loads.{member_told}
 use Rattle.loads.proofs.CallLaws.{call-refused, member-told}
 use Rattle.loads.proofs.member.Statement.{statement}
 use Rattle.loads.proofs.member.Tie as tie
 
 returns : tie.Need-returns
-unfolding memberTold
+unfolding member_told
 returns c = search (rules, call-refused)
 
 pub member-spec : {M : Type 1} → statement M

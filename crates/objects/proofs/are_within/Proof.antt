@@ -5,16 +5,16 @@ use borrow.Author.Rules.{rules}
 use lib.ListN.{drop}
 use Rattle.theory.specs.Logic.{◌and◌}
 use Rattle.theory.proofs.Tests.{true-and}
-use Rattle.objects.specs.Objects.{objectsSize, allWithin}
+use Rattle.objects.specs.Objects.{objects_size, all_within}
 use Rattle.objects.proofs.Counts.{within_on, within_end}
 use Rattle.objects.proofs.are_within.Statement.{statement}
 use Rattle.objects.proofs.are_within.Tie as tie
 
 abbrev invariant-loop : tie.invariant-loop
-invariant-loop most bytes all₀ i₀ all i = allWithin most bytes ≡ all and allWithin (drop i most) (drop i bytes)
+invariant-loop most bytes all₀ i₀ all i = all_within most bytes ≡ all and all_within (drop i most) (drop i bytes)
 
 abbrev decreases-loop : tie.decreases-loop
-decreases-loop most bytes all₀ i₀ all i = objectsSize - i
+decreases-loop most bytes all₀ i₀ all i = objects_size - i
 
 pub are-within-spec : {M : Type 1} → statement M
 are-within-spec =

@@ -4,17 +4,17 @@ use native.Mathlib.Omega.{arith}
 use mathlib.Core.Path.{◌≡◌}
 use Prim.Native.Nat.{◌+◌, ◌-◌, ◌≤◌}
 use lib.ListN.{drop}
-use Rattle.objects.specs.Objects.{objectsSize}
+use Rattle.objects.specs.Objects.{objects_size}
 use Rattle.objects.specs.Objects.{count}
 use Rattle.objects.proofs.Counts.{count-on, counted, adds-at-most-one, all-at}
 use Rattle.objects.proofs.count_of.Statement.{statement}
 use Rattle.objects.proofs.count_of.Tie as tie
 
 abbrev invariant-loop : tie.invariant-loop
-invariant-loop v bytes n₀ i₀ n i = (i ≤ objectsSize) × (n ≤ i) × (count v bytes ≡ n + count v (drop i bytes))
+invariant-loop v bytes n₀ i₀ n i = (i ≤ objects_size) × (n ≤ i) × (count v bytes ≡ n + count v (drop i bytes))
 
 abbrev decreases-loop : tie.decreases-loop
-decreases-loop v bytes n₀ i₀ n i = objectsSize - i
+decreases-loop v bytes n₀ i₀ n i = objects_size - i
 
 add-n : tie.Need-overflow-add-n invariant-loop decreases-loop
 add-n c = let h : c.indicator-of.result ≤ 1 = search (rules, adds-at-most-one) in omega arith

@@ -4,13 +4,13 @@ use mathlib.Core.Path.{◌≡◌}
 use mathlib.Core.List.{map}
 use Prim.Native.Nat.{◌-◌, ◌≤◌}
 use lib.ListN.{length, take}
-use Rattle.objects.specs.Objects.{objectByte}
+use Rattle.objects.specs.Objects.{object_byte}
 use Rattle.objects.proofs.Arrays.{filled_on, filled}
 use Rattle.objects.proofs.object_bytes.Statement.{statement}
 use Rattle.objects.proofs.object_bytes.Tie as tie
 
 abbrev invariant-loop : tie.invariant-loop
-invariant-loop objects bytes₀ i₀ bytes i = (i ≤ 16) × (length bytes ≡ 16) × (take i bytes ≡ take i (map objectByte objects))
+invariant-loop objects bytes₀ i₀ bytes i = (i ≤ 16) × (length bytes ≡ 16) × (take i bytes ≡ take i (map object_byte objects))
 
 abbrev decreases-loop : tie.decreases-loop
 decreases-loop objects bytes₀ i₀ bytes i = 16 - i

@@ -4,13 +4,13 @@ use mathlib.Core.Path.{◌≡◌}
 use mathlib.Core.List.{map}
 use Prim.Native.Nat.{◌-◌, ◌≤◌}
 use lib.ListN.{length, take}
-use Rattle.objects.specs.Objects.{objectOf}
+use Rattle.objects.specs.Objects.{object_of}
 use Rattle.objects.proofs.Arrays.{filled_on, filled}
 use Rattle.objects.proofs.objects_in.Statement.{statement}
 use Rattle.objects.proofs.objects_in.Tie as tie
 
 abbrev invariant-loop : tie.invariant-loop
-invariant-loop bytes objects₀ i₀ objects i = (i ≤ 16) × (length objects ≡ 16) × (take i objects ≡ take i (map objectOf bytes))
+invariant-loop bytes objects₀ i₀ objects i = (i ≤ 16) × (length objects ≡ 16) × (take i objects ≡ take i (map object_of bytes))
 
 abbrev decreases-loop : tie.decreases-loop
 decreases-loop bytes objects₀ i₀ objects i = 16 - i

@@ -6,14 +6,14 @@ use borrow.Author.Rules.{rules}
 use lib.ListN.{length}
 use Rattle.theory.specs.Logic.{◌or◌}
 use Rattle.theory.proofs.Tests.{or-false}
-use Rattle.parts.specs.List.{parts_of, partsFrom, among}
+use Rattle.parts.specs.List.{parts_of, parts_from, among}
 use Rattle.parts.proofs.Turns.{walk, among-stop, among-on, among-found}
 use Rattle.parts.proofs.contains.Statement.{statement}
 use Rattle.parts.proofs.contains.Tie as tie
 
 abbrev invariant-loop : tie.invariant-loop
 invariant-loop form list t selector at₀ at =
-    among t selector (parts_of form list) ≡ among t selector (partsFrom form list at) or false
+    among t selector (parts_of form list) ≡ among t selector (parts_from form list at) or false
 
 abbrev decreases-loop : tie.decreases-loop
 decreases-loop form list t selector at₀ at = length list - at

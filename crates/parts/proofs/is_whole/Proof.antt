@@ -3,13 +3,13 @@ use mathlib.Core.Path.{◌≡◌, refl, sym}
 use Prim.Native.Nat.{◌-◌}
 use borrow.Author.Rules.{rules}
 use lib.ListN.{length}
-use Rattle.parts.specs.List.{parts_of, partsFrom, whole}
+use Rattle.parts.specs.List.{parts_of, parts_from, whole}
 use Rattle.parts.proofs.Turns.{walk, whole-on, whole-end, whole-cut}
 use Rattle.parts.proofs.is_whole.Statement.{statement}
 use Rattle.parts.proofs.is_whole.Tie as tie
 
 abbrev invariant-loop : tie.invariant-loop
-invariant-loop form list at₀ at = whole (parts_of form list) ≡ whole (partsFrom form list at)
+invariant-loop form list at₀ at = whole (parts_of form list) ≡ whole (parts_from form list at)
 
 abbrev decreases-loop : tie.decreases-loop
 decreases-loop form list at₀ at = length list - at

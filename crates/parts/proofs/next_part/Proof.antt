@@ -5,7 +5,7 @@ use denote.Ref.{Bor}
 use denote.Builtin.{u8}
 use denote.Plain.{uint_vals, uint_Tells}
 use denote.Slice.{shr_slice_vals, shr_slice_Tells}
-use Rattle.parts.specs.List.{stepAt}
+use Rattle.parts.specs.List.{step_at}
 use Rattle.parts.specs.declared.ListForm.{ListForm}
 use Rattle.parts.specs.declared.PartReader.{PartReader}
 use Rattle.parts.specs.declared.Step.{Step}
@@ -30,7 +30,7 @@ use Rattle.parts.proofs.next_part.Statement.{statement}
 -- what a reader r, made of the list and then moved, finds
 found : (form : ListForm) (list : Bor (List ℕ)) (at : ℕ) (r r₁ : PartReader) {s : Step}
     → (r.list ≡ list) × (r.at ≡ 0) → (r₁.list ≡ r.list) × (r₁.at ≡ at)
-    → s ≡ stepAt form (now r₁.list) r₁.at → s ≡ stepAt form (now list) at
+    → s ≡ step_at form (now r₁.list) r₁.at → s ≡ step_at form (now list) at
 found form list at r r₁ e e₁ e₂ = cc
 
 module _ {M : Type 1} {𝓤 : Ura M} (𝓛 : Logic 𝓤) (𝓜 : Model 𝓤 𝓛.H) (𝓡 : Running 𝓤 𝓛.H 𝓜)
@@ -76,7 +76,7 @@ module _ {M : Type 1} {𝓤 : Ura M} (𝓛 : Logic 𝓤) (𝓜 : Model 𝓤 𝓛
       nothing ! $ move ! (3 ∷ 0 ∷ []) $ fjoin ! $ move ! (1 ∷ 0 ∷ []) $ fjoin ! $ move ! (1 ∷ 0 ∷ []) $ join ! $
       asks 𝓛 𝓜 𝓡 next.ended (next.clauses 𝓛) (to-next r₁ u₁) code.env ! code.calls-parts::PartReader::next
       (next-met.met 𝓤 𝓛 𝓜 𝓡) (id⊢ 𝓤 (emp 𝓤))
-      (λ s. s ≡ stepAt form (now r₁.list) r₁.at) (λ s ws. id⊢ 𝓤 _)
+      (λ s. s ≡ step_at form (now r₁.list) r₁.at) (λ s ws. id⊢ 𝓤 _)
       (and_then ! (copied ! 3 refl) (and_then ! (copied ! 9 refl) (no_more !))) (λ s u₂ e₂ is₂.
       land ! (here !) (init ! 12 refl (step_typed 𝓛 s is₂).0) $ returns ! (look ! 12 refl) $
       leave ! 12 refl refl $ leave ! 10 refl refl $ leave ! 8 refl refl $ leave ! 6 refl refl $

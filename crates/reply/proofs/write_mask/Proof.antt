@@ -7,15 +7,15 @@ use lib.ListN.{length}
 use Rattle.wire.specs.Le.{bytes}
 use Rattle.wire.proofs.Le.{length-bytes}
 use Rattle.protocol.specs.declared.Answer.TheVariants.{Done}
-use Rattle.protocol.specs.Answers.{isDone}
-use Rattle.reply.proofs.Reply.{short-written, result-written, result_fits}
+use Rattle.protocol.specs.Answers.{is_done}
+use Rattle.reply.proofs.Reply.{short-written, result-written, result-fits}
 use Rattle.reply.proofs.write_mask.Statement.{statement}
 use Rattle.reply.proofs.write_mask.Tie as tie
 
 eight : (x : ℕ) → 8 ≡ length (bytes 8 x)
 eight x = sym (length-bytes 8 x)
 
-succeeds : true ≡ isDone Done
+succeeds : true ≡ is_done Done
 succeeds = refl
 
 returns : tie.Need-returns
@@ -36,4 +36,4 @@ pub write-mask-spec : {M : Type 1} → statement M
 write-mask-spec =
     tie.close
     (tie.spec (λ c. search rules) (λ c κs. search rules) (λ c. search rules) returns
-    (λ c κs. search rules) (λ c κs. search (rules, result_fits)) (λ c. search rules) (λ c. search rules) returns-2)
+    (λ c κs. search rules) (λ c κs. search (rules, result-fits)) (λ c. search rules) (λ c. search rules) returns-2)

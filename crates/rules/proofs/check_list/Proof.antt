@@ -7,17 +7,17 @@ use lib.ListN.{length}
 use Rattle.inventory.specs.Inventory.{rows}
 use Rattle.inventory.proofs.Places.{row_in}
 use Rattle.parts.specs.declared.ListForm.TheVariants.{Parts}
-use Rattle.parts.specs.List.{parts_of, partsFrom}
+use Rattle.parts.specs.List.{parts_of, parts_from}
 use Rattle.parts.proofs.Turns.{walk}
-use Rattle.rules.specs.Rules.{repeated, causeOf}
+use Rattle.rules.specs.Rules.{repeated, cause_of}
 use Rattle.rules.proofs.Seen.{none}
-use Rattle.rules.proofs.Causes.{causeLeft, cause-start, cause-end, cause-cut, cause-absent, cause-row}
+use Rattle.rules.proofs.Causes.{cause_left, cause-start, cause-end, cause-cut, cause-absent, cause-row}
 use Rattle.rules.proofs.check_list.Statement.{statement}
 use Rattle.rules.proofs.check_list.Tie as tie
 
 abbrev invariant-loop : tie.invariant-loop
 invariant-loop queues features list sizes seen₀ rank₀ at₀ seen rank at =
-    causeOf queues features list ≡ causeLeft queues features (repeated queues (parts_of Parts list)) rank seen (partsFrom Parts list at)
+    cause_of queues features list ≡ cause_left queues features (repeated queues (parts_of Parts list)) rank seen (parts_from Parts list at)
 
 abbrev decreases-loop : tie.decreases-loop
 decreases-loop queues features list sizes seen₀ rank₀ at₀ seen rank at = length list - at

@@ -5,7 +5,7 @@ use Prim.Native.Nat.{◌-◌}
 use borrow.Author.Rules.{rules}
 use lib.ListN.{length}
 use Rattle.theory.specs.Logic.{◌or◌}
-use Rattle.parts.specs.List.{parts_of, partsFrom, among}
+use Rattle.parts.specs.List.{parts_of, parts_from, among}
 use Rattle.parts.proofs.Turns.{walk, among-stop, among-on, among-found}
 use Rattle.rules.specs.Rules.{repeated}
 use Rattle.rules.proofs.Turns.{repeated-stop, repeated-skip, repeated-rest}
@@ -15,14 +15,14 @@ use Rattle.rules.proofs.repeats.Tie as tie
 abbrev invariant-rest : tie.invariant-rest
 invariant-rest form list queues at part_type selector start len rest-at₀ rest_at =
     repeated queues (parts_of form list)
-    ≡ among part_type selector (partsFrom form list rest_at) or repeated queues (partsFrom form list at)
+    ≡ among part_type selector (parts_from form list rest_at) or repeated queues (parts_from form list at)
 
 abbrev decreases-rest : tie.decreases-rest
 decreases-rest form list queues at part_type selector start len rest-at₀ rest_at = length list - rest_at
 
 abbrev invariant-parts : tie.invariant-parts
 invariant-parts form list queues at₀ at =
-    repeated queues (parts_of form list) ≡ repeated queues (partsFrom form list at)
+    repeated queues (parts_of form list) ≡ repeated queues (parts_from form list at)
 
 abbrev decreases-parts : tie.decreases-parts
 decreases-parts form list queues at₀ at = length list - at

@@ -2,8 +2,8 @@
 use borrow.Author.Rules.{rules}
 use Rattle.theory.proofs.Ladder.{ladder, from-eq, from-ne}
 use Rattle.inventory.proofs.Places.{row_in, at_row, at_none}
-use Rattle.rules.specs.Rules.{featuresSame}
-use Rattle.salvage.specs.Salvage.{valueRight}
+use Rattle.rules.specs.Rules.{features_same}
+use Rattle.salvage.specs.Salvage.{value_right}
 use Rattle.salvage.specs.Walk.{taken}
 use Rattle.salvage.proofs.Take.{can-count, row-flag, value_room, drop-one, keep_one}
 use Rattle.salvage.proofs.take_part.Statement.{statement}
@@ -22,7 +22,7 @@ unfolding taken
 returns-3 c = search (ladder, rules, at_row, from-ne, drop-one)
 
 returns-4 : tie.Need-returns-4
-unfolding taken valueRight featuresSame
+unfolding taken value_right features_same
 returns-4 c = search (ladder, rules, at_row, from-eq, drop-one)
 
 slice-write-kept : tie.Need-slice-write-kept
@@ -32,7 +32,7 @@ slice-write-kept c =
     row-flag _ _ _ start.requires _ _ _ _ at_row.before.before.place_of.ensures _ at_row.i.given.1
 
 returns-5 : tie.Need-returns-5
-unfolding taken valueRight featuresSame
+unfolding taken value_right features_same
 returns-5 c = search (ladder, rules, at_row, from-eq, keep_one)
 
 pub take-part-spec : {M : Type 1} → statement M

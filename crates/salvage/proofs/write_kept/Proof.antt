@@ -4,17 +4,17 @@ use Prim.Native.Nat.{◌-◌}
 use native.Mathlib.Omega.{arith}
 use borrow.Author.Rules.{rules}
 use Rattle.theory.proofs.Items.{Written, written-end}
-use Rattle.inventory.specs.Inventory.{rows, rowCount}
-use Rattle.salvage.specs.Walk.{flagItem, flags_of}
+use Rattle.inventory.specs.Inventory.{rows, row_count}
+use Rattle.salvage.specs.Walk.{flag_item, flags_of}
 use Rattle.salvage.proofs.Flags.{flags-start, flags-room, flags-fits, flags-on, flags-skip}
 use Rattle.salvage.proofs.write_kept.Statement.{statement}
 use Rattle.salvage.proofs.write_kept.Tie as tie
 
 abbrev invariant-loop : tie.invariant-loop
-invariant-loop out₀ rows queues types selectors at₀ i₀ out at i = Written (flagItem queues rows) rowCount 0 out₀ out at i
+invariant-loop out₀ rows queues types selectors at₀ i₀ out at i = Written (flag_item queues rows) row_count 0 out₀ out at i
 
 abbrev decreases-loop : tie.decreases-loop
-decreases-loop out₀ rows queues types selectors at₀ i₀ out at i = rowCount - i
+decreases-loop out₀ rows queues types selectors at₀ i₀ out at i = row_count - i
 
 pub write-kept-spec : {M : Type 1} → statement M
 unfolding flags_of rows

@@ -1,13 +1,13 @@
 -- `staging::discard` meets its contract. Assumes nothing.
 use borrow.Author.Rules.{rules}
-use Rattle.staging.specs.Staging.{dropOf}
+use Rattle.staging.specs.Staging.{drop_of}
 use Rattle.staging.proofs.Refusals.{open-refused, open-record}
 use Rattle.staging.proofs.Returns.{dropped}
 use Rattle.staging.proofs.discard.Statement.{statement}
 use Rattle.staging.proofs.discard.Tie as tie
 
 returns : tie.Need-returns
-unfolding dropOf
+unfolding drop_of
 returns c = search (rules, open-refused)
 
 pub discard-spec : {M : Type 1} → statement M

@@ -1,13 +1,13 @@
 -- `staging::feed` meets its contract. Assumes nothing.
 use borrow.Author.Rules.{rules}
-use Rattle.staging.specs.Staging.{feedOf}
+use Rattle.staging.specs.Staging.{feed_of}
 use Rattle.staging.proofs.Refusals.{open-refused, open-record}
 use Rattle.staging.proofs.Returns.{held-some, held-room, held_fits, fed-over, fed-in}
 use Rattle.staging.proofs.feed.Statement.{statement}
 use Rattle.staging.proofs.feed.Tie as tie
 
 returns : tie.Need-returns
-unfolding feedOf
+unfolding feed_of
 returns c = search (rules, open-refused)
 
 pub feed-spec : {M : Type 1} → statement M

@@ -1,13 +1,13 @@
 -- `staging::finish` meets its contract. Assumes nothing.
 use borrow.Author.Rules.{rules}
-use Rattle.staging.specs.Staging.{finishOf}
+use Rattle.staging.specs.Staging.{finish_of}
 use Rattle.staging.proofs.Refusals.{open-refused, open-sound, open-member, open-record}
 use Rattle.staging.proofs.Returns.{held-some, held-room, finished}
 use Rattle.staging.proofs.finish.Statement.{statement}
 use Rattle.staging.proofs.finish.Tie as tie
 
 returns : tie.Need-returns
-unfolding finishOf
+unfolding finish_of
 returns c = search (rules, open-refused)
 
 pub finish_spec : {M : Type 1} → statement M

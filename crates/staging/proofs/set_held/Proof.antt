@@ -1,4 +1,4 @@
--- `staging::set_held` meets its contract: each return is a step of `setInto`. Assumes nothing.
+-- `staging::set_held` meets its contract: each return is a step of `set_into`. Assumes nothing.
 use borrow.Author.Rules.{rules}
 use Rattle.staging.proofs.SetLaws.{no-opcode, bad-id, held-within, sets-held}
 use Rattle.staging.proofs.Returns.{set-record, set-header, set-ids}

@@ -4,7 +4,7 @@ use mathlib.Core.Path.{◌≡◌, refl, sym}
 use Prim.Native.Nat.{◌-◌}
 use borrow.Author.Rules.{rules}
 use lib.ListN.{length}
-use Rattle.parts.specs.List.{parts_of, partsFrom}
+use Rattle.parts.specs.List.{parts_of, parts_from}
 use Rattle.parts.specs.declared.ListForm.TheVariants.{Parts}
 use Rattle.parts.proofs.Turns.{walk}
 use Rattle.values.specs.Apply.{applied}
@@ -15,7 +15,7 @@ use Rattle.values.proofs.apply.Tie as tie
 abbrev invariant-loop : tie.invariant-loop
 invariant-loop values₀ queues list at₀ values at =
     (length values ≡ length values₀)
-    × (applied queues (parts_of Parts list) values₀ ≡ applied queues (partsFrom Parts list at) values)
+    × (applied queues (parts_of Parts list) values₀ ≡ applied queues (parts_from Parts list at) values)
 
 abbrev decreases-loop : tie.decreases-loop
 decreases-loop values₀ queues list at₀ values at = length list - at

@@ -3,13 +3,13 @@ use mathlib.Core.Path.{◌≡◌}
 use mathlib.Core.Bool.{true}
 use Prim.Native.Nat.{◌-◌, ◌≤◌}
 use borrow.Author.Rules.{rules}
-use Rattle.inventory.specs.Queue.{queuesAllowed}
+use Rattle.inventory.specs.Queue.{queues_allowed}
 use Rattle.inventory.proofs.Queue.{rows_few, each_start, each-stop, each_on, each-end}
 use Rattle.inventory.proofs.rings.is_each_allowed.Statement.{statement}
 use Rattle.inventory.proofs.rings.is_each_allowed.Tie as tie
 
 abbrev invariant-loop : tie.invariant-loop
-invariant-loop queues values count k₀ k = (count ≤ 4) × (queuesAllowed k values ≡ true)
+invariant-loop queues values count k₀ k = (count ≤ 4) × (queues_allowed k values ≡ true)
 
 abbrev decreases-loop : tie.decreases-loop
 decreases-loop queues values count k₀ k = count - k

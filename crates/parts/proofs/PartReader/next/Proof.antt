@@ -1,5 +1,5 @@
 -- `parts::PartReader::next` meets its contract, by hand: the reader is taken apart, and `step_at` is called. Assumes nothing.
-use Rattle.parts.specs.List.{stepAt}
+use Rattle.parts.specs.List.{step_at}
 use Rattle.parts.specs.declared.ListForm.{ListForm}
 use Rattle.parts.specs.declared.PartReader.{PartReader}
 use Rattle.parts.proofs.ByHand.{◌≡◌, refl, [], ◌∷◌, Ura, Model, Running, Lfts, Shares, now, Is, emp, id⊢, fact_i}
@@ -47,7 +47,7 @@ module _ {M : Type 1} {𝓤 : Ura M} (𝓛 : Logic 𝓤) (𝓜 : Model 𝓤 𝓛
       move ! (11 ∷ 0 ∷ []) $ join ! $
       asks 𝓛 𝓜 𝓡 step.ended (step.clauses 𝓛) to_step code.env ! code.calls-parts::step-at
       (step-met.met 𝓤 𝓛 𝓜 𝓡) (id⊢ 𝓤 (emp 𝓤))
-      (λ s. s ≡ stepAt form (now r.list) r.at) (λ s ws. id⊢ 𝓤 _)
+      (λ s. s ≡ step_at form (now r.list) r.at) (λ s ws. id⊢ 𝓤 _)
       (and_then ! (copied ! 5 refl) (and_then ! (copied ! 3 refl) (and_then ! (copied ! 1 refl) (no_more !)))) (λ s u e s-is.
       land ! (here !) (init ! 10 refl (step_typed 𝓛 s s-is).0) $ returns ! (look ! 10 refl) $
       leave ! 10 refl refl $ leave ! 8 refl refl $ leave ! 6 refl refl $ leave ! 4 refl refl $ leave ! 2 refl refl $

@@ -3,13 +3,13 @@ use mathlib.Core.Path.{◌≡◌}
 use Prim.Native.Nat.{◌≤◌, ◌-◌}
 use borrow.Author.Rules.{rules}
 use lib.ListN.{length, drop}
-use Rattle.salvage_file.specs.Number.{numberFrom, number_of}
+use Rattle.salvage_file.specs.Number.{number_from, number_of}
 use Rattle.salvage_file.proofs.Number.{number-below, number-above, number-large, number-on, number-end}
 use Rattle.salvage_file.proofs.input.number.Statement.{statement}
 use Rattle.salvage_file.proofs.input.number.Tie as tie
 
 abbrev invariant-loop : tie.invariant-loop
-invariant-loop text n₀ i₀ n i = (n ≤ 999) × (number_of text ≡ numberFrom n (drop i text))
+invariant-loop text n₀ i₀ n i = (n ≤ 999) × (number_of text ≡ number_from n (drop i text))
 
 abbrev decreases-loop : tie.decreases-loop
 decreases-loop text n₀ i₀ n i = length text - i

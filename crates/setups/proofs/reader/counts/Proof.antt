@@ -5,7 +5,7 @@ use borrow.Author.Rules.{rules}
 use lib.ListN.{length}
 use Rattle.theory.specs.Bytes.{put}
 use Rattle.setups.specs.Setup.{sixteen}
-use Rattle.setups.specs.Reading.{countsFrom}
+use Rattle.setups.specs.Reading.{counts_from}
 use Rattle.setups.proofs.Reading.{counts_start, counts-on, counts_end}
 use Rattle.setups.proofs.reader.counts.Statement.{statement}
 use Rattle.setups.proofs.reader.counts.Tie as tie
@@ -13,7 +13,7 @@ use Rattle.setups.proofs.reader.counts.Tie as tie
 abbrev invariant-loop : tie.invariant-loop
 invariant-loop s from step n counts₀ at₀ i₀ counts at i =
     (i ≤ n) × (at ≤ from + 2 * i) × (length counts ≡ 16)
-    × (sixteen (countsFrom s from step n) ≡ put i (countsFrom s at step (n - i)) counts)
+    × (sixteen (counts_from s from step n) ≡ put i (counts_from s at step (n - i)) counts)
 
 abbrev decreases-loop : tie.decreases-loop
 decreases-loop s from step n counts₀ at₀ i₀ counts at i = n - i

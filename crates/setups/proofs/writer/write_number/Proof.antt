@@ -5,14 +5,14 @@ use Prim.Native.Nat.{◌≤◌}
 use borrow.Author.Rules.{rules}
 use lib.ListN.{length}
 use Rattle.theory.specs.Bytes.{put}
-use Rattle.setups.specs.Bits.{bigEndian}
+use Rattle.setups.specs.Bits.{big_endian}
 use Rattle.setups.proofs.Writing.{number-on, number-end}
 use Rattle.setups.proofs.writer.write_number.Statement.{statement}
 use Rattle.setups.proofs.writer.write_number.Tie as tie
 
 abbrev invariant-loop : tie.invariant-loop
 invariant-loop out₀ n x v₀ i₀ out v i =
-    (i ≤ n) × (length out ≡ length out₀) × (put 0 (bigEndian n x) out₀ ≡ put 0 (bigEndian i v) out)
+    (i ≤ n) × (length out ≡ length out₀) × (put 0 (big_endian n x) out₀ ≡ put 0 (big_endian i v) out)
 
 abbrev decreases-loop : tie.decreases-loop
 decreases-loop out₀ n x v₀ i₀ out v i = i
