@@ -1,4 +1,6 @@
 // A command, whole: SPEC 6.1.
+#![tactic(auto)]
+
 ghost use Rattle.std.specs.Prelude.{◌≡◌, true, ◌≤◌, length, drop};
 ghost use Rattle.card.specs.Layout.{is_member};
 ghost use Rattle.card.specs.Sound.{is_sound};

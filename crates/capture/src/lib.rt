@@ -1,4 +1,6 @@
 // Writers of headers and parts into a lent tail, SPEC 4.8 and 4.9, with the bytes that they need.
+#![tactic(auto)]
+
 ghost use Rattle.std.specs.Prelude.{◌≡◌, List, ◌++◌, ℕ, ◌+◌, ◌*◌, ◌≤◌, ◌<◌, length};
 ghost use Rattle.theory.specs.Logic.{if◌then◌else◌};
 ghost use Rattle.theory.specs.Bytes.{bytes_at, put};

@@ -1,4 +1,6 @@
 // The card as lent bytes: its layout, SPEC 2.7, and soundness, SPEC 2.4.
+#![tactic(auto)]
+
 mod sound;
 
 ghost use Rattle.std.specs.Prelude.{◌≡◌, ◌+◌, ◌^◌, ◌≤◌, ◌<◌, length};
@@ -10,7 +12,7 @@ ghost use Rattle.card.specs.Sound.{is_sound};
 use member::{FEATURES_SIZE, HOLDING_SIZE, MEMBER_SIZE, Member};
 
 // A card's setup, from its header; the queue counts stand in the members' records.
-#[derive(Drop)]
+#[derive(Clone, Copy)]
 pub struct Setup {
     pub members: u8,
     pub gets: u8,

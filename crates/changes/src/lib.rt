@@ -1,4 +1,6 @@
 // The commands that change a member, SPEC 4.4, 4.5, 4.7, 4.10 and 4.11: steps 8 to 10 of SPEC 6.1.
+#![tactic(auto)]
+
 ghost use Rattle.std.specs.Prelude.{◌≡◌};
 ghost use Rattle.member.specs.Member.{features_in, with_mode};
 ghost use Rattle.rules.specs.Rules.{cause_of, is_accepted};
@@ -10,7 +12,7 @@ use objects::Found;
 use protocol::{Answer, ChangeOp, Mode, ObjectKind};
 
 // The outcome of an operation that changes the member: refused, it is the member as it was.
-#[derive(Drop)]
+#[derive(Clone, Copy)]
 pub struct Changed {
     pub answer: Answer,
     pub member: Member,

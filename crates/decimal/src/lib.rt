@@ -1,4 +1,6 @@
 // Numbers as decimal text, and a line of a name and a number: 02, request 11.
+#![tactic(auto)]
+
 ghost use Rattle.std.specs.Prelude.{◌≡◌, ◌+◌, ◌≤◌, length};
 ghost use Rattle.theory.specs.Bytes.{put};
 ghost use Rattle.decimal.specs.Decimal.{last_digit, decimal, line};

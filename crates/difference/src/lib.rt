@@ -1,4 +1,6 @@
 // A full capture and a later list of what changed, 02, request 7: one part looked up in the pair, and one list made of it.
+#![tactic(auto)]
+
 ghost use Rattle.std.specs.Prelude.{◌≡◌, ◌+◌, ◌<◌, ◌≤◌, length};
 ghost use Rattle.theory.specs.Bytes.{put};
 ghost use Rattle.inventory.specs.Inventory.{row};
@@ -14,14 +16,14 @@ use inventory::{HEADER_SIZE, ROWS, SELECTORS, SIZES, TYPES};
 use parts::{ListForm, Step};
 
 // Where the value of a part stands in a list.
-#[derive(Drop)]
+#[derive(Clone, Copy)]
 enum Span {
     Value { start: usize, len: usize },
     Nowhere,
 }
 
 // Whether a call is refused: the first name that applies, in this order, or none. A bad setup is refused where it is read.
-#[derive(Drop)]
+#[derive(Clone, Copy)]
 pub enum Verdict {
     Passed,
     BadSetup,
@@ -33,7 +35,7 @@ pub enum Verdict {
 }
 
 // Where the value of the part asked stands: in the later list, in the full capture, or why the call is refused.
-#[derive(Drop)]
+#[derive(Clone, Copy)]
 pub enum Lookup {
     InLater { start: usize, len: usize },
     InFull { start: usize, len: usize },

@@ -1,4 +1,6 @@
 // Setup, hand back, wipe, card reset and card store: SPEC 7.
+#![tactic(auto)]
+
 ghost use Rattle.std.specs.Prelude.{◌≡◌, ◌≤◌, eqb, length};
 ghost use Rattle.theory.specs.Logic.{◌and◌};
 ghost use Rattle.theory.specs.Bytes.{put};

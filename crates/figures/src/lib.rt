@@ -1,5 +1,7 @@
 // The sheet of a stream, 02, request 11: a setup of version 1, then captures. The stream is taken in chunks that end
 // anywhere: the state by value, the bytes of what is under way in a lent buffer.
+#![tactic(auto)]
+
 ghost use Rattle.std.specs.Prelude.{◌≡◌, ◌≤◌, length};
 ghost use Rattle.theory.specs.Bytes.{put};
 ghost use Rattle.tally.specs.Rows.{longest};
@@ -16,7 +18,7 @@ use stream::Progress;
 const SETUP_SIZE: usize = 19;
 
 // What the stream is in the middle of: its setup, or its captures. Or its setup is refused.
-#[derive(Drop)]
+#[derive(Clone, Copy)]
 pub enum Phase {
     Setup,
     Captures,
@@ -24,7 +26,7 @@ pub enum Phase {
 }
 
 // How many bytes of the setup are held; then what it says, and how far the captures are taken.
-#[derive(Drop)]
+#[derive(Clone, Copy)]
 pub struct State {
     pub phase: Phase,
     pub have: usize,

@@ -1,4 +1,6 @@
 // From the bytes of a request, SPEC 3.2, to what it asks: steps 2 to 7 of SPEC 6.1.
+#![tactic(auto)]
+
 mod fields;
 
 ghost use Rattle.std.specs.Prelude.{◌≡◌, leb, length};
@@ -37,7 +39,7 @@ pub const ASKED_AT: usize = DATA_AT + HEADERS_AT;
 pub const GIVEN_AT: usize = DATA_AT + OBJECT_SIZE;
 
 // What a request asks. Read and Change name a member of the card.
-#[derive(Drop)]
+#[derive(Clone, Copy)]
 pub enum Ask {
     Refused(Answer),
     QueryList,

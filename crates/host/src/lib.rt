@@ -1,4 +1,6 @@
 // The host's half: the request of a command from its fields, and a reply read as the answer to the command sent.
+#![tactic(auto)]
+
 ghost use Rattle.std.specs.Prelude.{◌≡◌, true, [], ◌+◌, ◌≤◌, length};
 ghost use Rattle.theory.specs.Bytes.{put};
 ghost use Rattle.protocol.specs.Opcodes.{opcode_row};
@@ -11,7 +13,7 @@ use parts::ListForm;
 
 // A command by its fields: a member, an object id, and a kind, type or mode byte, or a mask. The list that parts get and
 // parts set have stands beside it.
-#[derive(Drop)]
+#[derive(Clone, Copy)]
 pub enum Command {
     ListQuery,
     ListUse(u64),
@@ -27,7 +29,7 @@ pub enum Command {
 
 // What a command puts into its request: the last field by its place in the data; before it stands the object header
 // with the id, if anything.
-#[derive(Drop)]
+#[derive(Clone, Copy)]
 struct Sent {
     opcode: u16,
     member: u64,
@@ -37,7 +39,7 @@ struct Sent {
 }
 
 // How long the result of a success is: so many bytes; a count and as many headers; whole parts.
-#[derive(Drop)]
+#[derive(Clone, Copy)]
 pub enum ResultForm {
     Exactly(usize),
     Counted,
@@ -45,7 +47,7 @@ pub enum ResultForm {
 }
 
 // Status and qualifier to act on, and both as they were sent.
-#[derive(Drop)]
+#[derive(Clone, Copy)]
 pub struct Head {
     pub status: u16,
     pub qualifier: u16,
@@ -54,7 +56,7 @@ pub struct Head {
 }
 
 // Refused is a reply under 8 bytes or of the wrong length for its command and status, and one to no command.
-#[derive(Drop)]
+#[derive(Clone, Copy)]
 pub enum Outcome {
     Refused,
     Answered(Head),

@@ -1,5 +1,7 @@
 // The inventory of a member's parts, SPEC 5.2: constant tables, and the place of a part in them. A loop over the rows
 // binds the tables first, since each read of a constant table builds it anew.
+#![tactic(auto)]
+
 mod rings;
 
 ghost use Rattle.std.specs.Prelude.{◌≡◌, ◌+◌, ◌*◌, ◌^◌, ◌≤◌, ◌<◌, eqb, length};
@@ -84,7 +86,7 @@ pub const OFFSETS: [u8; ROWS] = [
 ];
 
 // The row of the inventory that has a part, or none.
-#[derive(Drop)]
+#[derive(Clone, Copy)]
 pub enum Place {
     At(usize),
     Absent,

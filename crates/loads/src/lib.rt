@@ -1,5 +1,7 @@
 // What the card's own firmware reads of it, SPEC 14: a part, a member, its configuration, the setup. The card is lent and
 // stays as it is; no host reaches these.
+#![tactic(auto)]
+
 ghost use Rattle.std.specs.Prelude.{◌≡◌, true, map, ◌≤◌, length};
 ghost use Rattle.objects.specs.Objects.{objects_size, object_byte, count};
 ghost use Rattle.member.specs.Record.{member_size, member_of};
@@ -15,7 +17,7 @@ use setups::MOST_MEMBERS;
 
 // A member in numbers: its state, 0 running, 1 stopped, 2 marked; its queue count; its live get and set objects; 0, or one
 // more than the bytes in its open holding place.
-#[derive(Drop)]
+#[derive(Clone, Copy)]
 pub struct Summary {
     pub state: u8,
     pub queues: u8,

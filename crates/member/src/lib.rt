@@ -1,4 +1,6 @@
 // A member of the card: a struct by value, its bytes at the front of its record, SPEC 2.7, and its resource objects.
+#![tactic(auto)]
+
 mod fields;
 
 ghost use Rattle.std.specs.Prelude.{◌≡◌, ◌+◌, ◌≤◌, length};
@@ -45,7 +47,7 @@ const HELD_MOST: u16 = 1025;
 
 // A member's mode, whether it is handed back and not yet wiped, how many queues it has, its resource objects by id, what its
 // holding place holds, and the values of its parts.
-#[derive(Drop)]
+#[derive(Clone, Copy)]
 pub struct Member {
     pub mode: Mode,
     pub marked: bool,

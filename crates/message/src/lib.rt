@@ -1,5 +1,7 @@
 // Configuration by message, SPEC 13.3: the front of source 003 for GET_CONFIG and SET_CONFIG, strict profile. A message is
 // decoded, then acted on, then answered.
+#![tactic(auto)]
+
 ghost use Rattle.std.specs.Prelude.{◌≡◌, ◌+◌, ◌≤◌, length};
 ghost use Rattle.theory.specs.Bytes.{put};
 ghost use Rattle.card.specs.Layout.{configuration_size, card_size, setup_of, HasRecord};
@@ -41,7 +43,7 @@ const RESPONSE: u64 = 1;
 
 // What a message asks: nothing that is answered; bytes of a member's configuration, by offset and length; to write them,
 // with the generation that the driver saw. The data stands in the message.
-#[derive(Drop)]
+#[derive(Clone, Copy)]
 pub enum Access {
     Nothing,
     Read(u64, u32, u32),

@@ -1,6 +1,8 @@
 // A guest moves between two cards that are set up from one packed setup: it is stopped and captured on the first, restored
 // on the second from fragments and resumed there; its first place is handed back and wiped, and the next guest is shown to
 // find nothing of it. At the end its capture is torn, and what is salvaged of it is set. A transcript goes to standard output.
+#![tactic(auto)]
+
 mod captures;
 mod commands;
 

@@ -1,4 +1,6 @@
 // Resource objects, SPEC 4.3, one record and one byte for each id: what they stand for, how many there are, and one cleared.
+#![tactic(auto)]
+
 ghost use Rattle.std.specs.Prelude.{◌≡◌, true, map, ◌+◌, ◌≤◌, ◌<◌, leb, eqb, length, drop, set};
 ghost use Rattle.theory.specs.Logic.{◌and◌, indicator};
 ghost use Rattle.objects.specs.Objects.{objects_size, slot_of, object_of, object_byte, free, slot_for, found_in, count, all_up_to, all_within, most_of, within_limits};
@@ -14,20 +16,20 @@ pub const MOST: [u8; 32] = [
 ];
 
 // What one object id holds.
-#[derive(Drop)]
+#[derive(Clone, Copy)]
 pub enum Slot {
     Free,
     Get,
     Set,
 }
 
-#[derive(Drop)]
+#[derive(Clone, Copy)]
 pub struct ObjectRecord {
     pub slot: Slot,
 }
 
 // What the lookup of an object id finds.
-#[derive(Drop)]
+#[derive(Clone, Copy)]
 pub enum Found {
     Live(ObjectKind),
     Nothing,

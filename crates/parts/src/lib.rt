@@ -1,4 +1,6 @@
 // A list of parts, SPEC 5.4, and the walk over it.
+#![tactic(auto)]
+
 ghost use Rattle.std.specs.Prelude.{◌≡◌, ◌+◌, ◌≤◌, eqb, length};
 ghost use Rattle.theory.specs.Logic.{◌and◌};
 ghost use Rattle.inventory.specs.Header.{header_size};
@@ -10,14 +12,14 @@ use inventory::{FLAGS_AT, HEADER_SIZE, LENGTH_AT, SELECTOR_AT};
 pub const LONGEST_LIST: usize = 4064;
 
 // What a list holds: whole parts, or headers alone.
-#[derive(Drop)]
+#[derive(Clone, Copy)]
 pub enum ListForm {
     Parts,
     Headers,
 }
 
 // What stands at a position of a list: a part, whose value starts at start, one that runs past the end, or the end.
-#[derive(Drop)]
+#[derive(Clone, Copy)]
 pub enum Step {
     Part {
         part_type: u16,
@@ -67,7 +69,7 @@ fn step_at(form: ListForm, list: &[u8], at: usize) -> Step
 }
 
 // The reader of a list: the list, and a position in it.
-#[derive(Drop)]
+#[derive(Clone, Copy)]
 struct PartReader<'a> {
     list: &'a [u8],
     at: usize,

@@ -1,11 +1,13 @@
 // The vocabulary of the group administration commands: answers and their numbers, opcodes, and what a request can
 // ask of a member.
+#![tactic(auto)]
+
 ghost use Rattle.std.specs.Prelude.{◌≡◌, true};
 ghost use Rattle.protocol.specs.Answers.{status_of, qualifier_of, is_done, event_number, is_event_done, mode_of, kind_number};
 ghost use Rattle.protocol.specs.Opcodes.{supported, fixed_size, names_member, bit, supported_only};
 
 // The answer to a command: SPEC 6.1, with the numbers of SPEC 6.2.
-#[derive(Drop)]
+#[derive(Clone, Copy)]
 pub enum Answer {
     Done,
     BadLength,
@@ -24,7 +26,7 @@ pub enum Answer {
 }
 
 // The answer to a card event or a setup: SPEC 7.1.
-#[derive(Drop)]
+#[derive(Clone, Copy)]
 pub enum EventAnswer {
     Done,
     NotSound,
@@ -36,21 +38,21 @@ pub enum EventAnswer {
     WrongMark,
 }
 
-#[derive(Drop)]
+#[derive(Clone, Copy)]
 pub enum Mode {
     Running,
     Stopped,
 }
 
 // What a resource object is for: to get parts or to set them.
-#[derive(Drop)]
+#[derive(Clone, Copy)]
 pub enum ObjectKind {
     Get,
     Set,
 }
 
 // What is asked of the metadata of a member's parts.
-#[derive(Drop)]
+#[derive(Clone, Copy)]
 pub enum Metadata {
     Size,
     Count,
@@ -58,7 +60,7 @@ pub enum Metadata {
 }
 
 // An operation on a member that has a result and changes nothing. Each names a resource object by its id.
-#[derive(Drop)]
+#[derive(Clone, Copy)]
 pub enum ReadOp {
     QueryObject(usize),
     GetMetadata(usize, Metadata),
@@ -67,7 +69,7 @@ pub enum ReadOp {
 }
 
 // An operation that changes a member and has no result.
-#[derive(Drop)]
+#[derive(Clone, Copy)]
 pub enum ChangeOp {
     Create(usize, ObjectKind),
     Modify(usize, ObjectKind),
@@ -77,7 +79,7 @@ pub enum ChangeOp {
 }
 
 // What a reply holds from byte 8.
-#[derive(Drop)]
+#[derive(Clone, Copy)]
 pub enum Body {
     Nothing,
     Kind(ObjectKind),

@@ -1,5 +1,7 @@
 // The commands that read a member, SPEC 4.6, 4.8 and 4.9: steps 8 to 10 of SPEC 6.1. They read its bytes where they stand
 // in the card.
+#![tactic(auto)]
+
 ghost use Rattle.std.specs.Prelude.{◌≡◌, length};
 ghost use Rattle.member.specs.Record.{member_size, member_of};
 ghost use Rattle.reads.specs.Reads.{refuse_read, succeed_read, query_of, metadata_of, through_get, selected_of, read_of};
@@ -8,7 +10,7 @@ use objects::Found;
 use protocol::{Answer, Body, Metadata, ObjectKind, ReadOp};
 
 // The outcome of an operation that has a result and changes nothing.
-#[derive(Drop)]
+#[derive(Clone, Copy)]
 pub struct Reading {
     pub answer: Answer,
     pub body: Body,

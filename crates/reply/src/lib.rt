@@ -1,4 +1,6 @@
 // The reply to a command, SPEC 3.3: its head, its result in the lent tail, and steps 11 and 12 of SPEC 6.1.
+#![tactic(auto)]
+
 ghost use Rattle.std.specs.Prelude.{◌≡◌, ℕ, ◌+◌, ◌≤◌, ◌<◌, List, [], ◌++◌, length};
 ghost use Rattle.theory.specs.Bytes.{put};
 ghost use Rattle.wire.specs.Le.{bytes};

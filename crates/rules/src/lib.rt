@@ -1,4 +1,6 @@
 // Step 10, a bad list, SPEC 5.5 and 5.6: the rules of one part, and of a list.
+#![tactic(auto)]
+
 ghost use Rattle.std.specs.Prelude.{◌≡◌, not, eqb};
 ghost use Rattle.theory.specs.Logic.{◌or◌};
 ghost use Rattle.theory.specs.Bytes.{same};
@@ -28,7 +30,7 @@ const AGAIN: u8 = 4;
 const NO_CAUSE: u8 = 5;
 
 // Why a list given to be set is refused: the first cause, in the order of SPEC 5.5, that occurs anywhere in it, or none.
-#[derive(Drop)]
+#[derive(Clone, Copy)]
 pub enum Cause {
     Accepted,
     Cut,

@@ -1,4 +1,6 @@
 // A damaged list of parts made into one that step 10 passes, with a report: 02, request 8.
+#![tactic(auto)]
+
 ghost use Rattle.std.specs.Prelude.{◌≡◌, ◌≤◌, length};
 ghost use Rattle.theory.specs.Bytes.{put};
 ghost use Rattle.parts.specs.List.{part_with, longest_list};

@@ -1,5 +1,7 @@
 // Salvages a torn capture: 02, request 8. The arguments are the file of a packed setup and a member's number. The damaged
 // list is read from standard input, the repaired one written to standard output, and a report to standard error.
+#![tactic(auto)]
+
 mod input;
 mod report;
 

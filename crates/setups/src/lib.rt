@@ -1,4 +1,6 @@
 // Setups packed in bytes, most significant bit first: 02, request 9.
+#![tactic(auto)]
+
 mod reader;
 mod writer;
 
@@ -17,7 +19,7 @@ pub const FEATURES_SIZE: usize = 16;
 const HEAD_SIZE: usize = 3;
 
 // A setup, with a queue count for each member; those of members past N are 0.
-#[derive(Drop)]
+#[derive(Clone, Copy)]
 pub struct Setup {
     pub members: u8,
     pub queues: [u8; MOST_MEMBERS],
@@ -26,7 +28,7 @@ pub struct Setup {
     pub features: [u8; FEATURES_SIZE],
 }
 
-#[derive(Drop)]
+#[derive(Clone, Copy)]
 pub enum ReadAnswer {
     Done,
     Version2,
@@ -34,14 +36,14 @@ pub enum ReadAnswer {
 }
 
 // Refused, the setup is all zero.
-#[derive(Drop)]
+#[derive(Clone, Copy)]
 pub struct ReadOutcome {
     pub answer: ReadAnswer,
     pub setup: Setup,
 }
 
 // What a setup says of one member. Where it says nothing, `known` is false, the queue count 0 and the features zeros.
-#[derive(Drop)]
+#[derive(Clone, Copy)]
 pub struct MemberSetup {
     pub known: bool,
     pub queues: u8,
@@ -49,7 +51,7 @@ pub struct MemberSetup {
 }
 
 // The bits before the features: how many bytes they fill, and the number that they are.
-#[derive(Drop)]
+#[derive(Clone, Copy)]
 struct Front {
     size: usize,
     number: u64,

@@ -1,4 +1,6 @@
 // The text of the sheet, 02, request 11: sixteen lines of a name and a number, and how the stream ended.
+#![tactic(auto)]
+
 ghost use Rattle.std.specs.Prelude.{◌≡◌, ◌+◌, ◌*◌, ◌^◌, ◌≤◌, ◌<◌, length};
 ghost use Rattle.theory.specs.Bytes.{put};
 ghost use Rattle.theory.specs.Items.{items_from};

@@ -1,5 +1,7 @@
 // Restore in fragments, SPEC 13.6: begin, feed, finish and drop of a member's holding place (02's term). Each
 // answers status + 65,536 x qualifier, and 9 for an unsound card.
+#![tactic(auto)]
+
 ghost use Rattle.std.specs.Prelude.{◌≡◌, true, ◌+◌, ◌≤◌, length, take};
 ghost use Rattle.theory.specs.Bytes.{put};
 ghost use Rattle.member.specs.Record.{holding_size};

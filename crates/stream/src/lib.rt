@@ -1,5 +1,7 @@
 // The captures of a stream, 02, request 11, counted. What stands behind the setup is taken in chunks that end anywhere: the
 // numbers by value, the bytes of the item under way in a lent buffer.
+#![tactic(auto)]
+
 ghost use Rattle.std.specs.Prelude.{◌≡◌, ◌<◌, ◌≤◌, length};
 ghost use Rattle.theory.specs.Bytes.{put};
 ghost use Rattle.wire.specs.Le.{number};
@@ -20,7 +22,7 @@ const MOST: u64 = 4294967295;
 
 // What the stream is in the middle of: the length of a capture, a capture, a long capture, which is skipped. Or nothing
 // more is taken.
-#[derive(Drop)]
+#[derive(Clone, Copy)]
 pub enum Item {
     Length,
     Capture,
@@ -29,7 +31,7 @@ pub enum Item {
 }
 
 // The item under way, how many of its bytes are held and how many are still to come, and the numbers of the sheet.
-#[derive(Drop)]
+#[derive(Clone, Copy)]
 pub struct Progress {
     pub item: Item,
     pub have: usize,

@@ -1,4 +1,6 @@
 // The numbers of the sheet, 02, request 11: what one capture adds to each. They stand in an array, in the sheet's order.
+#![tactic(auto)]
+
 ghost use Rattle.std.specs.Prelude.{◌≡◌, ◌≤◌, ◌^◌, length};
 ghost use Rattle.parts.specs.declared.ListForm.TheVariants.{Parts};
 ghost use Rattle.parts.specs.List.{parts_of};

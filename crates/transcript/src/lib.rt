@@ -1,4 +1,6 @@
 // For the programs: requests that the host's half builds, and lines of text on standard output.
+#![tactic(auto)]
+
 ghost use Rattle.std.specs.Prelude.{◌<◌};
 
 use libc::STDOUT_FILENO;
@@ -11,7 +13,7 @@ pub const GET: u8 = 0;
 pub const SET: u8 = 1;
 
 // A request that the host's half built. Its room is for a list of 472 bytes: a full capture of four queues fits.
-#[derive(Drop)]
+#[derive(Clone, Copy)]
 pub struct Request {
     pub bytes: [u8; 512],
     pub len: usize,

@@ -1,4 +1,6 @@
 // What a card store sets, SPEC 7.5, and what an accepted list sets, SPEC 5.7.
+#![tactic(auto)]
+
 ghost use Rattle.std.specs.Prelude.{◌≡◌, length};
 ghost use Rattle.inventory.specs.Inventory.{values_size};
 ghost use Rattle.parts.specs.declared.ListForm.TheVariants.{Parts};

@@ -1,4 +1,6 @@
 // Little-endian numbers, SPEC 3.1, and bytes, at a place of a slice.
+#![tactic(auto)]
+
 ghost use Rattle.std.specs.Prelude.{◌≡◌, ◌+◌, ◌^◌, ◌≤◌, ◌<◌, eqb, length, replicate};
 ghost use Rattle.theory.specs.Logic.{◌and◌};
 ghost use Rattle.theory.specs.Bytes.{put, same};

@@ -1,6 +1,8 @@
 // The worked examples of SPEC 10, B1 to B12 and the metadata list, and L1 to L7 of requests of any length, through the
 // exported library: each reply in hexadecimal under its name. Setup: two members, one queue, one get and one set object
 // each, features all zero.
+#![tactic(auto)]
+
 use transcript::{GET, Request, SET};
 
 // Shows a reply under a name.

@@ -1,4 +1,6 @@
 // The yearly sheet, 02, request 11: reads a stream from standard input, and prints its sheet.
+#![tactic(auto)]
+
 ghost use Rattle.std.specs.Prelude.{◌≡◌, length};
 ghost use Rattle.tally.specs.Rows.{longest};
 ghost use Rattle.stream.specs.Progress.{Counted};

@@ -1,0 +1,4 @@
+use Rattle.protocol.proofs.is_done.Goals as goal
+
+pub returns : goal.returns
+returns c = cc
