@@ -1,5 +1,3 @@
 pub mod Objects
 pub mod Counts
 pub mod Arrays
-pub mod MirSteps
-pub mod LentArray

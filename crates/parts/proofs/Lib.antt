@@ -1,4 +1,2 @@
 pub mod Walk
-pub mod ByHand
-pub mod Reader
 pub mod Turns

@@ -32,13 +32,13 @@ module _ (form : ListForm) (l : List ℕ) (at : ℕ) (r : Step) (here : r ≡ st
   whole-cut x e h = h ∙ rw (parts_cut form l at (sym here ∙ e))
 
   -- the walk treats the end and a part that is cut short alike
-  module _ (none : OneOf (1 ∷ 2 ∷ []) (tag_of Rattle.parts.specs.contracts.Step.the_type r)) where
+  module _ (none : (t f s start len : ℕ) → r ≡ step.Part t f s start len → ⊥) where
     pub stopped : {A : Type 0} (ask : PartList → A) (a : A) → ask cut ≡ a → ask end ≡ a → ask (parts_from form l at) ≡ a
     stopped ask a at_cut at-end = cases r none here
       where
-        cases : (r : Step) → OneOf (1 ∷ 2 ∷ []) (tag_of Rattle.parts.specs.contracts.Step.the_type r) → r ≡ step_at form l at
+        cases : (r : Step) → ((t f s start len : ℕ) → r ≡ step.Part t f s start len → ⊥) → r ≡ step_at form l at
             → ask (parts_from form l at) ≡ a
-        cases (step.Part t f s start len) k e = absurd (miss (1 ∷ 2 ∷ []) 0 tt k)
+        cases (step.Part t f s start len) k e = absurd (k t f s start len refl)
         cases step.Cut k e = ap ask (parts_cut form l at (sym e)) ∙ at_cut
         cases step.End k e = ap ask (parts-end form l at (sym e)) ∙ at-end
 

@@ -1,0 +1,16 @@
+use mathlib.Core.Path.{sym}
+use Prim.Native.Nat.{◌-◌}
+use borrow.Author.Rules.{rules}
+use Rattle.theory.specs.Logic.{◌and◌}
+use Rattle.theory.proofs.Tests.{true-and}
+use Rattle.objects.proofs.Counts.{up-to-on, up-to-end}
+use Rattle.objects.proofs.are_up_to.Goals as goal
+
+pub loop-i-init : goal.loop-i-init
+loop-i-init c = sym (true-and _)
+
+pub loop-i-preserved : goal.loop-i-preserved
+loop-i-preserved c = search (rules, up-to-on)
+
+pub returns : goal.returns
+returns c = search (rules, up-to-end)

@@ -1,0 +1,17 @@
+use borrow.Author.Rules.{rules}
+use native.Mathlib.Omega.{arith}
+use Prim.Native.Nat.{◌-◌, ◌≤◌}
+use Rattle.objects.proofs.Counts.{count-on, counted, adds-at-most-one, all-at}
+use Rattle.objects.proofs.count_of.Goals as goal
+
+pub indicator_of-n-requires : goal.indicator_of-n-requires
+indicator_of-n-requires c = (search (rules, all-at), search rules, search rules)
+
+pub overflow_add-n : goal.overflow_add-n
+overflow_add-n c = let h : c.indicator_of-n.result ≤ 1 = search (rules, adds-at-most-one) in omega arith
+
+pub loop-i-preserved : goal.loop-i-preserved
+loop-i-preserved c = let h : c.indicator_of-n.result ≤ 1 = search (rules, adds-at-most-one) in (search rules, omega arith, search (rules, count-on))
+
+pub returns : goal.returns
+returns c = search (rules, counted)
