@@ -5,8 +5,6 @@ use mathlib.Core.Bool.{Bool, true, false}
 use mathlib.Core.List.{List, [], ◌∷◌}
 use Prim.Native.Nat.{ℕ, zero, suc, ◌+◌, ◌≤◌}
 use native.Mathlib.Omega.{arith}
-use types.Run.{OneOf}
-use denote.Enum.Declared.{tag_of}
 use lib.Dec.{eqb}
 use lib.ListN.{length}
 use Rattle.theory.specs.Logic.{if◌then◌else◌, ◌and◌}
@@ -18,7 +16,7 @@ use Rattle.parts.specs.declared.Step.{Step}
 use Rattle.parts.specs.declared.Step.TheVariants as step
 use Rattle.parts.specs.List.{PartList, end, cut, part, part_in, step_at, on_step, at_most, parts_from, parts_of, value_or}
 use Rattle.parts.proofs.Walk.{step_part}
-use Rattle.parts.proofs.Turns.{stopped, opened}
+use Rattle.parts.proofs.Turns.{NoPart, stopped, opened}
 use Rattle.difference.specs.declared.Span.{Span}
 use Rattle.difference.specs.declared.Span.TheVariants.{Value, Nowhere}
 use Rattle.difference.specs.Difference.{span_from, span_of, on_span}
@@ -35,7 +33,7 @@ span-part t s l at u f v start len e ps =
 
 -- r is what next_part answered at `at`, x what the whole list gives
 module _ (t s : ℕ) (l : List ℕ) (at : ℕ) (r : Step) (here : r ≡ step_at Parts l at) (x : Span) (e : x ≡ span_from t s at (parts_from Parts l at)) where
-  pub span-stop : OneOf (1 ∷ 2 ∷ []) (tag_of Rattle.parts.specs.contracts.Step.the_type r) → x ≡ Nowhere
+  pub span-stop : NoPart r → x ≡ Nowhere
   unfolding span_from
   span-stop none = e ∙ stopped Parts l at r here none (span_from t s at) Nowhere refl refl
 

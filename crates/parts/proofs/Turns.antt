@@ -5,8 +5,6 @@ use mathlib.Core.Bool.{Bool, true, false}
 use mathlib.Core.List.{List, [], ◌∷◌}
 use Prim.Native.Nat.{ℕ, ◌+◌, ◌-◌, ◌^◌, ◌<◌, ◌≤◌}
 use native.Mathlib.Omega.{arith}
-use types.Run.{OneOf, miss}
-use denote.Enum.Declared.{tag_of}
 use mir.Val.{Fits}
 use mir.Syntax.{w64}
 use borrow.Author.Rules.{rules}
@@ -20,6 +18,10 @@ use Rattle.parts.specs.declared.Step.TheVariants as step
 use Rattle.parts.specs.List.{step_at, PartList, end, cut, part, part_in, parts_from, whole, among}
 use Rattle.parts.proofs.Walk.{Within, step_part, parts-end, parts_cut, parts-part}
 
+-- it is no part
+abbrev pub NoPart : Step → Type 0
+NoPart r = (t f s start len : ℕ) → r ≡ step.Part t f s start len → ⊥
+
 module _ (form : ListForm) (l : List ℕ) (at : ℕ) (r : Step) (here : r ≡ step_at form l at) where
   -- ---- no part is found ----
 
@@ -32,11 +34,11 @@ module _ (form : ListForm) (l : List ℕ) (at : ℕ) (r : Step) (here : r ≡ st
   whole-cut x e h = h ∙ rw (parts_cut form l at (sym here ∙ e))
 
   -- the walk treats the end and a part that is cut short alike
-  module _ (none : (t f s start len : ℕ) → r ≡ step.Part t f s start len → ⊥) where
+  module _ (none : NoPart r) where
     pub stopped : {A : Type 0} (ask : PartList → A) (a : A) → ask cut ≡ a → ask end ≡ a → ask (parts_from form l at) ≡ a
     stopped ask a at_cut at-end = cases r none here
       where
-        cases : (r : Step) → ((t f s start len : ℕ) → r ≡ step.Part t f s start len → ⊥) → r ≡ step_at form l at
+        cases : (r : Step) → NoPart r → r ≡ step_at form l at
             → ask (parts_from form l at) ≡ a
         cases (step.Part t f s start len) k e = absurd (k t f s start len refl)
         cases step.Cut k e = ap ask (parts_cut form l at (sym e)) ∙ at_cut

@@ -5,8 +5,6 @@ use mathlib.Core.Bool.{Bool, true, false, not}
 use mathlib.Core.List.{List, [], ◌∷◌}
 use Prim.Native.Nat.{ℕ, ◌+◌, ◌-◌}
 use native.Mathlib.Nat.{add-sub_cancel_left}
-use types.Run.{OneOf}
-use denote.Enum.Declared.{tag_of}
 use borrow.Author.Tests.{not-true, not-false}
 use lib.ListN.{take, drop}
 use Rattle.theory.specs.Logic.{◌or◌}
@@ -15,12 +13,12 @@ use Rattle.parts.specs.declared.ListForm.{ListForm}
 use Rattle.parts.specs.declared.Step.{Step}
 use Rattle.parts.specs.declared.Step.TheVariants as step
 use Rattle.parts.specs.List.{step_at, Part, part, part_with, part_in, parts_from, among}
-use Rattle.parts.proofs.Turns.{stopped, opened}
+use Rattle.parts.proofs.Turns.{NoPart, stopped, opened}
 use Rattle.rules.specs.Rules.{known, every, repeated}
 
 module _ (form : ListForm) (l : List ℕ) (at : ℕ) (r : Step) (here : r ≡ step_at form l at) where
   -- the walk treats the end and a part that is cut short alike
-  module _ (none : OneOf (1 ∷ 2 ∷ []) (tag_of Rattle.parts.specs.contracts.Step.the_type r)) where
+  module _ (none : NoPart r) where
     pub every-stop : (rule : Part → Bool) (x : Bool) → x ≡ every rule (parts_from form l at) → x ≡ true
     unfolding every
     every-stop rule x e = e ∙ stopped form l at r here none (every rule) true refl refl

@@ -4,8 +4,6 @@ use mathlib.Core.List.{List, [], ◌∷◌}
 use Prim.Native.Nat.{ℕ, ◌+◌, ◌-◌, ◌≤◌}
 use native.Mathlib.Nat.{add-sub_cancel_left, zero-add, add-zero}
 use native.Mathlib.Omega.{arith}
-use types.Run.{OneOf}
-use denote.Enum.Declared.{tag_of}
 use lib.ListN.{length, take, drop}
 use Rattle.theory.specs.Bytes.{bytes_at}
 use Rattle.theory.proofs.Bytes.{length-bytes_at}
@@ -14,7 +12,7 @@ use Rattle.parts.specs.declared.Step.{Step}
 use Rattle.parts.specs.declared.Step.TheVariants as step
 use Rattle.parts.specs.List.{step_at, part_with, part_in, parts_from, parts_of, longest_list}
 use Rattle.parts.proofs.Walk.{Within, step_part}
-use Rattle.parts.proofs.Turns.{stopped, opened}
+use Rattle.parts.proofs.Turns.{NoPart, stopped, opened}
 use Rattle.rules.specs.Rules.{features_same}
 use Rattle.salvage.specs.Salvage.{value_right, bytes_read}
 use Rattle.salvage.specs.Walk.{State, taken, walked, Sized, Walked, Begins}
@@ -43,7 +41,7 @@ module _ (q : ℕ) (features l : List ℕ) (s₀ s : State) (at : ℕ) (w : Walk
 
   -- r is what next_part answered
   module _ (r : Step) (here : r ≡ step_at Parts l at) where
-    pub walking-end : OneOf (1 ∷ 2 ∷ []) (tag_of Rattle.parts.specs.contracts.Step.the_type r) → Walked q features l s₀ s at
+    pub walking-end : NoPart r → Walked q features l s₀ s at
     unfolding walked bytes_read
     walking-end none =
         record {

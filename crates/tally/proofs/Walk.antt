@@ -3,8 +3,6 @@ use mathlib.Core.Path.{◌≡◌, refl, ap, sym, ◌∙◌}
 use mathlib.Core.List.{List, [], ◌∷◌}
 use Prim.Native.Nat.{ℕ, zero, suc, ◌+◌, ◌≤◌, ◌^◌}
 use native.Mathlib.Omega.{arith}
-use types.Run.{OneOf}
-use denote.Enum.Declared.{tag_of}
 use lib.Dec.{eqb}
 use lib.ListN.{length, get_or}
 use Rattle.theory.specs.Logic.{◌and◌}
@@ -13,7 +11,7 @@ use Rattle.parts.specs.declared.ListForm.TheVariants.{Parts}
 use Rattle.parts.specs.declared.Step.{Step}
 use Rattle.parts.specs.declared.Step.TheVariants as step
 use Rattle.parts.specs.List.{step_at, cut, end, part, part_in, on_step, at_most, parts_from, parts_of, PartList}
-use Rattle.parts.proofs.Turns.{stopped, opened}
+use Rattle.parts.proofs.Turns.{NoPart, stopped, opened}
 use Rattle.rules.specs.Rules.{known}
 use Rattle.tally.specs.Counts.{◌plus◌, Below}
 use Rattle.tally.specs.Rows.{parts_of_type, longest}
@@ -91,7 +89,7 @@ module _ (q : ℕ) (l a₀ a : List ℕ) (at : ℕ) (w : Counting q l a₀ a at)
               ∙ ap (◌plus parts_add q (parts_from Parts l (start + len))) (sym e);
         }
 
-    pub counting-end : OneOf (1 ∷ 2 ∷ []) (tag_of Rattle.parts.specs.contracts.Step.the_type r) → a ≡ a₀ plus parts_add q (parts_of Parts l)
+    pub counting-end : NoPart r → a ≡ a₀ plus parts_add q (parts_of Parts l)
     unfolding parts_add by_type parts_of_type
     counting-end none =
         sym (w.rest ∙ stopped Parts l at r here none (λ x. a plus parts_add q x) a (plus-zeros a 16) (plus-zeros a 16))

@@ -4,20 +4,18 @@ use mathlib.Core.Path.{◌≡◌, refl, ◌∙◌}
 use mathlib.Core.List.{List, [], ◌∷◌}
 use Prim.Native.Nat.{ℕ, ◌+◌, ◌-◌}
 use native.Mathlib.Nat.{add-sub_cancel_left}
-use types.Run.{OneOf}
-use denote.Enum.Declared.{tag_of}
 use lib.ListN.{take, drop}
 use Rattle.theory.specs.Bytes.{bytes_at}
 use Rattle.parts.specs.declared.ListForm.{ListForm}
 use Rattle.parts.specs.declared.Step.{Step}
 use Rattle.parts.specs.declared.Step.TheVariants as step
 use Rattle.parts.specs.List.{step_at, part, part_in, parts_from}
-use Rattle.parts.proofs.Turns.{stopped, opened}
+use Rattle.parts.proofs.Turns.{NoPart, stopped, opened}
 use Rattle.values.specs.Apply.{stored, applied}
 
 module _ (form : ListForm) (l : List ℕ) (at : ℕ) (r : Step) (here : r ≡ step_at form l at) where
   -- the walk treats the end and a part that is cut short alike
-  module _ (none : OneOf (1 ∷ 2 ∷ []) (tag_of Rattle.parts.specs.contracts.Step.the_type r)) where
+  module _ (none : NoPart r) where
     pub applied-stop : (queues : ℕ) (x v : List ℕ) → x ≡ applied queues (parts_from form l at) v → x ≡ v
     unfolding applied
     applied-stop queues x v e = e ∙ stopped form l at r here none (λ ps. applied queues ps v) v refl refl

@@ -7,9 +7,10 @@ use Rattle.capture.specs.Capture.{Asked}
 use Rattle.theory.proofs.Sums.{sum-start, sum-on, summed}
 use Rattle.capture.proofs.Sizes.{parts-length}
 use Rattle.capture.proofs.Writes.{row-bytes, row-most}
+use Rattle.capture.proofs.asked_bytes.Goals.{After-asked_size-n}
 use Rattle.capture.proofs.asked_bytes.Goals as goal
 
-most : (c : goal.After-asked_size-n invariant-loop decreases-loop) → c.asked_size-n.result ≤ 272
+most : (c : After-asked_size-n) → c.asked_size-n.result ≤ 272
 unfolding rows
 most c = search (rules, row-most)
 
@@ -55,4 +56,4 @@ loop-i-preserved c = let m = most c in (omega arith, omega arith, search (rules,
 
 pub returns : goal.returns
 unfolding rows
-returns c = summed _ _ _ _ c.loop-i.invariant.2 c.loop-i-test.false ∙ sym (parts-length Asked _ _ v e)
+returns c v e = summed _ _ _ _ c.loop-i.invariant.2 c.loop-i-test.false ∙ sym (parts-length Asked _ _ v e)

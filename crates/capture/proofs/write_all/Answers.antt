@@ -4,52 +4,53 @@ use mathlib.Core.List.{List}
 use native.Mathlib.Omega.{arith}
 use Rattle.inventory.specs.Inventory.{rows}
 use Rattle.capture.proofs.Runs.{Upto, upto-none, run-asks, upto_next, upto_all}
+use Rattle.capture.proofs.write_all.Goals.{After-write_run, After-write_run-at, After-write_run-at-2, After-write_run-at-3, After-write_run-at-4, After-write_run-at-5, After-write_run-at-6, Start}
 use Rattle.capture.proofs.write_all.Goals as goal
 
 -- k runs are written, of what was asked at the start
-abbrev Runs : goal.Start → ℕ → List ℕ → ℕ → Type 0
+abbrev Runs : Start → ℕ → List ℕ → ℕ → Type 0
 Runs s k out at = Upto s.args.queues s.args.values.now s.args.out.now k out at
 
-abbrev start-1 : goal.After-write_run-at → goal.Start
+abbrev start-1 : After-write_run-at → Start
 start-1 c = c
 
-after-1 : (c : goal.After-write_run-at) → Runs (start-1 c) 1 c.write_run-at.new.0 c.write_run-at.result
+after-1 : (c : After-write_run-at) → Runs (start-1 c) 1 c.write_run-at.new.0 c.write_run-at.result
 after-1 c = upto_next (upto-none (start-1 c).requires) tt c.write_run-at.ensures
 
-abbrev start-2 : goal.After-write_run-at-2 → goal.Start
+abbrev start-2 : After-write_run-at-2 → Start
 start-2 c = start-1 c
 
-after-2 : (c : goal.After-write_run-at-2) → Runs (start-2 c) 2 c.write_run-at-2.new.0 c.write_run-at-2.result
+after-2 : (c : After-write_run-at-2) → Runs (start-2 c) 2 c.write_run-at-2.new.0 c.write_run-at-2.result
 after-2 c = upto_next (after-1 c) tt c.write_run-at-2.ensures
 
-abbrev start-3 : goal.After-write_run-at-3 → goal.Start
+abbrev start-3 : After-write_run-at-3 → Start
 start-3 c = start-2 c
 
-after-3 : (c : goal.After-write_run-at-3) → Runs (start-3 c) 3 c.write_run-at-3.new.0 c.write_run-at-3.result
+after-3 : (c : After-write_run-at-3) → Runs (start-3 c) 3 c.write_run-at-3.new.0 c.write_run-at-3.result
 after-3 c = upto_next (after-2 c) tt c.write_run-at-3.ensures
 
-abbrev start-4 : goal.After-write_run-at-4 → goal.Start
+abbrev start-4 : After-write_run-at-4 → Start
 start-4 c = start-3 c
 
-after-4 : (c : goal.After-write_run-at-4) → Runs (start-4 c) 4 c.write_run-at-4.new.0 c.write_run-at-4.result
+after-4 : (c : After-write_run-at-4) → Runs (start-4 c) 4 c.write_run-at-4.new.0 c.write_run-at-4.result
 after-4 c = upto_next (after-3 c) tt c.write_run-at-4.ensures
 
-abbrev start-5 : goal.After-write_run-at-5 → goal.Start
+abbrev start-5 : After-write_run-at-5 → Start
 start-5 c = start-4 c
 
-after-5 : (c : goal.After-write_run-at-5) → Runs (start-5 c) 5 c.write_run-at-5.new.0 c.write_run-at-5.result
+after-5 : (c : After-write_run-at-5) → Runs (start-5 c) 5 c.write_run-at-5.new.0 c.write_run-at-5.result
 after-5 c = upto_next (after-4 c) tt c.write_run-at-5.ensures
 
-abbrev start-6 : goal.After-write_run-at-6 → goal.Start
+abbrev start-6 : After-write_run-at-6 → Start
 start-6 c = start-5 c
 
-after-6 : (c : goal.After-write_run-at-6) → Runs (start-6 c) 6 c.write_run-at-6.new.0 c.write_run-at-6.result
+after-6 : (c : After-write_run-at-6) → Runs (start-6 c) 6 c.write_run-at-6.new.0 c.write_run-at-6.result
 after-6 c = upto_next (after-5 c) tt c.write_run-at-6.ensures
 
-abbrev start-7 : goal.After-write_run → goal.Start
+abbrev start-7 : After-write_run → Start
 start-7 c = start-6 c
 
-after-7 : (c : goal.After-write_run) → Runs (start-7 c) 7 c.write_run.new.0 c.write_run.result
+after-7 : (c : After-write_run) → Runs (start-7 c) 7 c.write_run.new.0 c.write_run.result
 after-7 c = upto_next (after-6 c) tt c.write_run.ensures
 
 pub bounds-0 : goal.bounds-0

@@ -26,7 +26,7 @@ returns-then-not-is_features c = search ladder depth 11
 
 pub returns-then-seen : goal.returns-then-seen
 unfolding rank_of row_rank
-returns-then-seen c = search (ladder, yes-not) depth 11
+returns-then-seen c = search (ladder, yes-not) depth 11 fits 4000
 
 pub returns : goal.returns
 unfolding rank_of row_rank
