@@ -1,0 +1,6 @@
+use borrow.Author.Rules.{rules}
+use Rattle.member.proofs.Objects.{values-in}
+use Rattle.member.proofs.Member.set_parts.Goals as goal
+
+pub returns : goal.returns
+returns c = search (rules, values-in)
