@@ -20,12 +20,9 @@ pub returns-then-not-is_front_sound : goal.returns-then-not-is_front_sound
 returns-then-not-is_front_sound c = search (rules, bad-front)
 
 pub is_within_limits-requires : goal.is_within_limits-requires
-is_within_limits-requires c = let at_low = c in
-    let at-kept = at_low.before.before in
-    let start = at-kept.before.before.before.before.before in
-    let pre = start.requires in (
+is_within_limits-requires c = let pre = c.requires in (
       search rules,
-      all-low start.args.gets start.args.sets start.args.features.now start.args.bytes.now _ pre.0 pre.1 pre.2 _ at-kept.equal.ensures _ _ refl at_low.are-within.ensures c.if-not-kept-low.false,
+      all-low c.args.gets c.args.sets c.args.features.now c.args.bytes.now _ pre.0 pre.1 pre.2 _ c.equal-kept.ensures _ _ refl c.are_within-low.ensures c.if-not-kept-low.false-raw,
     )
 
 pub returns : goal.returns

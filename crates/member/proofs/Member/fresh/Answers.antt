@@ -7,5 +7,5 @@ use Rattle.member.proofs.Member.fresh.Goals as goal
 
 pub returns : goal.returns
 unfolding fresh_of
-returns c = let n : length c.args.t2 ≡ 16 = search rules in
-    rw (c.copy.ensures, fresh-values c.args.t2 n)
+returns c = let n : length c.args.features ≡ 16 = search rules in
+    rw (c.copy.ensures, fresh-values c.args.features n)

@@ -1,0 +1,20 @@
+use borrow.Author.Rules.{rules}
+use Rattle.card.proofs.ReadLaws.{lent-long}
+use Rattle.card.proofs.RecordBytesLaws.{head-there}
+use Rattle.card.proofs.MarkLaws.{no-mark, mark-record, mark-read}
+use Rattle.card.proofs.is_marked.Goals as goal
+
+pub is_member-requires : goal.is_member-requires
+is_member-requires c = search (rules, head-there)
+
+pub returns-then-not-is_member : goal.returns-then-not-is_member
+returns-then-not-is_member c = search (rules, no-mark)
+
+pub member_bytes-requires : goal.member_bytes-requires
+member_bytes-requires c = search (rules, mark-record)
+
+pub is_marked-requires : goal.is_marked-requires
+is_marked-requires c = search (rules, lent-long, mark-record)
+
+pub returns : goal.returns
+returns c = search (rules, mark-read)

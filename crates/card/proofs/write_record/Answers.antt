@@ -1,0 +1,17 @@
+use mathlib.Core.Path.{sym, ◌∙◌}
+use lib.ListN.{length-map}
+use borrow.Author.Rules.{rules}
+use Rattle.member.proofs.Record.{Shaped}
+use Rattle.card.proofs.WriteLaws.{record-written}
+use Rattle.card.proofs.write_record.Goals.{Start}
+use Rattle.card.proofs.write_record.Goals as goal
+
+shaped : (s : Start) → Shaped s.args.x
+shaped s = record {
+  ids = sym (length-map s.args.x.objects _) ∙ s.well-formed.1.1.0.1.1.1.1.1.0.1.0.1;
+  low = search rules;
+  long = search rules;
+}
+
+pub returns : goal.returns
+returns c = search (rules, shaped, record-written)
