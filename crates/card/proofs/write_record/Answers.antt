@@ -8,7 +8,7 @@ use Rattle.card.proofs.write_record.Goals as goal
 
 shaped : (s : Start) → Shaped s.args.x
 shaped s = record {
-  ids = sym (length-map s.args.x.objects _) ∙ s.well-formed.1.1.0.1.1.1.1.1.0.1.0.1;
+  ids = search rules;
   low = search rules;
   long = search rules;
 }
