@@ -1,0 +1,25 @@
+use borrow.Author.Rules.{rules}
+use Rattle.theory.proofs.Ladder.{ladder}
+use Rattle.events.specs.Events.{member_answer}
+use Rattle.events.proofs.EventLaws.{told-long}
+use Rattle.events.proofs.member_answer.Goals as goal
+
+pub is_sound-requires : goal.is_sound-requires
+unfolding member_answer
+is_sound-requires c = search rules
+
+pub returns-then-not-is_sound : goal.returns-then-not-is_sound
+unfolding member_answer
+returns-then-not-is_sound c = search ladder
+
+pub is_member-requires : goal.is_member-requires
+unfolding member_answer
+is_member-requires c = search (rules, told-long)
+
+pub returns-then-not-is_member : goal.returns-then-not-is_member
+unfolding member_answer
+returns-then-not-is_member c = search ladder
+
+pub returns : goal.returns
+unfolding member_answer
+returns c = search ladder
