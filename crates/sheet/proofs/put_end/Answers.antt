@@ -1,5 +1,8 @@
-use Rattle.sheet.proofs.Lines.{whole-put, whole-next}
+use Rattle.sheet.proofs.Lines.{whole-put, whole-next, torn-put, torn-next}
 use Rattle.sheet.proofs.put_end.Goals as goal
 
-pub copy-requires-2 : goal.copy-requires-2
-copy-requires-2 c = (search whole-put, search whole-next)
+pub returns-then-whole : goal.returns-then-whole
+returns-then-whole c = (search whole-put, search whole-next)
+
+pub returns : goal.returns
+returns c = (search torn-put, search torn-next)
