@@ -1,8 +1,0 @@
--- `figures::refuse` meets its contract. Assumes nothing.
-use borrow.Author.Rules.{rules}
-use Rattle.figures.proofs.Taking.{placed}
-use Rattle.figures.proofs.refuse.Statement.{statement}
-use Rattle.figures.proofs.refuse.Tie as tie
-
-pub refuse-spec : {M : Type 1} → statement M
-refuse-spec = tie.close (tie.spec (λ c κs. search rules) (λ c. search placed))
