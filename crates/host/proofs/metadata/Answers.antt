@@ -1,0 +1,6 @@
+use borrow.Author.Rules.{rules}
+use Rattle.host.proofs.Building.{alone}
+use Rattle.host.proofs.metadata.Goals as goal
+
+pub returns : goal.returns
+returns c = search (rules, alone)

@@ -1,9 +1,0 @@
--- `host::query` meets its contract. Assumes nothing.
-use borrow.Author.Rules.{rules}
-use Rattle.host.proofs.Building.{alone}
-use Rattle.host.proofs.query.Statement.{statement}
-use Rattle.host.proofs.query.Tie as tie
-
-pub query-spec : {M : Type 1} → statement M
-query-spec =
-    tie.close (tie.spec (λ c κs. search rules) (λ c. search rules) (λ c. search (rules, alone)))
