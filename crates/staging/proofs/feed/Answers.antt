@@ -1,0 +1,30 @@
+use borrow.Author.Rules.{rules}
+use Rattle.staging.specs.Staging.{feed_of}
+use Rattle.staging.proofs.Refusals.{open-refused, open-record}
+use Rattle.staging.proofs.Returns.{held-some, held-room, held_fits, fed-over, fed-in}
+use Rattle.staging.proofs.feed.Goals as goal
+
+pub returns-then-a-ne-DONE : goal.returns-then-a-ne-DONE
+unfolding feed_of
+returns-then-a-ne-DONE c = search (rules, open-refused)
+
+pub load_member-x-requires : goal.load_member-x-requires
+load_member-x-requires c = search (rules, open-record)
+
+pub overflow_sub-from : goal.overflow_sub-from
+overflow_sub-from c = search (rules, held-some)
+
+pub overflow_sub-from-2 : goal.overflow_sub-from-2
+overflow_sub-from-2 c = search (rules, held-room)
+
+pub end-requires : goal.end-requires
+end-requires c = search (rules, open-record)
+
+pub returns-then-from-fragment : goal.returns-then-from-fragment
+returns-then-from-fragment c = search (rules, fed-over)
+
+pub hold-requires : goal.hold-requires
+hold-requires c = (search (rules, open-record), search (rules, held_fits))
+
+pub returns : goal.returns
+returns c = search (rules, fed-in)
