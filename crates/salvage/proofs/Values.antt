@@ -1,6 +1,6 @@
 -- The values of what is written: in each row that of the first allowed copy, or the fresh one; and what holds of each of the
 -- two. So step 10 passes it. Assumes nothing.
-use mathlib.Core.Path.{◌≡◌, refl, ap, sym, ◌∙◌}
+use mathlib.Core.Path.{◌≡◌, refl, ap, sym, subst, ◌∙◌}
 use mathlib.Core.Bool.{true, false}
 use mathlib.Core.List.{List, []}
 use Prim.Native.Nat.{ℕ, ◌<◌}
@@ -39,15 +39,34 @@ module _ (q : ℕ) (features : List ℕ) (t s : ℕ) where
   kept-or P x h f (part p ps) =
       by_cases (is_copy q features t s p) (λ c. rw c (f p c)) (λ c. rw c (kept-or P x h f ps))
 
+  -- an allowed copy is kept before all that follow it
+  kept-first : (x : List ℕ) (p : Part) (ps : PartList) → is_copy q features t s p ≡ true → kept_or q features t s x (part p ps) ≡ p.value
+  unfolding kept_or if◌then◌else◌
+  kept-first x p ps c = rw c
+
+  kept-next : (x : List ℕ) (p : Part) (ps : PartList) → is_copy q features t s p ≡ false
+      → kept_or q features t s x (part p ps) ≡ kept_or q features t s x ps
+  unfolding kept_or if◌then◌else◌
+  kept-next x p ps c = rw c
+
+  stands-first : (p : Part) (ps : PartList) → is_copy q features t s p ≡ true → stands t s p.value (part p ps) ≡ true
+  unfolding stands is_copy
+  stands-first p ps c = or_left _ _ (and_i _ _ (both _ _ c).0 (same_refl p.value))
+
+  stands-next : (x : List ℕ) (p : Part) (ps : PartList) → stands t s x ps ≡ true → stands t s x (part p ps) ≡ true
+  unfolding stands
+  stands-next x p ps h = or_right _ _ h
+
   -- it stands in the list
   pub kept-stands : (x : List ℕ) (ps : PartList) → is_kept q features t s ps ≡ true → stands t s (kept_or q features t s x ps) ps ≡ true
-  unfolding kept_or is_kept stands is_copy if◌then◌else◌
-  kept-stands x end k = k
-  kept-stands x cut k = k
+  unfolding is_kept
+  kept-stands x end k = absurd (cc)
+  kept-stands x cut k = absurd (cc)
   kept-stands x (part p ps) k =
+      let Stands : List ℕ → Type 0 = λ y. stands t s y (part p ps) ≡ true in
       by_cases (is_copy q features t s p)
-      (λ c. rw c (or_left _ _ (and_i _ _ (both _ _ c).0 (same_refl p.value))))
-      (λ c. rw c (or_right _ _ (kept-stands x ps (sym (false-or _) ∙ rw c at k))))
+      (λ c. subst Stands (sym (kept-first x p ps c)) (stands-first p ps c))
+      (λ c. subst Stands (sym (kept-next x p ps c)) (stands-next (kept_or q features t s x ps) p ps (kept-stands x ps (sym (false-or _) ∙ rw c at k))))
 
   pub kept-none : (x : List ℕ) (ps : PartList) → is_kept q features t s ps ≡ false → kept_or q features t s x ps ≡ x
   unfolding kept_or is_kept if◌then◌else◌ ◌or◌
