@@ -3,7 +3,7 @@
 .PHONY: help run test test-target lib salvage figures install install-programs uninstall compare compare-faults linux bench \
 	bench-capture bench-figures clean
 
-# One prover at a time: all of them work in target.
+# One prover at a time: one waits for another in the same crate.
 .NOTPARALLEL:
 
 help: ## this list
@@ -22,7 +22,7 @@ test: ## all: formatting, every proof from nothing, the must-fail edits, and the
 ARCHIVE := target/staticlib/libkajurnat.a
 
 # What a crate is made of; folders too, so that a file which is gone counts as a change.
-sources = crates.txt $(shell find $(addprefix crates/,$(shell scripts/crates $1)) -name must-fail -prune -o -print)
+sources = crates.txt $(shell find $(wildcard $(foreach part,src specs proofs,$(patsubst %,crates/%/$(part),$(shell scripts/crates $1)))))
 
 # The processor that the library is for: x86_64, or one of TARGETS, for which it is compiled from the same module.
 TARGET := x86_64
@@ -34,9 +34,8 @@ LIBRARY := $(if $(filter x86_64,$(TARGET)),$(ARCHIVE),target/$(TARGET)/libkajurn
 lib: $(LIBRARY) ## proves the library, and writes the archive to link; TARGET=aarch64, riscv64 or x86_64-kernel for others
 	@echo $(LIBRARY)
 
-$(ARCHIVE): $(call sources,kajurnat)
-	@scripts/prove kajurnat
-	@rt staticlib kajurnat >target/log/staticlib.out 2>&1 || { cat target/log/staticlib.out >&2; exit 1; }
+$(ARCHIVE): $(call sources,kajurnat_c)
+	@scripts/prove kajurnat_c
 
 MODULE := target/module/kajurnat.ll
 
@@ -59,7 +58,6 @@ salvage: $(SALVAGE) ## proves and builds the program for a torn capture, scripts
 
 $(SALVAGE): $(call sources,salvage_file)
 	@scripts/prove salvage_file
-	@touch $@
 
 FIGURES := target/bin/yearly_figures
 
@@ -69,7 +67,6 @@ figures: $(FIGURES) ## proves and builds the program for a year of captures, scr
 
 $(FIGURES): $(call sources,yearly_figures)
 	@scripts/prove yearly_figures
-	@touch $@
 
 PREFIX ?= /usr/local
 LIBDIR ?= $(PREFIX)/lib
@@ -145,4 +142,4 @@ bench-figures: $(ARCHIVE) $(FIGURES) ## the time of a year of captures
 	@$(COMPARE) --release --bin bench-figures -- $(FIGURES) docs/src/target/release/plain-figures
 
 clean: ## removes what was built
-	rm -rf target docs/src/target bindings/rust/target examples/c/target
+	rm -rf target crates/*/out docs/src/target bindings/rust/target examples/c/target

@@ -49,7 +49,7 @@
  *     else reads those that it writes. There is no lock inside: one call at a
  *     time for each card. Calls on different cards may run at once.
  *   - Only these functions write to a card. It may be copied, moved and kept
- *     in a file as it is, for a library of the same KAJURNAT_CARD_VERSION.
+ *     in a file as it is, for a library of the same KAJURNAT_VERSION.
  *
  * Bytes that are not a sound card are refused by every call on a card but
  * kajurnat_setup() and kajurnat_setup_from(). Trusted too are the compiler that
@@ -107,10 +107,10 @@ extern "C" {
 
 /*
  * What the bytes of a card mean: raised whenever that changes, whatever the
- * library's version is. A card is for a library whose kajurnat_card_version()
- * is the one it was made with.
+ * library's version above is. A card is for the library whose
+ * kajurnat_version() is the one it was made with.
  */
-#define KAJURNAT_CARD_VERSION 5
+#define KAJURNAT_VERSION 5
 
 /* The stack that a call takes at most, memcpy, memmove and memset aside. */
 #if defined(__riscv)
@@ -400,9 +400,10 @@ enum { KAJURNAT_QUEUE_SIZE_MAX = 32768 };
 /* ---- Functions -------------------------------------------------------- */
 
 /*
- * KAJURNAT_CARD_VERSION of the library that is linked.
+ * KAJURNAT_VERSION of the library that is linked, the version of a card's
+ * bytes.
  */
-uint32_t kajurnat_card_version(void);
+uint32_t kajurnat_version(void);
 
 /*
  * The exact length of a card with this many members; 0 if members is not 1
@@ -842,8 +843,8 @@ uint8_t kajurnat_difference_find(const uint8_t *setup, size_t setup_len,
                                  uint64_t member, const uint8_t *full,
                                  size_t full_len, const uint8_t *later,
                                  size_t later_len, uint16_t part_type,
-                                 uint64_t selector, uint8_t *list, size_t *at,
-                                 size_t *len);
+                                 uint64_t selector, uint8_t *list, uint64_t *at,
+                                 uint64_t *len);
 
 /*
  * Makes one list of the pair at the start of the buffer: each part of the
@@ -856,7 +857,7 @@ uint8_t kajurnat_difference_merge(const uint8_t *setup, size_t setup_len,
                                   uint64_t member, const uint8_t *full,
                                   size_t full_len, const uint8_t *later,
                                   size_t later_len, uint8_t *merged,
-                                  size_t merged_len, size_t *written);
+                                  size_t merged_len, uint64_t *written);
 
 /* ---- Salvage of a torn capture ------------------------------------------ */
 
@@ -889,7 +890,7 @@ enum {
 enum {
     KAJURNAT_DROPPED_UNKNOWN = 0, /* the member has no such part */
     KAJURNAT_DROPPED_COPY = 1,    /* a copy of it is kept */
-    KAJURNAT_DROPPED_LENGTH = 2,  /* not of the part's length */
+    KAJURNAT_DROPPED_SIZE = 2,    /* not of the part's length */
     KAJURNAT_DROPPED_VALUE = 3,   /* a queue size, or device features */
     KAJURNAT_DROPPED_CAUSES = 4
 };
@@ -898,7 +899,7 @@ size_t kajurnat_salvage(const uint8_t *setup, size_t setup_len, uint64_t member,
                         const uint8_t *damaged, size_t damaged_len,
                         uint8_t *list, size_t list_len, uint8_t *kept,
                         size_t kept_len, uint32_t *dropped, size_t dropped_len,
-                        size_t *left);
+                        uint32_t *left);
 
 /*
  * How many bytes of kept a salvage wrote that returned this length: one for

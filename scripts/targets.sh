@@ -30,11 +30,26 @@ declared_functions() {
 
 # the folder of the toolchain that rt belongs to, and that of its clang, which is llvm-objdump too where it is called so
 kit_folder() {
-    echo "${RATTLE_HOME:-$(dirname "$(dirname "$(readlink -f "$(command -v rt)")")")}"
+    dirname "$(rt doc)"
 }
 
 kit_tools() {
-    echo "$(kit_folder)/on/$(uname -m)/toolchain/bin"
+    echo "$(kit_folder)/toolchain/bin"
+}
+
+# Checks crates/kajurnat_c over the libraries that rt has left in out/, as `rt lib` does, and builds the archive with the tools
+# of a folder: the kit's, or others in their place. Each word after these goes to rattle.
+build_library() { # TOOLCHAIN ARCHIVE WORD..
+    local kit words=() name
+    kit=$(kit_folder)
+    for name in core std; do words+=(--extern "$name=$kit/rlibs/$name.rlib"); done
+    for name in $(sed -n 's/^kajurnat_c staticlib: *//p' crates.txt); do
+        words+=(--extern "$name=$PWD/crates/$name/out/rlib/$name.rlib")
+    done
+    for name in $(scripts/crates kajurnat); do words+=(-L "dependency=$PWD/crates/$name/out/rlib"); done
+    (cd crates/kajurnat_c && "$kit/bin/rattle" build --crate-name kajurnat_c src/lib.rt --crate-type staticlib --cpu x86-64 \
+        "${words[@]}" -L "dependency=$kit/rlibs" --antt-project "$kit/rattle/logic/antt-project.json" \
+        --logic-built "$kit/logic_built" --toolchain "$1" -o "$2" "${@:3}" 2>&1)
 }
 
 kit_objdump() { # ARGUMENT...

@@ -321,8 +321,7 @@ int main(int count, char **arguments)
 {
     take_no_arguments(count, arguments,
                       "tries what kajurnat.h says of commands");
-    expect(kajurnat_card_version() == KAJURNAT_CARD_VERSION,
-           "the version of a card");
+    expect(kajurnat_version() == KAJURNAT_VERSION, "the version");
     expect(kajurnat_card_bytes(MEMBERS) == sizeof card &&
                kajurnat_card_bytes(0) == 0 && kajurnat_card_bytes(17) == 0,
            "the length of a card");

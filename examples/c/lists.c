@@ -205,7 +205,7 @@ static void try_find(void)
         uint16_t type;
         uint64_t selector;
         uint8_t answer, list;
-        size_t at, len;
+        uint64_t at, len;
     } rows[] = {
         {MEMBER, 0, 0, 0, 0, KAJURNAT_PART_DEVICE_STATUS, 9,
          KAJURNAT_DIFFERENCE_DONE, KAJURNAT_LIST_LATER, 16, 1},
@@ -225,7 +225,7 @@ static void try_find(void)
 
     for (size_t i = 0; i < sizeof rows / sizeof rows[0]; i++) {
         uint8_t list = 9;
-        size_t at = 9, len = 9;
+        uint64_t at = 9, len = 9;
         uint8_t answer = kajurnat_difference_find(
             setup, setup_len - rows[i].setup_less, rows[i].member,
             full + rows[i].skip_full,
@@ -242,7 +242,7 @@ static void try_find(void)
 static void try_merge(void)
 {
     uint8_t merged[CAPTURE + 1], before[sizeof merged];
-    size_t written = 9;
+    uint64_t written = 9;
 
     memset(merged, 0xee, sizeof merged);
     memcpy(before, merged, sizeof merged);
@@ -267,8 +267,7 @@ static void try_merge(void)
 /* A salvaged list and its report. */
 struct salvaged {
     uint8_t list[CAPTURE + 1], kept[KAJURNAT_SALVAGE_PARTS_MAX];
-    uint32_t dropped[KAJURNAT_DROPPED_CAUSES];
-    size_t left;
+    uint32_t dropped[KAJURNAT_DROPPED_CAUSES], left;
 };
 
 /* Marks every byte, so that what is written shows. */
@@ -318,7 +317,7 @@ static void try_salvage(void)
     expect(s.list[STATUS_AT + 16] == 5 && s.left == 10 &&
                s.dropped[KAJURNAT_DROPPED_UNKNOWN] == 1 &&
                s.dropped[KAJURNAT_DROPPED_COPY] == 1 &&
-               s.dropped[KAJURNAT_DROPPED_LENGTH] == 1 &&
+               s.dropped[KAJURNAT_DROPPED_SIZE] == 1 &&
                s.dropped[KAJURNAT_DROPPED_VALUE] == 1,
            "salvage: the report");
 

@@ -19,7 +19,7 @@
 
 /* clang-format off */
 #define FUNCTIONS(name)      \
-    name(card_version)       \
+    name(version)            \
     name(card_bytes)         \
     name(is_sound)           \
     name(setup)              \
@@ -334,7 +334,7 @@ static void ask(void)
     uint8_t sound = kajurnat_is_sound(lent.bytes, lent.length);
 
     note(F_is_sound, sound, sound == 1);
-    wrote(F_card_version, kajurnat_card_version());
+    wrote(F_version, kajurnat_version());
 }
 
 static void store(void)
@@ -483,7 +483,7 @@ static void reset(void)
 static void difference(void)
 {
     uint64_t member = draw_member();
-    size_t told[2] = {0}, written = 0;
+    uint64_t told[2] = {0}, written = 0;
     const struct part *part = draw_part();
     uint8_t which = 0;
 
@@ -513,8 +513,7 @@ static void salvage(void)
 {
     uint64_t member = draw_member();
     uint8_t kept[KAJURNAT_SALVAGE_PARTS_MAX] = {0};
-    uint32_t dropped[KAJURNAT_DROPPED_CAUSES] = {0};
-    size_t left = 0;
+    uint32_t dropped[KAJURNAT_DROPPED_CAUSES] = {0}, left = 0;
 
     draw_list(&list, member);
     for (size_t i = 0; i < 8; i++) {

@@ -104,7 +104,7 @@ impl<B: AsRef<[u8]>> Card<B> {
     }
 
     /// The bytes of the card, to be kept or moved as they are. They are a
-    /// card for the same [`card_version`](crate::card_version).
+    /// card for the same [`version`](crate::version).
     #[must_use]
     pub fn as_bytes(&self) -> &[u8] {
         self.memory.as_ref()

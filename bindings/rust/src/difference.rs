@@ -75,7 +75,7 @@ impl<'s, 'l> Difference<'s, 'l> {
         );
         DifferenceError::from_answer(answer)?;
         let list = if list == 0 { self.full } else { self.later };
-        Ok(&list[at..][..len])
+        Ok(&list[at as usize..][..len as usize])
     }
 
     /// One list of the pair: each part of the member once, with the value that
@@ -109,7 +109,7 @@ impl<'s, 'l> Difference<'s, 'l> {
             &mut written,
         );
         DifferenceError::from_answer(answer)?;
-        Ok(&buffer[..written])
+        Ok(&buffer[..written as usize])
     }
 }
 

@@ -111,7 +111,7 @@ pub use load::{Configuration, MemberStatus, State};
 pub use member::{Member, ObjectId};
 pub use message::{BadResponse, Message, MessageId, MessageTooLong, NoResponse, Response};
 pub use part::{capture_bytes, part_count, PartType};
-pub use raw::card_version;
+pub use raw::version;
 pub use reply::{BadReply, Refusal, Reply, ReplyTooShort};
 pub use request::{Kind, Opcode, Opcodes, Request, RequestTooLong};
 pub use restore::Restore;
@@ -120,5 +120,5 @@ pub use setup::{BadSetup, Setup, SetupError};
 pub use status::{Qualifier, Status};
 
 /// The version of the library, of these bindings and of the header; that of a
-/// card's bytes is [`card_version`].
+/// card's bytes is [`version`].
 pub const VERSION: &str = env!("CARGO_PKG_VERSION");

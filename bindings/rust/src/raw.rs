@@ -29,9 +29,9 @@ pub use setup::{setup, setup_from, setup_read, setup_read_v1, setup_write};
 /// whenever they change their meaning: bytes that were kept are a card for the
 /// same version only.
 #[must_use]
-pub fn card_version() -> u32 {
+pub fn version() -> u32 {
     // SAFETY: the call is lent no memory.
-    unsafe { abi::kajurnat_card_version() }
+    unsafe { abi::kajurnat_version() }
 }
 
 /// Whether the bytes are a sound card: 1, or 0.

@@ -39,7 +39,7 @@ pub struct Salvaged {
     pub dropped: Dropped,
     /// How many bytes were left over, from the start of the header that the
     /// salvage stopped at.
-    pub left: usize,
+    pub left: u32,
 }
 
 /// How many parts of a damaged list were dropped, each for the first cause that

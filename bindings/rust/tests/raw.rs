@@ -10,9 +10,9 @@ fn sound_card() -> Vec<u8> {
 }
 
 #[test]
-fn the_bindings_are_for_version_5_of_a_card() {
-    assert_eq!(raw::card_version(), 5);
-    assert_eq!(header_number("KAJURNAT_CARD_VERSION"), "5");
+fn the_bindings_are_for_version_5() {
+    assert_eq!(raw::version(), 5);
+    assert_eq!(header_number("KAJURNAT_VERSION"), "5");
 }
 
 /// The library, the bindings and the header have one version.

@@ -26,32 +26,28 @@ use host::{Command, Outcome};
 use setups::ReadOutcome;
 
 // Raised whenever a card's bytes change their meaning: a card that was kept is for the same version.
-#[unsafe(no_mangle)]
-pub extern "C" fn kajurnat_version() -> u32
+pub fn kajurnat_version() -> u32
     ensures { result ≡ version }
 {
     card::VERSION
 }
 
 // Whether the bytes are a sound card: 1, or 0.
-#[unsafe(no_mangle)]
-pub extern "C" fn kajurnat_is_sound(card: &[u8]) -> u8
+pub fn kajurnat_is_sound(card: &[u8]) -> u8
     ensures { result ≡ indicator (is_sound card.now) }
 {
     card::is_sound(card) as u8
 }
 
 // The exact length of a card, 0 if members is not 1 to 16.
-#[unsafe(no_mangle)]
-pub extern "C" fn kajurnat_card_bytes(members: u64) -> usize
+pub fn kajurnat_card_bytes(members: u64) -> usize
     ensures { result ≡ card_bytes members }
 {
     card::card_bytes(members)
 }
 
 // Makes the buffer a fresh card; refused, every byte of it is zero. There is one queue count for each member.
-#[unsafe(no_mangle)]
-pub extern "C" fn kajurnat_setup(
+pub fn kajurnat_setup(
     card: &mut [u8],
     members: u64,
     queues: &[u8],
@@ -65,8 +61,7 @@ pub extern "C" fn kajurnat_setup(
 }
 
 // The same of a packed setup, of either version.
-#[unsafe(no_mangle)]
-pub extern "C" fn kajurnat_setup_from(card: &mut [u8], setup: &[u8]) -> u8
+pub fn kajurnat_setup_from(card: &mut [u8], setup: &[u8]) -> u8
     ensures { (result, card.new) ≡ numbered (set_up_from card.old setup.now) }
 {
     protocol::event_number(events::set_up_from(card, setup))
@@ -74,8 +69,7 @@ pub extern "C" fn kajurnat_setup_from(card: &mut [u8], setup: &[u8]) -> u8
 
 // Packs a setup at the front of the buffer and answers its length; 0, with nothing written, where it is bad or the buffer too
 // short.
-#[unsafe(no_mangle)]
-pub extern "C" fn kajurnat_setup_write(
+pub fn kajurnat_setup_write(
     setup: &mut [u8],
     members: u64,
     queues: &[u8],
@@ -124,8 +118,7 @@ fn tell_setup(
 
 // Reads a packed setup of either version: 0, with the setup, or 2 for one that is refused, and nothing written. The counts of
 // members past the last are 0.
-#[unsafe(no_mangle)]
-pub extern "C" fn kajurnat_setup_read(
+pub fn kajurnat_setup_read(
     setup: &[u8],
     members: &mut u8,
     queues: &mut [u8],
@@ -139,8 +132,7 @@ pub extern "C" fn kajurnat_setup_read(
 }
 
 // Reads one of version 1, and answers 1 for any of version 2.
-#[unsafe(no_mangle)]
-pub extern "C" fn kajurnat_setup_read_v1(
+pub fn kajurnat_setup_read_v1(
     setup: &[u8],
     members: &mut u8,
     queues: &mut [u8],
@@ -161,8 +153,7 @@ pub extern "C" fn kajurnat_setup_read_v1(
 }
 
 // One group administration command: the bytes written to the reply, the card and the reply buffer after it.
-#[unsafe(no_mangle)]
-pub extern "C" fn kajurnat_command(card: &mut [u8], request: &[u8], reply: &mut [u8]) -> usize
+pub fn kajurnat_command(card: &mut [u8], request: &[u8], reply: &mut [u8]) -> usize
     ensures { (result, (card.new, reply.new)) ≡ command_of card.old request.now reply.old }
 {
     admin::command(card, request, reply)
@@ -170,30 +161,26 @@ pub extern "C" fn kajurnat_command(card: &mut [u8], request: &[u8], reply: &mut 
 
 // The two halves of a member reset: hand back, which the data path answers by letting go of the guest, and wipe. A wipe and a
 // card reset are given the generation that the member, or every member, starts from.
-#[unsafe(no_mangle)]
-pub extern "C" fn kajurnat_hand_back(card: &mut [u8], member: u64) -> u8
+pub fn kajurnat_hand_back(card: &mut [u8], member: u64) -> u8
     ensures { (result, card.new) ≡ numbered (hand_back card.old member) }
 {
     protocol::event_number(events::hand_back(card, member))
 }
 
-#[unsafe(no_mangle)]
-pub extern "C" fn kajurnat_wipe(card: &mut [u8], member: u64, generation: u32) -> u8
+pub fn kajurnat_wipe(card: &mut [u8], member: u64, generation: u32) -> u8
     ensures { (result, card.new) ≡ numbered (wipe card.old member generation) }
 {
     protocol::event_number(events::wipe(card, member, generation))
 }
 
-#[unsafe(no_mangle)]
-pub extern "C" fn kajurnat_reset_card(card: &mut [u8], generation: u32) -> u8
+pub fn kajurnat_reset_card(card: &mut [u8], generation: u32) -> u8
     ensures { (result, card.new) ≡ numbered (reset_card card.old generation) }
 {
     protocol::event_number(events::reset_card(card, generation))
 }
 
 // The data path sets one part of a member; selector is the eight selector bytes as a little-endian number.
-#[unsafe(no_mangle)]
-pub extern "C" fn kajurnat_store(
+pub fn kajurnat_store(
     card: &mut [u8],
     member: u64,
     part_type: u16,
@@ -207,8 +194,7 @@ pub extern "C" fn kajurnat_store(
 
 // What the card's own firmware reads, SPEC 14: these four change nothing, and no host reaches them. A part of a member, running,
 // stopped or marked, into a buffer of its length; it answers as a card store does, and refused, nothing is written.
-#[unsafe(no_mangle)]
-pub extern "C" fn kajurnat_load(
+pub fn kajurnat_load(
     card: &[u8],
     member: u64,
     part_type: u16,
@@ -222,8 +208,7 @@ pub extern "C" fn kajurnat_load(
 
 // A member in numbers: 0 running, 1 stopped, 2 marked; its queue count; its live get and set objects; 0, or 1 more than the
 // bytes in its open holding place.
-#[unsafe(no_mangle)]
-pub extern "C" fn kajurnat_member(
+pub fn kajurnat_member(
     card: &[u8],
     member: u64,
     state: &mut u8,
@@ -238,8 +223,7 @@ pub extern "C" fn kajurnat_member(
 }
 
 // Its configuration, into 12 bytes, and the generation.
-#[unsafe(no_mangle)]
-pub extern "C" fn kajurnat_configuration(
+pub fn kajurnat_configuration(
     card: &[u8],
     member: u64,
     bytes: &mut [u8],
@@ -252,8 +236,7 @@ pub extern "C" fn kajurnat_configuration(
 
 // The card's setup, packed as kajurnat_setup_write packs it: its length; 0, with nothing written, where the card is not sound or
 // the buffer too short.
-#[unsafe(no_mangle)]
-pub extern "C" fn kajurnat_setup_of(card: &[u8], setup: &mut [u8]) -> usize
+pub fn kajurnat_setup_of(card: &[u8], setup: &mut [u8]) -> usize
     ensures { (result, setup.new) ≡ setup_of_card card.now setup.old }
 {
     loads::setup_of(card, setup)
@@ -261,22 +244,19 @@ pub extern "C" fn kajurnat_setup_of(card: &[u8], setup: &mut [u8]) -> usize
 
 // The host's half. Each builder writes the request of its command at the front of the buffer and answers its length; 0,
 // with nothing written, where it is over 4,096 bytes or too long for the buffer.
-#[unsafe(no_mangle)]
-pub extern "C" fn kajurnat_request_list_query(request: &mut [u8]) -> usize
+pub fn kajurnat_request_list_query(request: &mut [u8]) -> usize
     ensures { (result, request.new) ≡ built Command.ListQuery [] request.old }
 {
     host::list_query(request)
 }
 
-#[unsafe(no_mangle)]
-pub extern "C" fn kajurnat_request_list_use(request: &mut [u8], mask: u64) -> usize
+pub fn kajurnat_request_list_use(request: &mut [u8], mask: u64) -> usize
     ensures { (result, request.new) ≡ built (Command.ListUse mask) [] request.old }
 {
     host::list_use(request, mask)
 }
 
-#[unsafe(no_mangle)]
-pub extern "C" fn kajurnat_request_create(
+pub fn kajurnat_request_create(
     request: &mut [u8],
     member: u64,
     id: u32,
@@ -287,8 +267,7 @@ pub extern "C" fn kajurnat_request_create(
     host::create(request, member, id, kind)
 }
 
-#[unsafe(no_mangle)]
-pub extern "C" fn kajurnat_request_modify(
+pub fn kajurnat_request_modify(
     request: &mut [u8],
     member: u64,
     id: u32,
@@ -299,22 +278,19 @@ pub extern "C" fn kajurnat_request_modify(
     host::modify(request, member, id, kind)
 }
 
-#[unsafe(no_mangle)]
-pub extern "C" fn kajurnat_request_query(request: &mut [u8], member: u64, id: u32) -> usize
+pub fn kajurnat_request_query(request: &mut [u8], member: u64, id: u32) -> usize
     ensures { (result, request.new) ≡ built (Command.Query member id) [] request.old }
 {
     host::query(request, member, id)
 }
 
-#[unsafe(no_mangle)]
-pub extern "C" fn kajurnat_request_destroy(request: &mut [u8], member: u64, id: u32) -> usize
+pub fn kajurnat_request_destroy(request: &mut [u8], member: u64, id: u32) -> usize
     ensures { (result, request.new) ≡ built (Command.Destroy member id) [] request.old }
 {
     host::destroy(request, member, id)
 }
 
-#[unsafe(no_mangle)]
-pub extern "C" fn kajurnat_request_metadata(
+pub fn kajurnat_request_metadata(
     request: &mut [u8],
     member: u64,
     id: u32,
@@ -325,8 +301,7 @@ pub extern "C" fn kajurnat_request_metadata(
     host::metadata(request, member, id, what)
 }
 
-#[unsafe(no_mangle)]
-pub extern "C" fn kajurnat_request_get(
+pub fn kajurnat_request_get(
     request: &mut [u8],
     member: u64,
     id: u32,
@@ -338,8 +313,7 @@ pub extern "C" fn kajurnat_request_get(
     host::get(request, member, id, which, headers)
 }
 
-#[unsafe(no_mangle)]
-pub extern "C" fn kajurnat_request_set(
+pub fn kajurnat_request_set(
     request: &mut [u8],
     member: u64,
     id: u32,
@@ -350,8 +324,7 @@ pub extern "C" fn kajurnat_request_set(
     host::set(request, member, id, list)
 }
 
-#[unsafe(no_mangle)]
-pub extern "C" fn kajurnat_request_mode(request: &mut [u8], member: u64, mode: u8) -> usize
+pub fn kajurnat_request_mode(request: &mut [u8], member: u64, mode: u8) -> usize
     ensures { (result, request.new) ≡ built (Command.SetMode member mode) [] request.old }
 {
     host::set_mode(request, member, mode)
@@ -360,8 +333,7 @@ pub extern "C" fn kajurnat_request_mode(request: &mut [u8], member: u64, mode: u
 // The answer to the command sent, by its opcode and, of a metadata command, its type byte: 0, with the status and the
 // qualifier to act on and both as they were sent, or 1 for a reply that is refused, and nothing written. The result is
 // the reply from byte 8.
-#[unsafe(no_mangle)]
-pub extern "C" fn kajurnat_reply_read(
+pub fn kajurnat_reply_read(
     opcode: u16,
     what: u8,
     reply: &[u8],
@@ -386,40 +358,35 @@ pub extern "C" fn kajurnat_reply_read(
 
 // A restore in fragments: a holding place is opened for the member. This and the next three answer status + 65,536 x
 // qualifier, and 9 for an unsound card.
-#[unsafe(no_mangle)]
-pub extern "C" fn kajurnat_restore_begin(card: &mut [u8], member: u64) -> u32
+pub fn kajurnat_restore_begin(card: &mut [u8], member: u64) -> u32
     ensures { (result, card.new) ≡ begin_of card.old member }
 {
     staging::begin(card, member)
 }
 
 // A fragment, of any length, goes behind those that were fed; over 1,024 bytes in all end the holding place.
-#[unsafe(no_mangle)]
-pub extern "C" fn kajurnat_restore_feed(card: &mut [u8], member: u64, fragment: &[u8]) -> u32
+pub fn kajurnat_restore_feed(card: &mut [u8], member: u64, fragment: &[u8]) -> u32
     ensures { (result, card.new) ≡ feed_of card.old member fragment.now }
 {
     staging::feed(card, member, fragment)
 }
 
 // One parts set of the bytes that were fed, through the set object of this id; then the holding place is gone.
-#[unsafe(no_mangle)]
-pub extern "C" fn kajurnat_restore_finish(card: &mut [u8], member: u64, id: u32) -> u32
+pub fn kajurnat_restore_finish(card: &mut [u8], member: u64, id: u32) -> u32
     ensures { (result, card.new) ≡ finish_of card.old member id }
 {
     staging::finish(card, member, id)
 }
 
 // The holding place is gone, and nothing is set.
-#[unsafe(no_mangle)]
-pub extern "C" fn kajurnat_restore_drop(card: &mut [u8], member: u64) -> u32
+pub fn kajurnat_restore_drop(card: &mut [u8], member: u64) -> u32
     ensures { (result, card.new) ≡ drop_of card.old member }
 {
     staging::discard(card, member)
 }
 
 // Configuration by message, SPEC 13.3: the bytes of the response, 0 in the bus outcome, the card and the reply buffer after it.
-#[unsafe(no_mangle)]
-pub extern "C" fn kajurnat_message(card: &mut [u8], message: &[u8], reply: &mut [u8]) -> usize
+pub fn kajurnat_message(card: &mut [u8], message: &[u8], reply: &mut [u8]) -> usize
     ensures { (result, (card.new, reply.new)) ≡ message_of card.old message.now reply.old }
 {
     message::message(card, message, reply)
@@ -428,8 +395,7 @@ pub extern "C" fn kajurnat_message(card: &mut [u8], message: &[u8], reply: &mut 
 // One part looked up in a full capture and a later list of what changed, under a packed setup and for one member of it: 0, with
 // the list, 0 the full capture or 1 the later list, and the value's place and length in it; or the number of the refusal, and
 // zeros.
-#[unsafe(no_mangle)]
-pub extern "C" fn kajurnat_difference_find(
+pub fn kajurnat_difference_find(
     setup: &[u8],
     member: u64,
     full: &[u8],
@@ -449,8 +415,7 @@ pub extern "C" fn kajurnat_difference_find(
 
 // One list made of the two, at the front of the buffer: 0 and its bytes; or the number of the refusal and 0, and nothing
 // written.
-#[unsafe(no_mangle)]
-pub extern "C" fn kajurnat_difference_merge<'a>(
+pub fn kajurnat_difference_merge<'a>(
     setup: &[u8],
     member: u64,
     full: &'a [u8],
@@ -465,8 +430,7 @@ pub extern "C" fn kajurnat_difference_merge<'a>(
 
 // A damaged list made into one that a member of the setup takes, with a report of what was kept, what was dropped and what was
 // left over: the bytes written, or 0 where it is refused, and nothing written.
-#[unsafe(no_mangle)]
-pub extern "C" fn kajurnat_salvage(
+pub fn kajurnat_salvage(
     setup: &[u8],
     member: u64,
     damaged: &[u8],

@@ -2,7 +2,7 @@
 //! length.
 
 extern "C" {
-    pub fn kajurnat_card_version() -> u32;
+    pub fn kajurnat_version() -> u32;
 
     pub fn kajurnat_is_sound(card: *const u8, card_len: usize) -> u8;
 
@@ -238,8 +238,8 @@ extern "C" {
         part_type: u16,
         selector: u64,
         list: *mut u8,
-        at: *mut usize,
-        len: *mut usize,
+        at: *mut u64,
+        len: *mut u64,
     ) -> u8;
 
     pub fn kajurnat_difference_merge(
@@ -252,7 +252,7 @@ extern "C" {
         later_len: usize,
         merged: *mut u8,
         merged_len: usize,
-        written: *mut usize,
+        written: *mut u64,
     ) -> u8;
 
     pub fn kajurnat_salvage(
@@ -267,6 +267,6 @@ extern "C" {
         kept_len: usize,
         dropped: *mut u32,
         dropped_len: usize,
-        left: *mut usize,
+        left: *mut u32,
     ) -> usize;
 }

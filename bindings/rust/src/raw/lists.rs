@@ -22,8 +22,8 @@ pub fn difference_find(
     part_type: u16,
     selector: u64,
     list: &mut u8,
-    at: &mut usize,
-    len: &mut usize,
+    at: &mut u64,
+    len: &mut u64,
 ) -> u8 {
     // SAFETY: each pointer and length are those of one slice, and the other
     // pointers those of one number each; all are borrowed for the call (the
@@ -60,7 +60,7 @@ pub fn difference_merge(
     full: &[u8],
     later: &[u8],
     merged: &mut [u8],
-    written: &mut usize,
+    written: &mut u64,
 ) -> u8 {
     // SAFETY: as in `difference_find`; `merged` is borrowed mutably too.
     unsafe {
@@ -100,7 +100,7 @@ pub fn salvage(
     list: &mut [u8],
     kept: &mut [u8],
     dropped: &mut [u32],
-    left: &mut usize,
+    left: &mut u32,
 ) -> usize {
     // SAFETY: each pointer and length are those of one slice, and `left` is one
     // number; all are borrowed for the call (what is written mutably, so it

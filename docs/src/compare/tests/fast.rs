@@ -43,7 +43,9 @@ impl Device for Fast {
             }
             Call::Finish { member, id } => exported::restore_finish(card, *member, *id) as usize,
             Call::Drop(member) => exported::restore_drop(card, *member) as usize,
-            // The host's half and setups as bytes have no fast form.
+            // What only reads has no fast form: the plain card of these bytes answers.
+            Call::Load(_) => Plain::from_bytes(card).hear(call, reply.bytes_mut()),
+            // Nor have the host's half and setups as bytes.
             Call::Build { .. }
             | Call::Read { .. }
             | Call::WriteSetup { .. }

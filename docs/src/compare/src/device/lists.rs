@@ -15,26 +15,14 @@ pub fn archive(call: &OnLists, inputs: &[Lent], reply: &mut [u8]) -> usize {
     match &call.asked {
         Asked::Find { part_type, selector, .. } => found_into(reply, |(which, at, len)| {
             let (full, later) = (list(0), list(1));
-            let (mut start, mut n) = (*at as usize, *len as usize);
-            let (start, n) = (&mut start, &mut n);
-            let (part, select) = (*part_type, *selector);
-            let answer =
-                raw::difference_find(setup, member, full, later, part, select, which, start, n);
-            (*at, *len) = (*start as u64, *n as u64);
-            answer
+            raw::difference_find(setup, member, full, later, *part_type, *selector, which, at, len)
         }),
-        Asked::Merge { .. } => made(|written| {
-            let mut length = *written as usize;
-            let answer = raw::difference_merge(setup, member, list(0), list(1), reply, &mut length);
-            *written = length as u64;
-            answer
-        }),
+        Asked::Merge { .. } => {
+            made(|written| raw::difference_merge(setup, member, list(0), list(1), reply, written))
+        }
         Asked::Salvage { report, .. } => salvaged(reply, *report, |to, report| {
             let Report { kept, dropped, left } = report;
-            let mut over = *left as usize;
-            let written = raw::salvage(setup, member, list(0), to, kept, dropped, &mut over);
-            *left = over.try_into().expect("no list has so many bytes");
-            written
+            raw::salvage(setup, member, list(0), to, kept, dropped, left)
         }),
     }
 }
