@@ -256,23 +256,13 @@ pub fn kajurnat_request_list_use(request: &mut [u8], mask: u64) -> usize
     host::list_use(request, mask)
 }
 
-pub fn kajurnat_request_create(
-    request: &mut [u8],
-    member: u64,
-    id: u32,
-    kind: u8,
-) -> usize
+pub fn kajurnat_request_create(request: &mut [u8], member: u64, id: u32, kind: u8) -> usize
     ensures { (result, request.new) ≡ built (Command.Create member id kind) [] request.old }
 {
     host::create(request, member, id, kind)
 }
 
-pub fn kajurnat_request_modify(
-    request: &mut [u8],
-    member: u64,
-    id: u32,
-    kind: u8,
-) -> usize
+pub fn kajurnat_request_modify(request: &mut [u8], member: u64, id: u32, kind: u8) -> usize
     ensures { (result, request.new) ≡ built (Command.Modify member id kind) [] request.old }
 {
     host::modify(request, member, id, kind)
@@ -290,12 +280,7 @@ pub fn kajurnat_request_destroy(request: &mut [u8], member: u64, id: u32) -> usi
     host::destroy(request, member, id)
 }
 
-pub fn kajurnat_request_metadata(
-    request: &mut [u8],
-    member: u64,
-    id: u32,
-    what: u8,
-) -> usize
+pub fn kajurnat_request_metadata(request: &mut [u8], member: u64, id: u32, what: u8) -> usize
     ensures { (result, request.new) ≡ built (Command.Metadata member id what) [] request.old }
 {
     host::metadata(request, member, id, what)
@@ -313,12 +298,7 @@ pub fn kajurnat_request_get(
     host::get(request, member, id, which, headers)
 }
 
-pub fn kajurnat_request_set(
-    request: &mut [u8],
-    member: u64,
-    id: u32,
-    list: &[u8],
-) -> usize
+pub fn kajurnat_request_set(request: &mut [u8], member: u64, id: u32, list: &[u8]) -> usize
     ensures { (result, request.new) ≡ built (Command.Set member id) list.now request.old }
 {
     host::set(request, member, id, list)

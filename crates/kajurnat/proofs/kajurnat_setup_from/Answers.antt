@@ -1,0 +1,6 @@
+use borrow.Author.Rules.{rules}
+use Rattle.kajurnat.proofs.Numbered.{as_number}
+use Rattle.kajurnat.proofs.kajurnat_setup_from.Goals as goal
+
+pub returns : goal.returns
+returns c = search (rules, as_number)
