@@ -1,7 +1,7 @@
 -- The turns and the return of the walk that sets: the parts that are left, applied to the values so far, give what the
 -- whole list gives. `r` is what next_part answered at `at`, `x` what the whole list gives. Assumes nothing.
 use mathlib.Core.Path.{◌≡◌, refl, ◌∙◌}
-use mathlib.Core.List.{List, [], ◌∷◌}
+use mathlib.Core.List.{List}
 use Prim.Native.Nat.{ℕ, ◌+◌, ◌-◌}
 use native.Mathlib.Nat.{add-sub_cancel_left}
 use lib.ListN.{take, drop}

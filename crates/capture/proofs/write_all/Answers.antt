@@ -1,7 +1,6 @@
 -- A run for each type and size, each where the one before it ends.
-use native.Mathlib.Omega.{arith}
 use Rattle.inventory.specs.Inventory.{rows}
-use Rattle.capture.proofs.Runs.{Upto, upto-none, run-asks, upto_next, upto_all}
+use Rattle.capture.proofs.Runs.{upto-none, run-asks, upto_next, upto_all}
 use Rattle.capture.proofs.write_all.Goals as goal
 
 pub write_run-at-requires : goal.write_run-at-requires

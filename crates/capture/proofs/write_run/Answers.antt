@@ -1,4 +1,3 @@
-use Prim.Native.Nat.{◌-◌}
 use native.Mathlib.Omega.{arith}
 use borrow.Author.Rules.{rules}
 use Rattle.capture.proofs.Runs.{run-start, run_small, run_inside, run_room, run-low, run_on, run_end}

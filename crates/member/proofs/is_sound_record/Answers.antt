@@ -21,9 +21,9 @@ returns-then-not-is_front_sound c = search (rules, bad-front)
 
 pub is_within_limits-requires : goal.is_within_limits-requires
 is_within_limits-requires c = let pre = c.requires in (
-      search rules,
-      all-low c.args.gets c.args.sets c.args.features.now c.args.bytes.now _ pre.0 pre.1 pre.2 _ c.equal-kept.ensures _ _ refl c.are_within-low.ensures c.if-not-kept-low.false-raw,
-    )
+  search rules,
+  all-low c.args.gets c.args.sets c.args.features.now c.args.bytes.now _ pre.0 pre.1 pre.2 _ c.equal-kept.ensures _ _ refl c.are_within-low.ensures c.if-not-kept-low.false-raw,
+)
 
 pub returns : goal.returns
 returns c = search (rules, limits-last)

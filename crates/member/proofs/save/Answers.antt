@@ -1,7 +1,5 @@
 -- The fields are stored one after the other.
-use mathlib.Core.Path.{sym, ◌∙◌}
 use borrow.Author.Rules.{rules}
-use lib.ListN.{length-map}
 use Rattle.member.proofs.Record.{Shaped, values-fit, member-saved}
 use Rattle.member.proofs.save.Goals.{Start}
 use Rattle.member.proofs.save.Goals as goal

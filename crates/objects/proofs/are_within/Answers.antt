@@ -1,7 +1,5 @@
 use mathlib.Core.Path.{sym}
-use Prim.Native.Nat.{◌-◌}
 use borrow.Author.Rules.{rules}
-use Rattle.theory.specs.Logic.{◌and◌}
 use Rattle.theory.proofs.Tests.{true-and}
 use Rattle.objects.proofs.Counts.{within_on, within_end}
 use Rattle.objects.proofs.are_within.Goals as goal

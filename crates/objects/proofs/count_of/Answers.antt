@@ -1,6 +1,6 @@
 use borrow.Author.Rules.{rules}
 use native.Mathlib.Omega.{arith}
-use Prim.Native.Nat.{◌-◌, ◌≤◌}
+use Prim.Native.Nat.{◌≤◌}
 use Rattle.objects.proofs.Counts.{count-on, counted, adds-at-most-one, all-at}
 use Rattle.objects.proofs.count_of.Goals as goal
 

@@ -1,5 +1,4 @@
 use borrow.Author.Rules.{rules}
-use Prim.Native.Nat.{◌-◌}
 use Rattle.objects.proofs.Arrays.{filled_on, filled}
 use Rattle.objects.proofs.objects_in.Goals as goal
 

@@ -1,6 +1,4 @@
 use mathlib.Core.Path.{sym}
-use Prim.Native.Nat.{◌-◌}
-use Rattle.theory.specs.Logic.{◌or◌}
 use Rattle.theory.proofs.Tests.{or-false}
 use Rattle.parts.proofs.Turns.{walk, among-stop, among-on, among-found}
 use Rattle.parts.proofs.contains.Goals as goal

@@ -1,5 +1,4 @@
 use mathlib.Core.Path.{refl, sym}
-use Prim.Native.Nat.{◌-◌}
 use Rattle.parts.proofs.Turns.{walk, whole-on, whole-end, whole-cut}
 use Rattle.parts.proofs.is_whole.Goals as goal
 

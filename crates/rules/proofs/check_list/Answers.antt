@@ -1,4 +1,3 @@
-use Prim.Native.Nat.{◌-◌}
 use borrow.Author.Rules.{rules}
 use Rattle.inventory.specs.Inventory.{rows}
 use Rattle.inventory.proofs.Places.{row_in}

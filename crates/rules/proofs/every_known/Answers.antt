@@ -1,5 +1,4 @@
 use mathlib.Core.Path.{refl, sym}
-use Prim.Native.Nat.{◌-◌}
 use borrow.Author.Rules.{rules}
 use Rattle.parts.proofs.Turns.{walk}
 use Rattle.rules.specs.Rules.{asks_known}

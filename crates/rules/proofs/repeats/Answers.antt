@@ -1,5 +1,4 @@
 use mathlib.Core.Path.{refl, sym}
-use Prim.Native.Nat.{◌-◌}
 use Rattle.parts.proofs.Turns.{walk, among-stop, among-on, among-found}
 use Rattle.rules.proofs.Turns.{repeated-stop, repeated-skip, repeated-rest}
 use Rattle.rules.proofs.repeats.Goals as goal

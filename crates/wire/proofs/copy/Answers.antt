@@ -1,4 +1,3 @@
-use Prim.Native.Nat.{◌-◌}
 use borrow.Author.Rules.{rules}
 use Rattle.theory.proofs.Copies.{copies-start, copies-on, copied}
 use Rattle.wire.proofs.copy.Goals as goal

@@ -1,5 +1,4 @@
 use mathlib.Core.Path.{sym}
-use Prim.Native.Nat.{◌-◌}
 use borrow.Author.Rules.{rules}
 use Rattle.theory.proofs.Tests.{same-other-length}
 use Rattle.wire.proofs.Loops.{compares-start, compares-on, compared}

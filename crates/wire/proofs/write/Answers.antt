@@ -1,4 +1,3 @@
-use Prim.Native.Nat.{◌-◌}
 use borrow.Author.Rules.{rules}
 use Rattle.wire.proofs.Loops.{writes_start, writes-on, written}
 use Rattle.wire.proofs.write.Goals as goal

@@ -1,4 +1,3 @@
-use Prim.Native.Nat.{◌-◌}
 use borrow.Author.Rules.{rules}
 use Rattle.wire.proofs.Loops.{zeroes-on, zeroed}
 use Rattle.wire.proofs.zero.Goals as goal

@@ -1,4 +1,3 @@
-use Prim.Native.Nat.{◌-◌}
 use borrow.Author.Rules.{rules}
 use Rattle.frame.proofs.Steps.{zero-on, zero-not, zero-end}
 use Rattle.frame.proofs.fields.is_zero_from.Goals as goal

@@ -1,4 +1,3 @@
-use Prim.Native.Nat.{◌-◌}
 use borrow.Author.Rules.{rules}
 use Rattle.inventory.proofs.Queue.{rows_few, each_start, each-stop, each_on, each-end}
 use Rattle.inventory.proofs.rings.is_each_allowed.Goals as goal
