@@ -62,6 +62,10 @@ module _ (op i : ℕ) where
 
 -- ---- two requests of one length, with the same bytes where none is reserved ----
 
+pub data-at : (n at : ℕ) (l : List ℕ) → number at n (data_of l) ≡ number (24 + at) n l
+unfolding number
+data-at n at l = rw (drop-drop at 24 l)
+
 module _ (r s : List ℕ) (long : length s ≡ length r) (op : ℕ) (same : (i : ℕ) → is_reserved op i ≡ false → get_or s i 0 ≡ get_or r i 0) where
   number_same : (n at : ℕ) → ((i : ℕ) → at ≤ i → i < at + n → is_reserved op i ≡ false) → number at n s ≡ number at n r
   number_same zero at f = number-none at s ∙ sym (number-none at r)
@@ -85,10 +89,6 @@ module _ (r s : List ℕ) (long : length s ≡ length r) (op : ℕ) (same : (i :
   target-same = number_same 8 member_at (λ i l h. free-middle op i l (omega arith))
 
   -- a number and a byte of the data
-  data-at : (n at : ℕ) (l : List ℕ) → number at n (data_of l) ≡ number (24 + at) n l
-  unfolding number
-  data-at n at l = rw (drop-drop at 24 l)
-
   data-same : (n at : ℕ) → ((i : ℕ) → 24 + at ≤ i → i < 24 + at + n → is_reserved op i ≡ false) → number at n (data_of s) ≡ number at n (data_of r)
   data-same n at f = data-at n at s ∙ number_same n (24 + at) f ∙ sym (data-at n at r)
 
