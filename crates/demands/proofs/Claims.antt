@@ -8,6 +8,7 @@ use Rattle.demands.proofs.Fresh.{setups-done, resets-done}
 use Rattle.demands.proofs.Stores.{stores-done}
 use Rattle.demands.proofs.Statuses.{statuses}
 use Rattle.demands.proofs.Reserved.{reserved-ignored}
+use Rattle.demands.proofs.Unread.{unread-ignored}
 use Rattle.demands.proofs.PartHeaders.{headers-not-read}
 use Rattle.demands.proofs.Examples.{examples-hold}
 use Rattle.demands.proofs.Numbers.{numbers-hold}
@@ -20,6 +21,7 @@ use Rattle.demands.proofs.InUse.{nothing-in-use}
 use Rattle.demands.proofs.Places.{places-found}
 use Rattle.demands.proofs.WrongPrograms.{wrong-programs-rejected}
 use Rattle.demands.proofs.RoundTrip.{round-trip}
+use Rattle.demands.proofs.Acceptance.{acceptance}
 use Rattle.demands.proofs.Lists.{members-known, merged-sets, found-captured, salvaged-accepted}
 use Rattle.demands.proofs.Isolation.{isolation}
 use Rattle.demands.proofs.Integrity.{integrity}
@@ -63,11 +65,13 @@ claims = record {
   stores_done = stores-done;
   statuses = statuses;
   reserved_ignored = reserved-ignored;
+  unread_ignored = unread-ignored;
   headers_not_read = headers-not-read;
   examples = examples-hold;
   wrong_programs = wrong-programs-rejected;
   numbers = numbers-hold;
   round_trip = round-trip;
+  acceptance = acceptance;
   isolation = isolation;
   integrity = integrity;
   taken = taken;

@@ -9,6 +9,7 @@ pub mod StatusSteps
 pub mod Statuses
 pub mod StatusesExample
 pub mod SameAsked
+pub mod Unread
 pub mod Reserved
 pub mod PartLists
 pub mod PartHeaders
@@ -18,6 +19,7 @@ pub mod Numbers
 pub mod WrongPrograms
 pub mod WrongProgramsExample
 pub mod Setting
+pub mod Acceptance
 pub mod RoundTrip
 pub mod RoundTripExample
 pub mod Mask

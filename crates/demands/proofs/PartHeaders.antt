@@ -35,7 +35,7 @@ use Rattle.reply.specs.Result.{result_of}
 use Rattle.admin.specs.Command.{ask_in, effect, changing, perform, respond}
 use Rattle.demands.specs.PartHeaders.{named_bytes, SamePart, SameGiven, same_given, next_given, SameAsked, same_asked, next_asked, HeadersNotRead}
 use Rattle.demands.proofs.SameAsked.{Same, respond-alike}
-use Rattle.demands.proofs.Reserved.{data-at}
+use Rattle.demands.proofs.Unread.{data-at}
 use Rattle.demands.proofs.PartLists.{parts-behind, Alike, same, next, whole-alike, every-alike, among-alike, repeated-alike, applied-alike}
 
 -- ---- a part at the front of a list ----

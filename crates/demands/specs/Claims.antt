@@ -25,6 +25,7 @@ use Rattle.demands.specs.Fresh.{SetupsDone, ResetsDone}
 use Rattle.demands.specs.Stores.{StoresDone}
 use Rattle.demands.specs.Statuses.{Statuses}
 use Rattle.demands.specs.Reserved.{ReservedIgnored}
+use Rattle.demands.specs.Unread.{UnreadIgnored}
 use Rattle.demands.specs.PartHeaders.{HeadersNotRead}
 use Rattle.demands.specs.Examples.{ExamplesHold}
 use Rattle.demands.specs.Numbers.{NumbersHold}
@@ -34,6 +35,7 @@ use Rattle.demands.specs.QueueCounts.{SetUpFromPacked, QueuesKept, CountsInRange
 use Rattle.demands.specs.Halves.{TwoHalves, MarkedRefused, StoresWork, MarkedIdle, HalvesExamplesHold}
 use Rattle.demands.specs.WrongPrograms.{WrongProgramsRejected}
 use Rattle.demands.specs.RoundTrip.{RoundTrip}
+use Rattle.demands.specs.Acceptance.{Acceptance}
 use Rattle.demands.specs.Lists.{MembersKnown, MergedSets, FoundCaptured, SalvagedAccepted}
 use Rattle.demands.specs.Host.{Taken, ReadBack}
 use Rattle.demands.specs.Places.{PlacesFound}
@@ -189,6 +191,8 @@ pub record Claims : Type 1 where
   pub statuses : Statuses
   -- the reserved bytes of a request are ignored: Reserved.antt; and what is not read of the header of a part: PartHeaders.antt
   pub reserved_ignored : ReservedIgnored
+  -- and with them the member field of list query and list use: Unread.antt
+  pub unread_ignored : UnreadIgnored
   pub headers_not_read : HeadersNotRead
   -- the worked examples B1 to B12, and the wrong programs that fail them: Examples.antt, WrongPrograms.antt, with the example
   -- ../proofs/WrongProgramsExample.antt
@@ -198,6 +202,8 @@ pub record Claims : Type 1 where
   pub numbers : NumbersHold
   -- the round trip: RoundTrip.antt, with the example ../proofs/RoundTripExample.antt
   pub round_trip : RoundTrip
+  -- and its first half by itself, which asks less of the target: Acceptance.antt
+  pub acceptance : Acceptance
   -- DEMAND 3
   pub isolation : Isolation
   pub integrity : Integrity

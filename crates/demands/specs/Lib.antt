@@ -3,11 +3,13 @@ pub mod Exports
 pub mod Fresh
 pub mod Statuses
 pub mod Reserved
+pub mod Unread
 pub mod PartHeaders
 pub mod Examples
 pub mod Numbers
 pub mod WrongPrograms
 pub mod RoundTrip
+pub mod Acceptance
 pub mod Host
 pub mod Lengths
 pub mod Messages
