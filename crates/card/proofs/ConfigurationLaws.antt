@@ -2,18 +2,18 @@
 use mathlib.Core.Path.{◌≡◌, ap, sym, ◌∙◌}
 use mathlib.Core.Logic.{◌≢◌}
 use mathlib.Core.List.{List, ◌++◌}
-use Prim.Native.Nat.{ℕ, ◌+◌, ◌-◌, ◌≤◌}
+use Prim.Native.Nat.{ℕ, ◌+◌, ◌-◌, ◌^◌, ◌≤◌, ◌<◌}
 use native.Mathlib.Nat.{add-sub_cancel_left}
 use native.Mathlib.Omega.{arith}
-use lib.ListN.{length, replicate, length-append, length-replicate}
-use lib.Seq.{take_all}
+use lib.ListN.{length, take, drop, replicate, length-append, length-replicate}
+use lib.Seq.{take_all, take-take, take_at, drop_at}
 use Rattle.theory.specs.Bytes.{bytes_at, put}
-use Rattle.theory.proofs.Bytes.{length-put, put_all, put-append, put-within, length-bytes_at}
-use Rattle.wire.specs.Le.{bytes, number}
-use Rattle.wire.proofs.Le.{length-bytes}
+use Rattle.theory.proofs.Bytes.{length-put, put_all, put-append, put-within, length-bytes_at, bytes_at-bytes_at}
+use Rattle.wire.specs.Le.{le, bytes, number}
+use Rattle.wire.proofs.Le.{length-bytes, le_bytes}
 use Rattle.member.specs.Record.{holding_size, member_of}
 use Rattle.card.specs.Layout.{configuration_at, configuration_size, generation_at, generation_size, holding_at, record_size, setup_of, in_use_of, record_at, HasRecord, record_bytes, with_record_bytes, member_bytes_in, member_in, configuration_in, generation_in, with_configuration, no_configuration, holding_in}
-use Rattle.card.proofs.RecordBytesLaws.{length-with-bytes, setup-with-bytes, use-with-bytes, bytes_after, bytes-behind, bytes-other, bytes-long}
+use Rattle.card.proofs.RecordBytesLaws.{length-with-bytes, setup-with-bytes, use-with-bytes, bytes_same, bytes_after, bytes-behind, bytes-other, bytes-long}
 
 -- the two together
 abbrev both_size : ℕ
@@ -47,6 +47,27 @@ module _ (c : List ℕ) (m : ℕ) (x : List ℕ) (g : ℕ) where
   pub holding-with-configuration : holding_in (with_configuration c m x g) m ≡ holding_in c m
   unfolding with_configuration holding_in
   holding-with-configuration = bytes_after c m configuration_at both_size _ holding_at holding_size (omega arith)
+
+  -- both are there
+  module _ (h : HasRecord c m) (e : length x ≡ configuration_size) where
+    both-there : record_bytes (with_configuration c m x g) m configuration_at both_size ≡ x ++ bytes generation_size g
+    unfolding with_configuration
+    both-there = bytes_same c m configuration_at both_size _ h (omega arith) (both_long x g e)
+
+    pub configuration-same : configuration_in (with_configuration c m x g) m ≡ x
+    unfolding configuration_in record_bytes
+    configuration-same =
+        sym (take-take configuration_size both_size (drop (record_at m + configuration_at) (with_configuration c m x g)) (omega arith))
+        ∙ ap (take configuration_size) both-there ∙ take_at x (bytes generation_size g) configuration_size e
+
+    pub generation-same : g < 256 ^ 4 → generation_in (with_configuration c m x g) m ≡ g
+    unfolding generation_in record_bytes
+    generation-same l =
+        let k : record_at m + configuration_at + configuration_size ≡ record_at m + generation_at = omega arith in
+        let w = bytes_at-bytes_at configuration_size generation_size (record_at m + configuration_at) both_size (with_configuration c m x g) (omega arith) in
+        ap le (sym (rw k at w) ∙ ap (bytes_at configuration_size generation_size) both-there
+        ∙ rw (drop_at x (bytes generation_size g) configuration_size e) (take_all generation_size (bytes generation_size g) (omega (arith, length-bytes generation_size g))))
+        ∙ le_bytes generation_size g l
 
   -- any bytes of another record
   pub configuration-apart : (k at n : ℕ) → at + n ≤ record_size → 1 ≤ m → 1 ≤ k → k ≢ m → record_bytes (with_configuration c m x g) k at n ≡ record_bytes c k at n

@@ -76,7 +76,7 @@ module _ (s : Setup) (qs : List ℕ) (g : ℕ) (e : length s.features ≡ featur
   use-fresh = rw (fresh-laid s qs g) (ap le (use-laid (numbers_of s) fresh_mask _ (numbers-long s e)) ∙ le_bytes 8 fresh_mask (omega arith))
 
   -- the record of member m is with the m-th count
-  record-fresh : (m : ℕ) → 1 ≤ m → m ≤ length qs → record_bytes (fresh_card s qs g) m 0 record_size ≡ fresh_record (get_or qs (m - 1) 0) s.features g
+  pub record-fresh : (m : ℕ) → 1 ≤ m → m ≤ length qs → record_bytes (fresh_card s qs g) m 0 record_size ≡ fresh_record (get_or qs (m - 1) 0) s.features g
   unfolding record_bytes
   record-fresh m l h =
       rw (fresh-laid s qs g, add-zero)

@@ -4,6 +4,7 @@ pub mod MemberLaws
 pub mod ConfigurationLaws
 pub mod RecordLaws
 pub mod FreshLaws
+pub mod WholeRecordLaws
 pub mod MarkLaws
 pub mod SoundLaws
 pub mod CountLaws

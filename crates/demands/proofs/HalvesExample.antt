@@ -20,7 +20,7 @@ use Rattle.demands.proofs.Between.{marked-refused, marked-idle, stores-work}
 before : List ℕ
 before = run step example_card objects_live
 
-after : List ℕ
+pub after : List ℕ
 after = (step before (hand_back 1)).0
 
 example : Unit {0}
@@ -46,11 +46,11 @@ resets = two-halves before 1 9 sound-before here-before not-marked
 stores : StoredAlike before 1 0x103 0 (5 ∷ [])
 stores = stores-work before 1 sound-before here-before not-marked 0x103 0 (5 ∷ [])
 
-sound-after : is_sound after ≡ true
+pub sound-after : is_sound after ≡ true
 unfolding example
 sound-after = refl
 
-is-marked : is_marked after 1 ≡ true
+pub is-marked : is_marked after 1 ≡ true
 unfolding example
 is-marked = refl
 

@@ -1,4 +1,4 @@
--- Hand back, wipe and a reset of the card leave no holding place. Assumes nothing.
+-- Finish, drop, a feed that is too long, hand back, wipe and a reset of the card leave no holding place. Assumes nothing.
 use mathlib.Core.Path.{◌≡◌, refl, ap, sym, ◌∙◌}
 use mathlib.Core.Bool.{true, false}
 use mathlib.Core.List.{List}
@@ -24,6 +24,7 @@ use Rattle.events.proofs.Cases.{on-member-cases}
 use Rattle.demands.specs.Calls.{answered, refused, step}
 use Rattle.demands.specs.Holding.{HoldingEnded}
 use Rattle.demands.proofs.Between.{back-member}
+use Rattle.demands.proofs.OnlyHolding.{finish-ends, drop-ends, feed-ends}
 
 -- what an event that is not refused leaves of member m
 Ends : ℕ → EventAnswer × List ℕ → Type 0
@@ -52,6 +53,9 @@ fresh-ends c g m s h =
 pub holding-ended : HoldingEnded
 unfolding step hand_back_of wipe_of reset_card Ends fresh_of
 holding-ended = record {
+  finishes = λ c m id s h. finish-ends c m s h id;
+  drops = λ c m s h. drop-ends c m s h;
+  feeds = λ c m x s h. feed-ends c m s h x;
   hand_backs = λ c m.
       on-member-cases c m _ (Ends m) (refusal-ends m c) λ s h.
       unless-cases (Ends m) _ _ _ (λ t. refusal-ends m c event.WrongMark refl) (λ t e. ap (λ (x : Member). x.held) (back-member c m s h));

@@ -32,7 +32,7 @@ use Rattle.demands.proofs.CommandMask.{respond-answers}
 use Rattle.demands.proofs.EventMask.{store-answers, back-answers}
 
 -- the number that an event answers
-number_of : Reply → ℕ
+unfoldable pub number_of : Reply → ℕ
 number_of (written bs) = 0
 number_of (answered n) = n
 number_of (responded bs) = 0

@@ -1,11 +1,12 @@
 -- REQUESTS 7 AND 8: what is set of a made or a salvaged list, by commands as bytes. Assumes nothing.
-use mathlib.Core.Path.{◌≡◌, ap, sym, ◌∙◌}
+use mathlib.Core.Path.{◌≡◌, refl, ap, sym, ◌∙◌}
 use mathlib.Core.Bool.{true}
 use mathlib.Core.List.{List, ◌++◌}
 use Prim.Native.Nat.{ℕ, ◌+◌, ◌≤◌, ◌<◌}
 use native.Mathlib.Omega.{arith}
 use lib.ListN.{length, drop}
-use Rattle.theory.proofs.Tests.{within-high}
+use Rattle.theory.specs.Logic.{unless◌answer◌then◌, within}
+use Rattle.theory.proofs.Tests.{by_cases, never, inside, within_low, within-high}
 use Rattle.protocol.specs.declared.Answer.TheVariants.{Done}
 use Rattle.protocol.specs.declared.ObjectKind.TheVariants.{Get}
 use Rattle.protocol.specs.Opcodes.{bit}
@@ -18,8 +19,12 @@ use Rattle.capture.specs.Capture.{capture_of}
 use Rattle.objects.specs.declared.Found.TheVariants.{Live}
 use Rattle.member.specs.Objects.{lookup_of}
 use Rattle.member.specs.Member.{features_in, with_values}
+use Rattle.setups.specs.declared.Setup.{Setup}
 use Rattle.setups.specs.declared.MemberSetup.{MemberSetup}
-use Rattle.setups.specs.Member.{member_setup}
+use Rattle.setups.specs.declared.ReadOutcome.{ReadOutcome}
+use Rattle.setups.specs.Reading.{no_setup, read_setup}
+use Rattle.setups.specs.Member.{no_member, member_of, member_setup}
+use Rattle.setups.proofs.InRange.{read-cases}
 use Rattle.setups.proofs.Member.{member-in-range}
 use Rattle.card.specs.Layout.{in_use_of, member_in, with_member}
 use Rattle.reply.specs.Reply.{head_of}
@@ -33,8 +38,33 @@ use Rattle.salvage.proofs.Claims as salvage
 use Rattle.salvage.proofs.Values.{repaired-long}
 use Rattle.salvage.proofs.Under.{salvage-written}
 use Rattle.demands.specs.RoundTrip.{capture}
-use Rattle.demands.specs.Lists.{Settable, Alike, set_list, after_both, SetAlike, MergedSets, FoundCaptured, SalvagedAccepted}
+use Rattle.demands.specs.Lists.{HasMember, MembersKnown, Settable, Alike, set_list, after_both, SetAlike, MergedSets, FoundCaptured, SalvagedAccepted}
 use Rattle.demands.proofs.Setting.{member, capture-is, settable, member_set, card_set, set_is, member-sound, member-after, settable-after, lookup-after, use-after, card-is, card-over, after-head}
+
+-- ---- what a setup says of a member ----
+
+known-within : (s : Setup) (m : ℕ) → (member_of s m).known ≡ true → within 1 s.members m ≡ true
+unfolding member_of no_member unless◌answer◌then◌
+known-within s m e = by_cases (within 1 s.members m) (λ y. y) (λ n. never (rw n at e))
+
+known_member : (setup : List ℕ) (m : ℕ) → (member_setup setup m).known ≡ true → HasMember (read_setup setup) m
+unfolding member_setup no_setup
+known_member setup m =
+    read-cases (λ (o : ReadOutcome). (member_of o.setup m).known ≡ true → HasMember o m) setup
+    (λ k. let t = known-within no_setup m k in absurd (omega (arith, within_low 1 0 m t, within-high 1 0 m t)))
+    (λ s r k.
+    let t = known-within s m k in
+    record { read = refl; low = within_low 1 s.members m t; high = within-high 1 s.members m t })
+
+pub members-known : MembersKnown
+unfolding member_setup member_of unless◌answer◌then◌
+members-known setup m =
+    record {
+      known = λ h. rw (inside 1 (read_setup setup).setup.members m h.low h.high);
+      only = known_member setup m;
+      queues = λ k. rw (known-within (read_setup setup).setup m k);
+      features = λ k. rw (known-within (read_setup setup).setup m k);
+    }
 
 -- ---- two lists set one after the other, and the list made of them ----
 

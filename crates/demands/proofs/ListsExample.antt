@@ -21,7 +21,7 @@ use Rattle.protocol.specs.declared.Answer.TheVariants.{Done}
 use Rattle.parts.specs.List.{longest_list}
 use Rattle.reply.specs.Reply.{head_of}
 use Rattle.demands.specs.RoundTrip.{capture}
-use Rattle.demands.specs.Lists.{Settable, Alike, SetAlike, merged_list, after_both, value_under, set_list, salvaged_list}
+use Rattle.demands.specs.Lists.{HasMember, Settable, Alike, SetAlike, merged_list, after_both, value_under, set_list, salvaged_list}
 use Rattle.demands.proofs.Model.{model}
 use Rattle.demands.proofs.Lists.{merged-sets, found-captured, salvaged-accepted}
 use Rattle.demands.proofs.RoundTripExample.{target, sound-target, setup-target, target-queues, target-member, target-set, target-get, target-stopped, set-in-use, recapture-in-use}
@@ -46,6 +46,10 @@ says = record { known = true; queues = 1; features = replicate 16 0 }
 bench-says : member_setup bench 1 ≡ says
 unfolding model bit bits_at no_counts sixteen counts_from setup_at head_right is_version1 take_version1 read_setup member_of member_setup
 bench-says = refl
+
+member-said : HasMember (read_setup bench) 2
+unfolding model bit bits_at no_counts sixteen counts_from setup_at head_right is_version1 take_version1 read_setup
+member-said = record { read = refl; low = omega arith; high = omega arith }
 
 alike : Alike target 1 (member_setup bench 1)
 alike =

@@ -3,7 +3,7 @@
 use mathlib.Core.Path.{◌≡◌, refl}
 use mathlib.Core.Bool.{true}
 use mathlib.Core.List.{List, [], ◌∷◌}
-use Prim.Native.Nat.{ℕ}
+use Prim.Native.Nat.{ℕ, ◌≤◌}
 use native.Mathlib.Omega.{arith}
 use lib.ListN.{take, replicate}
 use Rattle.theory.specs.Logic.{if◌then◌else◌, unless◌answer◌then◌, ◌and◌, within}
@@ -12,11 +12,12 @@ use Rattle.setups.specs.Bits.{widths, joined, big_endian, packed}
 use Rattle.setups.specs.Setup.{in_ranges, all, in_numbers}
 use Rattle.setups.specs.Writing.{count_fields, are_equal, fields_of, packed_setup, placed, written}
 use Rattle.card.specs.Layout.{card_size, is_member, member_in}
+use Rattle.card.specs.Sound.{is_sound}
 use Rattle.events.specs.Events.{set_up, set_up_from}
 use Rattle.demands.specs.Calls.{card_reset, step}
 use Rattle.demands.specs.QueueCounts.{counts_card, count_examples, CountExamplesHold}
 use Rattle.demands.proofs.Model.{model}
-use Rattle.demands.proofs.QueuesKept.{set-up-from-packed, queues-kept}
+use Rattle.demands.proofs.QueuesKept.{set-up-from-packed, queues-kept, counts-in-range}
 
 pub count-examples-hold : CountExamplesHold
 unfolding model counts_card count_examples
@@ -41,6 +42,13 @@ same-card =
 member-here : is_member counts_card 2 ≡ true
 unfolding model counts_card
 member-here = refl
+
+sound-here : is_sound counts_card ≡ true
+unfolding model counts_card
+sound-here = refl
+
+in-range : (1 ≤ (member_in counts_card 2).queues) × ((member_in counts_card 2).queues ≤ 4)
+in-range = counts-in-range counts_card sound-here 2 member-here
 
 kept : (member_in (step counts_card (card_reset 5)).0 2).queues ≡ (member_in counts_card 2).queues
 kept = queues-kept counts_card 2 member-here (card_reset 5)

@@ -20,7 +20,7 @@ unfolding power_below
 is-power zero n e h t = never cc
 is-power (suc k) n e h t = either _ _ t (λ q. power {k = k} (omega arith) (eqb-true _ _ q)) (is-power k n e (omega arith))
 
-is-ring : (n e : ℕ) → ring_size n e ≡ true → Ring n e
+pub is-ring : (n e : ℕ) → ring_size n e ≡ true → Ring n e
 unfolding ring_size
 is-ring n e t =
     either _ _ t (is-power 16 n e (omega arith)) (λ q. let b = both _ _ q in unused (eqb-true _ _ b.0) (eqb-true _ _ b.1))

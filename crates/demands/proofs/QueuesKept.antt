@@ -24,7 +24,7 @@ use Rattle.card.specs.Layout.{configuration_at, configuration_size, generation_s
 use Rattle.card.proofs.HeaderLaws.{features-long}
 use Rattle.card.proofs.RecordLaws.{record-other, member-with-record}
 use Rattle.card.proofs.CountLaws.{count-other, count-behind, count-with-use, count-with-member, counts-long, counts-at, count-fresh}
-use Rattle.card.proofs.SoundLaws.{Sound, sound-of, sound-long, sound-has}
+use Rattle.card.proofs.SoundLaws.{Sound, sound-of, sound-long, sound-has, sound-member-in}
 use Rattle.events.specs.Events.{set_up_of, set_up_from, with_handed_back, hand_back as hand_back_of, wipe as wipe_of, reset_card}
 use Rattle.events.proofs.Cases.{on-member-cases}
 use Rattle.frame.specs.declared.Ask.{Ask}
@@ -35,7 +35,7 @@ use Rattle.admin.proofs.Marks.{named_here}
 use Rattle.staging.proofs.Places.{has}
 use Rattle.message.proofs.Cases.{card-cases as message-cases}
 use Rattle.demands.specs.Calls.{Call, names, command, hand_back, wipe, card_reset, card_store, restore_begin, restore_feed, restore_finish, restore_drop, message, step}
-use Rattle.demands.specs.QueueCounts.{SetUpFromPacked, QueuesKept}
+use Rattle.demands.specs.QueueCounts.{SetUpFromPacked, QueuesKept, CountsInRange}
 use Rattle.demands.proofs.Named.{Leaves, unchanged, changed, named-leaves}
 
 -- ---- a packed setup ----
@@ -120,6 +120,11 @@ reset-kept c k g h s =
     count-fresh (setup_of c) (counts_of c) g (features-long c (omega (arith, sound-long c s))) k l (omega arith)
     ∙ counts-at c 1 (setup_of c).members (k - 1) (omega arith)
     ∙ ap (λ j. (member_in c j).queues) i
+
+pub counts-in-range : CountsInRange
+counts-in-range c s m h =
+    let q = (sound-member-in c (sound-of c s) m h).count in
+    (within_low 1 4 _ q, within-high 1 4 _ q)
 
 pub queues-kept : QueuesKept
 unfolding step names hand_back_of with_handed_back wipe_of reset_card

@@ -18,8 +18,8 @@ use Rattle.events.specs.Events.{hand_back as hand_back_of, wipe as wipe_of, rese
 use Rattle.events.proofs.Cases.{if-done-cases, on-unsound, on-member-cases}
 use Rattle.reply.specs.Reply.{head_of, reply_of}
 use Rattle.admin.specs.Command.{ask_in, perform, respond}
-use Rattle.demands.specs.Calls.{Call, command, hand_back, wipe, card_reset, card_store, restore_begin, restore_feed, restore_finish, restore_drop, message, written, answered, refused, step}
-use Rattle.demands.specs.Claims.{after_refusal, RefusalsChangeNothing}
+use Rattle.demands.specs.Calls.{Call, command, hand_back, wipe, card_reset, card_store, restore_begin, restore_feed, restore_finish, restore_drop, message, Reply, written, answered, of_command, refused, step}
+use Rattle.demands.specs.Claims.{after_refusal, unsound_reply, UnsoundRefused, RefusalsChangeNothing}
 use Rattle.admin.proofs.Respond.{last_answer, respond-none, respond-cases}
 use Rattle.staging.specs.Staging.{without_held, begin_of, feed_of, finish_of, drop_of}
 use Rattle.staging.proofs.Refusals.{on-member-cases as restore-cases, on-open-cases, on-open-both, on-member-unsound, on-open-unsound}
@@ -133,16 +133,19 @@ refusals-change-nothing c (restore_finish m id) = finish-drops c m id
 refusals-change-nothing c (restore_drop m) = drop_keeps c m
 refusals-change-nothing c (message x room) = λ e. no-data-keeps c x room (eqb-true _ _ e)
 
--- a card that is not sound stays
+-- a card that is not sound stays, and says so
+pub unsound-refused : UnsoundRefused
+unfolding step hand_back_of wipe_of reset_card store begin_of feed_of finish_of drop_of unless◌answer◌then◌ unsound_reply
+unsound-refused c (command r room) e = ap of_command (respond-none c r _ (rw e (and-false _)))
+unsound-refused c (hand_back m) e = rw (on-unsound c m _ e)
+unsound-refused c (wipe m g) e = rw (on-unsound c m _ e)
+unsound-refused c (card_reset g) e = rw e
+unsound-refused c (card_store m t s value) e = rw (on-unsound c m _ e)
+unsound-refused c (restore_begin m) e = rw (on-member-unsound c m _ e)
+unsound-refused c (restore_feed m x) e = rw (on-open-unsound c m _ e)
+unsound-refused c (restore_finish m id) e = rw (on-open-unsound c m _ e)
+unsound-refused c (restore_drop m) e = rw (on-open-unsound c m _ e)
+unsound-refused c (message x room) e = rw (answer-unsound c x room e)
+
 pub unsound-stays : (c : List ℕ) (x : Call) → is_sound c ≡ false → (step c x).0 ≡ c
-unfolding step hand_back_of wipe_of reset_card store begin_of feed_of finish_of drop_of unless◌answer◌then◌
-unsound-stays c (command r room) e = ap (λ (y : List ℕ × List ℕ). y.0) (respond-none c r _ (rw e (and-false _)))
-unsound-stays c (hand_back m) e = rw (on-unsound c m _ e)
-unsound-stays c (wipe m g) e = rw (on-unsound c m _ e)
-unsound-stays c (card_reset g) e = rw e
-unsound-stays c (card_store m t s value) e = rw (on-unsound c m _ e)
-unsound-stays c (restore_begin m) e = rw (on-member-unsound c m _ e)
-unsound-stays c (restore_feed m x) e = rw (on-open-unsound c m _ e)
-unsound-stays c (restore_finish m id) e = rw (on-open-unsound c m _ e)
-unsound-stays c (restore_drop m) e = rw (on-open-unsound c m _ e)
-unsound-stays c (message x room) e = rw (answer-unsound c x room e)
+unsound-stays c x e = ap (λ (y : List ℕ × Reply). y.0) (unsound-refused c x e)

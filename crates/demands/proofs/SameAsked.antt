@@ -62,7 +62,7 @@ module _ (q : ℕ) (l l' v : List ℕ) where
 
 -- two requests, and what is asked of a card: it comes to the same with both
 module _ (c r s : List ℕ) where
-  Same : Ask → Type 0
+  unfoldable pub Same : Ask → Type 0
   Same a = perform c s a ≡ perform c r a
 
   guarded : (t : Bool) (a : Answer) (x : Ask) → Same x → Same (unless t answer Refused a then x)
@@ -98,31 +98,41 @@ module _ (c r s : List ℕ) where
     unfolding Same perform
     parts-set e = rw e
 
-  module _ (op : ℕ) (asked : op ≡ 0x0f → asked_list s ≡ asked_list r) (given : op ≡ 0x10 → given_list s ≡ given_list r) where
-    get-same : (ids m : ℕ) (d : List ℕ) → op ≡ 0x0f → Same (get_in ids m d)
+  -- m is the member that is named
+  module _ (m op : ℕ) (asked : op ≡ 0x0f → (id : ℕ) → Same (Read m (GetSelected id))) (given : op ≡ 0x10 → (id : ℕ) → Same (Change m (SetParts id))) where
+    get-same : (ids : ℕ) (d : List ℕ) → op ≡ 0x0f → Same (get_in ids m d)
     unfolding get_in
-    get-same ids m d o =
-        guarded _ _ _ (if-cases Same _ _ _ (λ e. selected-read m _ (asked o)) (λ e. guarded _ _ _ (all_read m _)))
+    get-same ids d o =
+        guarded _ _ _ (if-cases Same _ _ _ (λ e. asked o _) (λ e. guarded _ _ _ (all_read m _)))
 
     -- the other changes and list use read no list
-    fields-same : (ids m : ℕ) (d : List ℕ) → Same (fields_of ids m op d)
+    fields-same : (ids : ℕ) (d : List ℕ) → Same (fields_of ids m op d)
     unfolding fields_of create_in modify_in query_in destroy_in metadata_in set_in mode_in use_in Same perform
-    fields-same ids m d =
+    fields-same ids d =
         branch op 0x00 _ _ (λ o. refl) (branch op 0x01 _ _ (λ o. guarded _ _ _ refl)
         (branch op 0x0a _ _ (λ o. guarded _ _ _ refl) (branch op 0x0b _ _ (λ o. guarded _ _ _ refl)
         (branch op 0x0c _ _ (λ o. guarded _ _ _ (query-read m _)) (branch op 0x0d _ _ (λ o. guarded _ _ _ refl)
-        (branch op 0x0e _ _ (λ o. guarded _ _ _ (metadata-read m _ (metadata_is (get_or d type_at 0)))) (branch op 0x0f _ _ (get-same ids m d)
-        (branch op 0x10 _ _ (λ o. guarded _ _ _ (parts-set m _ (given o))) (guarded _ _ _ refl)))))))))
+        (branch op 0x0e _ _ (λ o. guarded _ _ _ (metadata-read m _ (metadata_is (get_or d type_at 0)))) (branch op 0x0f _ _ (get-same ids d)
+        (branch op 0x10 _ _ (λ o. guarded _ _ _ (given o _)) (guarded _ _ _ refl)))))))))
 
--- two requests that ask the same, and their lists where these count
-module _ (c r s : List ℕ) (room : ℕ) (asked : opcode_of r ≡ 0x0f → asked_list s ≡ asked_list r) (given : opcode_of r ≡ 0x10 → given_list s ≡ given_list r)
+-- two requests that ask the same, with lists that come to the same where these count
+module _ (c r s : List ℕ) (room : ℕ)
+    (asked : opcode_of r ≡ 0x0f → (id : ℕ) → Same c r s (Read (target_of r) (GetSelected id)))
+    (given : opcode_of r ≡ 0x10 → (id : ℕ) → Same c r s (Change (target_of r) (SetParts id)))
     (ask : ask_in c s ≡ ask_in c r) where
   done-same : Same c r s (ask_in c r)
   unfolding ask_in ask_of framed_of
   done-same =
       guarded c r s _ _ _ (guarded c r s _ _ _ (guarded c r s _ _ _ (guarded c r s _ _ _ (guarded c r s _ _ _
-      (fields-same c r s (opcode_of r) asked given _ (target_of r) (data_of r))))))
+      (fields-same c r s (target_of r) (opcode_of r) asked given _ (data_of r))))))
 
-  pub respond-same : respond c s room ≡ respond c r room
+  pub respond-alike : respond c s room ≡ respond c r room
   unfolding respond Same
-  respond-same = rw (ask, done-same)
+  respond-alike = rw (ask, done-same)
+
+-- with the same list
+pub respond-same : (c r s : List ℕ) (room : ℕ)
+    → (opcode_of r ≡ 0x0f → asked_list s ≡ asked_list r) → (opcode_of r ≡ 0x10 → given_list s ≡ given_list r) → ask_in c s ≡ ask_in c r
+    → respond c s room ≡ respond c r room
+respond-same c r s room asked given =
+    respond-alike c r s room (λ o id. selected-read c r s (target_of r) id (asked o)) (λ o id. parts-set c r s (target_of r) id (given o))

@@ -3,12 +3,12 @@
 -- that the contracts of the exported functions cite, or over the same without a lent buffer: respond for command_of, answer_of
 -- for message_of. A claim with hypotheses says which example meets them; where no file is named it is in
 -- ../proofs/ClaimsExample.antt. Assumes nothing.
-use Rattle.std.specs.Prelude.{◌≡◌, ◌≢◌, true, false, List, ◌∷◌, ◌++◌, ℕ, ◌+◌, ◌≤◌, ◌<◌, length, take, drop, replicate}
+use Rattle.std.specs.Prelude.{◌≡◌, ◌≢◌, true, false, List, [], ◌∷◌, ◌++◌, ℕ, ◌+◌, ◌≤◌, ◌<◌, length, take, drop, replicate}
 use Rattle.theory.specs.Machine.{trace, run, seen, visible}
 use Rattle.protocol.specs.declared.EventAnswer.TheVariants.{Done}
 use Rattle.frame.specs.Frame.{opcode_of, target_of}
 use Rattle.setups.specs.Claims.{Claims as PackedSetups}
-use Rattle.setups.specs.Examples.{SetupsWritten, SetupsRead}
+use Rattle.setups.specs.Examples.{SetupsWritten, SetupsRead, MembersAsked}
 use Rattle.card.specs.Layout.{in_use_at, record_size, setup_of, is_member, record_at, member_in, counts_of, is_marked}
 use Rattle.card.specs.Sound.{is_sound}
 use Rattle.events.specs.Events.{setup_with, set_up}
@@ -19,22 +19,32 @@ use Rattle.staging.specs.Claims.{FinishIsPartsSet, HoldsJoined, CutAnywhere}
 use Rattle.difference.specs.Claims.{Claims as MergedLists}
 use Rattle.salvage.specs.Claims.{Claims as SalvagedLists}
 use Rattle.figures.specs.Claims.{HoweverCut, AddsUp, Sheets}
-use Rattle.demands.specs.Calls.{Call, command, hand_back, wipe, card_reset, card_store, restore_begin, restore_feed, restore_finish, restore_drop, message, refused, step, names, Resets}
+use Rattle.demands.specs.Calls.{Call, command, hand_back, wipe, card_reset, card_store, restore_begin, restore_feed, restore_finish, restore_drop, message, Reply, written, answered, responded, refused, step, names, Resets}
+use Rattle.demands.specs.Exports.{ExportsStep}
+use Rattle.demands.specs.Fresh.{SetupsDone, ResetsDone}
+use Rattle.demands.specs.Stores.{StoresDone}
 use Rattle.demands.specs.Statuses.{Statuses}
 use Rattle.demands.specs.Reserved.{ReservedIgnored}
+use Rattle.demands.specs.Unread.{UnreadIgnored}
+use Rattle.demands.specs.PartHeaders.{HeadersNotRead}
 use Rattle.demands.specs.Examples.{ExamplesHold}
+use Rattle.demands.specs.Numbers.{NumbersHold}
 use Rattle.demands.specs.Lengths.{MissingIsZero, RestIsIgnored, NothingInUse, LengthExamplesHold}
 use Rattle.demands.specs.QueueSizes.{RingsOnly, QueueExamplesHold}
-use Rattle.demands.specs.QueueCounts.{SetUpFromPacked, QueuesKept, CountExamplesHold}
+use Rattle.demands.specs.QueueCounts.{SetUpFromPacked, QueuesKept, CountsInRange, CountExamplesHold}
 use Rattle.demands.specs.Halves.{TwoHalves, MarkedRefused, StoresWork, MarkedIdle, HalvesExamplesHold}
 use Rattle.demands.specs.WrongPrograms.{WrongProgramsRejected}
 use Rattle.demands.specs.RoundTrip.{RoundTrip}
-use Rattle.demands.specs.Lists.{MergedSets, FoundCaptured, SalvagedAccepted}
+use Rattle.demands.specs.Acceptance.{Acceptance}
+use Rattle.demands.specs.Lists.{MembersKnown, MergedSets, FoundCaptured, SalvagedAccepted}
 use Rattle.demands.specs.Host.{Taken, ReadBack}
 use Rattle.demands.specs.Places.{PlacesFound}
+use Rattle.demands.specs.Answered.{MessagesAnswered}
 use Rattle.demands.specs.Messages.{Responded, NothingApplied, OnlyConfiguration, ConfigurationKept, MessageExamplesHold}
-use Rattle.demands.specs.Holding.{HoldingKept, HoldingEnded}
+use Rattle.demands.specs.Holding.{OnlyHolding, HoldingKept, HoldingEnded}
+use Rattle.demands.specs.Restores.{RestoreExamplesHold}
 use Rattle.demands.specs.Commutation.{Commutation, CommandsCommute}
+use Rattle.demands.specs.Loads.{AnsweredExactly, RefusedUnwritten, LoadIsLent, LoadStored, LoadSet, LoadWiped, SetupAgain, ReadAlike, LoadExamplesHold}
 
 -- No call makes a sound card unsound: SPEC 2.4. Example: sound-card
 abbrev pub StaysSound : Type 0
@@ -49,6 +59,23 @@ StaysSound = (c : List ℕ) (x : Call) → is_sound c ≡ true → is_sound (ste
 pub record NotWritten : Type 0 where
   pub short_buffer : (c r b : List ℕ) → length b < 8 → command_of c r b ≡ (0, (c, b))
   pub unsound_card : (c r b : List ℕ) → is_sound c ≡ false → command_of c r b ≡ (0, (c, b))
+
+-- On a card that is not sound nothing is done, whatever is called: a command writes nothing, a message gets the bus outcome, and
+-- every other call answers 9. Example: unsound-card
+unfoldable pub unsound_reply : Call → Reply
+unsound_reply (command r room) = written []
+unsound_reply (hand_back m) = answered 9
+unsound_reply (wipe m generation) = answered 9
+unsound_reply (card_reset generation) = answered 9
+unsound_reply (card_store m t s value) = answered 9
+unsound_reply (restore_begin m) = answered 9
+unsound_reply (restore_feed m x) = answered 9
+unsound_reply (restore_finish m id) = answered 9
+unsound_reply (restore_drop m) = answered 9
+unsound_reply (message x room) = responded []
+
+abbrev pub UnsoundRefused : Type 0
+UnsoundRefused = (c : List ℕ) (x : Call) → is_sound c ≡ false → step c x ≡ (c, unsound_reply x)
 
 -- What a command leaves is the card and the reply that `respond` gives for the buffer's length: the reply lies within
 -- the buffer, as many bytes as are reported, and the rest of the buffer is left as it was: SPEC 3.3
@@ -117,6 +144,17 @@ Isolation =
     → (r : Call) → Resets m r (step (run step c₁ p₁) r).1 → (t : List Call)
     → seen (names m) (length p₁) (trace step c₁ (p₁ ++ r ∷ t)) ≡ seen (names m) (length p₂) (trace step c₂ (p₂ ++ r ∷ t))
 
+-- The calls that only read, SPEC 14, are no calls of a sequence. Under the same hypotheses all of them tell the same of both
+-- cards, after r and after every later call. Example: ../proofs/LoadsExample.antt
+abbrev pub LoadsIsolated : Type 0
+LoadsIsolated =
+    (c₁ c₂ : List ℕ) → is_sound c₁ ≡ true → is_sound c₂ ≡ true
+    → (m : ℕ) → is_member c₁ m ≡ true → DifferAtMost m c₁ c₂
+    → is_marked c₁ m ≡ is_marked c₂ m → (member_in c₁ m).queues ≡ (member_in c₂ m).queues
+    → (p₁ p₂ : List Call) → visible (names m) p₁ ≡ visible (names m) p₂
+    → (r : Call) → Resets m r (step (run step c₁ p₁) r).1 → (t : List Call)
+    → ReadAlike (run step c₁ (p₁ ++ r ∷ t)) (run step c₂ (p₂ ++ r ∷ t))
+
 -- Integrity, SPEC 9.4, beside isolation, on any card: what a call leaves alone. Examples: names-member, uses-list,
 -- sets-parts
 pub record Integrity : Type 0 where
@@ -136,22 +174,36 @@ pub record Integrity : Type 0 where
 
 pub record Claims : Type 1 where
   pub stays_sound : StaysSound
-  -- DEMAND 1
+  -- DEMAND 1. What the exported functions give is the step of a sequence: Exports.antt
   pub not_written : NotWritten
+  pub unsound_refused : UnsoundRefused
   pub delivered : Delivered
+  pub exported : ExportsStep
   pub refusals : RefusalsChangeNothing
   pub sets_up : SetsUp
+  -- when setup and a card store are done, and what they leave; what resets leave: Fresh.antt and Stores.antt, with the examples
+  -- ../proofs/FreshExample.antt and ../proofs/StoresExample.antt
+  pub setups_done : SetupsDone
+  pub resets_done : ResetsDone
+  pub stores_done : StoresDone
   -- DEMAND 2, SPEC 9.2: every answer, and the card after it, is the specified one, and a full capture can be set.
   -- Which status a command gets: Statuses.antt, with the example ../proofs/StatusesExample.antt
   pub statuses : Statuses
-  -- the reserved bytes of a request are ignored: Reserved.antt
+  -- the reserved bytes of a request are ignored: Reserved.antt; and what is not read of the header of a part: PartHeaders.antt
   pub reserved_ignored : ReservedIgnored
+  -- and with them the member field of list query and list use: Unread.antt
+  pub unread_ignored : UnreadIgnored
+  pub headers_not_read : HeadersNotRead
   -- the worked examples B1 to B12, and the wrong programs that fail them: Examples.antt, WrongPrograms.antt, with the example
   -- ../proofs/WrongProgramsExample.antt
   pub examples : ExamplesHold
   pub wrong_programs : WrongProgramsRejected
+  -- worked examples N1 to N9, of the numbers that stand nowhere else: Numbers.antt
+  pub numbers : NumbersHold
   -- the round trip: RoundTrip.antt, with the example ../proofs/RoundTripExample.antt
   pub round_trip : RoundTrip
+  -- and its first half by itself, which asks less of the target: Acceptance.antt
+  pub acceptance : Acceptance
   -- DEMAND 3
   pub isolation : Isolation
   pub integrity : Integrity
@@ -168,7 +220,9 @@ pub record Claims : Type 1 where
   pub nothing_in_use : NothingInUse
   pub length_examples : LengthExamplesHold
   -- REQUEST 3, configuration by message: what a message leaves, what it touches, and what else touches a configuration.
-  -- Messages.antt, and its worked examples M1 to M12
+  -- Messages.antt, and its worked examples M1 to M12; which messages are answered, and what they do: Answered.antt, with the
+  -- example ../proofs/AnsweredExample.antt
+  pub messages_answered : MessagesAnswered
   pub responded : Responded
   pub nothing_applied : NothingApplied
   pub only_configuration : OnlyConfiguration
@@ -181,29 +235,39 @@ pub record Claims : Type 1 where
   pub rings_only : RingsOnly
   pub queue_examples : QueueExamplesHold
   -- REQUEST 6, a restore in fragments: what finish does, what is held, and that it does not matter how the bytes are cut.
-  -- staging/specs/Claims.antt, and Holding.antt, with the example ../proofs/RestoreExample.antt
+  -- staging/specs/Claims.antt, and what these calls touch and who ends a holding place: Holding.antt, with the example
+  -- ../proofs/RestoreExample.antt; and the worked examples R1 to R9 of Restores.antt
   pub finish_is_parts_set : FinishIsPartsSet
   pub holds_joined : HoldsJoined
   pub cut_anywhere : CutAnywhere
+  pub only_holding : OnlyHolding
   pub holding_kept : HoldingKept
   pub holding_ended : HoldingEnded
-  -- REQUEST 7, a night's difference: the list made of two, and what is looked up in them. difference/specs/Claims.antt, on a
-  -- member's values, and Lists.antt, on commands, with the examples difference/proofs/Example.antt and ../proofs/ListsExample.antt
+  pub restore_examples : RestoreExamplesHold
+  -- what a packed setup says of a member, by which requests 7 and 8 go: Lists.antt
+  pub members_known : MembersKnown
+  -- REQUEST 7, a night's difference: when each call is done and by which number it is refused, the list made of two, and what is
+  -- looked up in them. difference/specs/Claims.antt, on a member's values, and Lists.antt, on commands, with the examples
+  -- difference/proofs/Example.antt and ../proofs/ListsExample.antt
   pub merged_lists : MergedLists
   pub merged_sets : MergedSets
   pub found_captured : FoundCaptured
-  -- REQUEST 8, salvage of a torn capture: what is written, kept, filled, dropped and left over, and that a stopped member takes
-  -- it. salvage/specs/Claims.antt and Lists.antt, with the examples salvage/proofs/Example.antt and ../proofs/ListsExample.antt
+  -- REQUEST 8, salvage of a torn capture: when it is done, what is written, kept, filled, dropped and left over, and that a
+  -- stopped member takes it. salvage/specs/Claims.antt and Lists.antt, with the examples salvage/proofs/Example.antt and
+  -- ../proofs/ListsExample.antt
   pub salvaged_lists : SalvagedLists
   pub salvaged_accepted : SalvagedAccepted
-  -- REQUEST 9, setups that outlive a release: what is written reads back the same, a refusal writes nothing, what is read is in
-  -- range. setups/specs/Claims.antt, and the worked examples of setups/specs/Examples.antt
+  -- REQUEST 9, setups that outlive a release: what is written and what is read, by numbers alone; what is written reads back the
+  -- same, and is written back; a refusal writes nothing, what is read is in range. setups/specs/Claims.antt, with the example
+  -- setups/proofs/AcceptedExample.antt, and the worked examples of setups/specs/Examples.antt
   pub packed_setups : PackedSetups
   pub setups_written : SetupsWritten
   pub setups_read : SetupsRead
+  pub members_asked : MembersAsked
   -- and on a card: QueueCounts.antt, and its worked examples Q1 to Q4
   pub set_up_from_packed : SetUpFromPacked
   pub queues_kept : QueuesKept
+  pub counts_in_range : CountsInRange
   pub count_examples : CountExamplesHold
   -- REQUEST 10, reset in two halves: Halves.antt, and its worked examples H1 to H6, with the example ../proofs/HalvesExample.antt
   pub two_halves : TwoHalves
@@ -219,3 +283,15 @@ pub record Claims : Type 1 where
   -- REQUEST 12, commands from two hosts: Commutation.antt, with the example ../proofs/CommutationExample.antt
   pub commutation : Commutation
   pub commands_commute : CommandsCommute
+  -- CALLS FOR THE CARD'S OWN FIRMWARE, which only read: exactly when each answers 0, what it gives after a store, a list that is
+  -- set and a wipe, a setup that is set up anew, and demand 3. Loads.antt, and its worked examples F1 to F7, with the example
+  -- ../proofs/LoadsExample.antt
+  pub answered_exactly : AnsweredExactly
+  pub refused_unwritten : RefusedUnwritten
+  pub load_is_lent : LoadIsLent
+  pub load_stored : LoadStored
+  pub load_set : LoadSet
+  pub load_wiped : LoadWiped
+  pub setup_again : SetupAgain
+  pub loads_isolated : LoadsIsolated
+  pub load_examples : LoadExamplesHold

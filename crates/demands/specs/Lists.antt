@@ -1,6 +1,6 @@
--- REQUESTS 7 AND 8, on commands as bytes: lists that were made or salvaged under a packed setup are set in a member of a card.
--- Assumes nothing.
-use Rattle.std.specs.Prelude.{◌≡◌, true, List, [], ℕ, ◌+◌, ◌≤◌, length, take, drop}
+-- REQUESTS 7 AND 8: what a packed setup says of a member; and, on commands as bytes, lists that were made or salvaged under it are
+-- set in a member of a card. Assumes nothing.
+use Rattle.std.specs.Prelude.{◌≡◌, true, List, [], ℕ, ◌+◌, ◌-◌, ◌≤◌, length, get_or, take, drop}
 use Rattle.protocol.specs.declared.Answer.TheVariants.{Done}
 use Rattle.protocol.specs.declared.Mode.TheVariants.{Stopped}
 use Rattle.protocol.specs.declared.ObjectKind.TheVariants.{Get, Set}
@@ -10,6 +10,9 @@ use Rattle.parts.specs.List.{longest_list}
 use Rattle.objects.specs.declared.Found.TheVariants.{Live}
 use Rattle.member.specs.Objects.{lookup_of}
 use Rattle.setups.specs.declared.MemberSetup.{MemberSetup}
+use Rattle.setups.specs.declared.ReadOutcome.{ReadOutcome}
+use Rattle.setups.specs.declared.ReadAnswer.TheVariants as reading
+use Rattle.setups.specs.Reading.{read_setup}
 use Rattle.setups.specs.Member.{member_setup}
 use Rattle.card.specs.Layout.{setup_of, in_use_of, is_member, member_in}
 use Rattle.card.specs.Sound.{is_sound}
@@ -20,6 +23,23 @@ use Rattle.difference.specs.Difference.{value_at, lookup_told}
 use Rattle.difference.specs.Under.{lookup_under, merge_under}
 use Rattle.salvage.specs.Salvage.{Salvage, salvage_under}
 use Rattle.demands.specs.RoundTrip.{capture}
+
+-- What was read of a packed setup has member m: it is not refused, and m is 1 to N.
+pub record HasMember (o : ReadOutcome) (m : ℕ) : Type 0 where
+  pub read : o.answer ≡ reading.Done
+  pub low : 1 ≤ m
+  pub high : m ≤ o.setup.members
+
+-- What the setup says of m, by which requests 7 and 8 go: m is known exactly if it is a member; its queue count and the device
+-- features are those that were read. Example: ../proofs/ListsExample.antt
+pub record SaysOf (setup : List ℕ) (m : ℕ) : Type 0 where
+  pub known : HasMember (read_setup setup) m → (member_setup setup m).known ≡ true
+  pub only : (member_setup setup m).known ≡ true → HasMember (read_setup setup) m
+  pub queues : (member_setup setup m).known ≡ true → (member_setup setup m).queues ≡ get_or (read_setup setup).setup.queues (m - 1) 0
+  pub features : (member_setup setup m).known ≡ true → (member_setup setup m).features ≡ (read_setup setup).setup.features
+
+abbrev pub MembersKnown : Type 0
+MembersKnown = (setup : List ℕ) (m : ℕ) → SaysOf setup m
 
 -- Member m of a sound card is stopped and has a live set object j, and parts set, 0x10, is in use.
 pub record Settable (c : List ℕ) (m j : ℕ) : Type 0 where

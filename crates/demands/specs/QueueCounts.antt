@@ -1,8 +1,9 @@
 -- REQUEST 9, SPEC 13.9: packed setups, and queue counts that differ. What is claimed of a card that is set up from a packed setup
 -- and of queue counts, and worked examples, in the form of Examples.antt. Assumes nothing.
-use Rattle.std.specs.Prelude.{◌≡◌, true, List, [], ◌∷◌, ◌++◌, map, ℕ, replicate, take}
+use Rattle.std.specs.Prelude.{◌≡◌, true, List, [], ◌∷◌, ◌++◌, map, ℕ, ◌≤◌, replicate, take}
 use Rattle.setups.specs.Writing.{written as packed_in}
 use Rattle.card.specs.Layout.{card_size, is_member, member_in}
+use Rattle.card.specs.Sound.{is_sound}
 use Rattle.events.specs.Events.{set_up, set_up_from}
 use Rattle.host.specs.declared.Command.TheVariants as host
 use Rattle.host.specs.Request.{get_all, set_parts}
@@ -20,6 +21,11 @@ SetUpFromPacked =
 -- No call changes a queue count, the resets included. Example: ../proofs/QueueCounts.antt
 abbrev pub QueuesKept : Type 0
 QueuesKept = (c : List ℕ) (m : ℕ) → is_member c m ≡ true → (x : Call) → (member_in (step c x).0 m).queues ≡ (member_in c m).queues
+
+-- A member of a sound card has 1 to 4 queues. Example: ../proofs/QueueCounts.antt
+abbrev pub CountsInRange : Type 0
+CountsInRange =
+    (c : List ℕ) → is_sound c ≡ true → (m : ℕ) → is_member c m ≡ true → (1 ≤ (member_in c m).queues) × ((member_in c m).queues ≤ 4)
 
 -- ---- worked examples ----
 

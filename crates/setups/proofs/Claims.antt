@@ -3,35 +3,25 @@ use mathlib.Core.Path.{◌≡◌, refl, ap, sym}
 use mathlib.Core.List.{List}
 use Prim.Native.Nat.{ℕ, ◌≤◌}
 use native.Mathlib.Omega.{arith}
-use borrow.Author.Tests.{eqb-true, leb-true}
-use lib.Dec.{leb, eqb}
+use lib.Dec.{eqb}
 use lib.ListN.{length, take, length-append}
 use lib.Seq.{take_at}
-use Rattle.theory.specs.Logic.{if◌then◌else◌, unless◌answer◌then◌}
-use Rattle.theory.specs.Bytes.{put}
+use Rattle.theory.specs.Logic.{if◌then◌else◌}
 use Rattle.theory.proofs.Tests.{by_cases, never}
 use Rattle.theory.proofs.Bytes.{put_front, drop-after}
 use Rattle.setups.specs.declared.ReadAnswer.TheVariants.{Done, Version2}
-use Rattle.setups.specs.Setup.{features_size, in_numbers}
 use Rattle.setups.specs.Reading.{version_in, read_version1, read_setup}
-use Rattle.setups.specs.Writing.{packed_setup, placed, written, InNumbers}
+use Rattle.setups.specs.Writing.{packed_setup, written}
 use Rattle.setups.specs.Claims.{ReadsBack, InRange, Claims}
-use Rattle.setups.proofs.Ranges.{numbers-in}
 use Rattle.setups.proofs.ReadBack.{reads-back, reads-version-1}
 use Rattle.setups.proofs.InRange.{read-cases}
 use Rattle.setups.proofs.Member.{member-in-range}
+use Rattle.setups.proofs.Accepted.{written-cases, writes, reads}
+use Rattle.setups.proofs.WrittenBack.{written_back}
 
 -- ---- the writer ----
 
 module _ (buffer : List ℕ) (members : ℕ) (q : List ℕ) (gets sets : ℕ) (features : List ℕ) where
-  -- what was written, where it was not refused
-  record Some (n : ℕ) (b : List ℕ) : Type 0 where
-    numbers : InNumbers members q gets sets
-    long : length features ≡ features_size
-    fits : length (packed_setup members q gets sets features) ≤ length buffer
-    count : n ≡ length (packed_setup members q gets sets features)
-    after : b ≡ put 0 (packed_setup members q gets sets features) buffer
-
   not-empty : length features ≤ length (packed_setup members q gets sets features)
   unfolding packed_setup
   not-empty = rw length-append (omega arith)
@@ -40,25 +30,8 @@ module _ (buffer : List ℕ) (members : ℕ) (q : List ℕ) (gets sets : ℕ) (f
     refused-leaves : ◌≡◌ {A = ℕ × List ℕ} (n, b) (0, buffer) → b ≡ buffer
     refused-leaves d = ap (λ (x : ℕ × List ℕ). x.1) d
 
-    written-cases : {P : Type 0} → (◌≡◌ {A = ℕ × List ℕ} (n, b) (0, buffer) → P) → (Some n b → P) → P
-    unfolding written placed unless◌answer◌then◌
-    written-cases f g =
-        by_cases (in_numbers members q gets sets)
-        (λ t. by_cases (eqb (length features) features_size)
-        (λ u. by_cases (leb (length (packed_setup members q gets sets features)) (length buffer))
-        (λ v.
-        let d = rw (t, u, v) at e in
-        g (record {
-          numbers = numbers-in members q gets sets t;
-          long = eqb-true _ _ u;
-          fits = leb-true _ _ v;
-          count = ap (λ (x : ℕ × List ℕ). x.0) d;
-          after = ap (λ (x : ℕ × List ℕ). x.1) d;
-        }))
-        (λ v. f (rw (t, u, v) at e))) (λ u. f (rw (t, u) at e))) (λ t. f (rw t at e))
-
     read-back : (n ≡ 0 → ⊥) → ReadsBack buffer members q gets sets features n b
-    read-back z = written-cases (λ d. absurd (z (ap (λ (x : ℕ × List ℕ). x.0) d))) λ s.
+    read-back z = written-cases buffer members q gets sets features n b e (λ d. absurd (z (ap (λ (x : ℕ × List ℕ). x.0) d))) λ s.
         let x = packed_setup members q gets sets features in
         let k : n ≡ length x = s.count in
         let t : take n b ≡ x = rw (s.after, put_front x buffer s.fits) (take_at x _ n (sym k)) in
@@ -69,7 +42,7 @@ module _ (buffer : List ℕ) (members : ℕ) (q : List ℕ) (gets sets : ℕ) (f
         }
 
     nothing_written : n ≡ 0 → b ≡ buffer
-    nothing_written z = written-cases refused-leaves λ s. absurd (omega (arith, not-empty))
+    nothing_written z = written-cases buffer members q gets sets features n b e refused-leaves λ s. absurd (omega (arith, not-empty))
 
 -- ---- the readers ----
 
@@ -89,10 +62,13 @@ in-range l =
 
 pub claims : Claims
 claims = record {
+  writer = writes;
+  readers = reads;
   reads_back = read-back;
   unwritten = λ buffer members q gets sets features b e. nothing_written buffer members q gets sets features 0 b e refl;
   alike = read_alike;
   never_named = never-named;
   in_range = in-range;
   member_in_range = member-in-range;
+  written_back = λ l buffer h room. written_back l h buffer room;
 }

@@ -25,7 +25,7 @@ counts-are l at step zero = refl
 counts-are l at step (suc n) =
     and_i _ _ (inside 1 4 (bits_at at 2 l + 1) (omega arith) (omega (arith, bits_below at 2 l))) (counts-are l (at + step) step n)
 
-counts-long : (l : List ℕ) (at step n : ℕ) → length (counts_from l at step n) ≡ n
+pub counts-long : (l : List ℕ) (at step n : ℕ) → length (counts_from l at step n) ≡ n
 unfolding counts_from
 counts-long l at step zero = refl
 counts-long l at step (suc n) = ap suc (counts-long l (at + step) step n)
@@ -49,11 +49,11 @@ setup-in-range l at step e h =
       features = rw length-drop (omega arith);
     }
 
-version-1-in-range : (l : List ℕ) → is_version1 l ≡ true → InRange (setup_at l 8 0)
+pub version-1-in-range : (l : List ℕ) → is_version1 l ≡ true → InRange (setup_at l 8 0)
 unfolding is_version1
 version-1-in-range l t = setup-in-range l 8 0 (both _ _ t).1 (version-1-long l t)
 
-version-2-in-range : (l : List ℕ) → is_version2 (members_in l) l ≡ true → InRange (setup_at l 24 2)
+pub version-2-in-range : (l : List ℕ) → is_version2 (members_in l) l ≡ true → InRange (setup_at l 24 2)
 unfolding is_version2
 version-2-in-range l t = setup-in-range l 24 2 (both _ _ (both _ _ (both _ _ t).0).0).1 (version-2-long l t)
 

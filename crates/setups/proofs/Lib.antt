@@ -5,5 +5,8 @@ pub mod Writing
 pub mod ReadBack
 pub mod InRange
 pub mod Member
+pub mod Accepted
+pub mod WrittenBack
 pub mod Claims
 pub mod Examples
+pub mod AcceptedExample

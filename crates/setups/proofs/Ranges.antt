@@ -1,5 +1,5 @@
 -- A test of every number of a list, and the loop that makes it. Assumes nothing.
-use mathlib.Core.Path.{◌≡◌, sym, ◌∙◌}
+use mathlib.Core.Path.{◌≡◌, refl, sym, ◌∙◌}
 use mathlib.Core.Bool.{Bool, true, false}
 use mathlib.Core.List.{List, [], ◌∷◌}
 use Prim.Native.Nat.{ℕ, zero, suc, ◌+◌, ◌-◌, ◌≤◌, ◌<◌}
@@ -9,7 +9,7 @@ use borrow.Author.Tests.{eqb-true, leb-true}
 use lib.ListN.{length, get_or, drop, drop_of_length-le}
 use lib.Seq.{drop-cons}
 use Rattle.theory.specs.Logic.{◌and◌}
-use Rattle.theory.proofs.Tests.{true-and, false-and, both, within_low, within-high}
+use Rattle.theory.proofs.Tests.{true-and, false-and, both, and_i, within_low, within-high}
 use Rattle.setups.specs.Setup.{most_members, in_ranges, all, is_count, in_numbers}
 use Rattle.setups.specs.Writing.{InNumbers}
 
@@ -35,6 +35,12 @@ unfolding all
 all-at f [] i e h = absurd (omega arith)
 all-at f (x ∷ l) zero e h = (both _ _ e).0
 all-at f (x ∷ l) (suc i) e h = all-at f l i (both _ _ e).1 (omega arith)
+
+-- and where each passes, all do
+pub all_of : (f : ℕ → Bool) (l : List ℕ) → ((i : ℕ) → i < length l → f (get_or l i 0) ≡ true) → all f l ≡ true
+unfolding all
+all_of f [] h = refl
+all_of f (x ∷ l) h = and_i _ _ (h 0 (omega arith)) (all_of f l λ i k. h (suc i) (omega arith))
 
 -- a queue count less one
 pub count_less : (q : ℕ) → is_count q ≡ true → q - 1 ≤ 3

@@ -2,12 +2,11 @@
 use mathlib.Core.Path.{◌≡◌, refl, ◌∙◌}
 use mathlib.Core.Bool.{true}
 use mathlib.Core.List.{List}
-use Prim.Native.Nat.{ℕ, ◌+◌, ◌-◌, ◌≤◌}
+use Prim.Native.Nat.{ℕ}
 use native.Mathlib.Omega.{arith}
 use lib.ListN.{length}
 use borrow.Author.Tests.{leb-true}
 use Rattle.theory.proofs.Tests.{unless-cases}
-use Rattle.member.specs.Record.{holding_size}
 use Rattle.card.specs.Layout.{setup_of}
 use Rattle.card.specs.Sound.{is_sound}
 use Rattle.card.proofs.HeaderLaws.{setup-with-use}
@@ -22,7 +21,7 @@ use Rattle.admin.proofs.Respond.{card-cases}
 use Rattle.admin.proofs.Marks.{respond-mark}
 use Rattle.staging.specs.Staging.{held_in, held_bytes, begin_of, feed_of, finish_of, drop_of}
 use Rattle.staging.proofs.Refusals.{on-member-cases, on-open-cases}
-use Rattle.staging.proofs.Places.{number-sound, held-sound, gone-sound}
+use Rattle.staging.proofs.Places.{few-fed, number-sound, held-sound, gone-sound}
 
 -- a command leaves the setup
 perform-setup : (c r : List ℕ) (a : Ask) → setup_of (perform c r a).card ≡ setup_of c
@@ -38,9 +37,6 @@ respond-setup c r room = card-cases c r room (λ d. setup_of d ≡ setup_of c) r
 
 abbrev Leaves : ℕ × List ℕ → Type 0
 Leaves y = is_sound y.1 ≡ true
-
-few-fed : (n x : ℕ) → n - 1 + x ≤ holding_size → n + x ≤ 1 + holding_size
-few-fed n x l = omega arith
 
 module _ (c : List ℕ) (m : ℕ) (s : is_sound c ≡ true) where
   pub begin-sound : is_sound (begin_of c m).1 ≡ true

@@ -19,6 +19,10 @@ use Rattle.card.proofs.MarkLaws.{marked-is, mark-with-member, mark-behind}
 use Rattle.card.proofs.SoundLaws.{Sound, SoundIn, sound-of, is-sound, sound-has, sound-member-in, sound-with-member, sound-with-holding}
 use Rattle.staging.specs.Staging.{held_in, is_open, held_bytes, with_held_bytes, without_held}
 
+-- what is held with a fragment of x bytes more
+pub few-fed : (n x : ℕ) → n - 1 + x ≤ holding_size → n + x ≤ 1 + holding_size
+few-fed n x l = omega arith
+
 module _ (c : List ℕ) (m : ℕ) where
   -- to put what is there changes nothing
   pub holding-back : with_holding c m (holding_in c m) ≡ c
@@ -70,8 +74,8 @@ module _ (c : List ℕ) (m : ℕ) (e : is_sound c ≡ true) (h : is_member c m �
     pub number-sound : Sound (with_member c m (with_held (member_in c m) n))
     number-sound = sound-with-member c m _ (facts c m e h) (low c m e h) member-sound
 
-    member-put : member_in (with_member c m (with_held (member_in c m) n)) m ≡ with_held (member_in c m) n
-    member-put = member-same c m _ (has c m e h) member-sound.shaped
+    pub number_put : member_in (with_member c m (with_held (member_in c m) n)) m ≡ with_held (member_in c m) n
+    number_put = member-same c m _ (has c m e h) member-sound.shaped
 
     module _ (x : List ℕ) where
       pub held-sound : is_sound (with_held_bytes c m n x) ≡ true
@@ -84,7 +88,7 @@ module _ (c : List ℕ) (m : ℕ) (e : is_sound c ≡ true) (h : is_member c m �
 
       pub held_number : member_in (with_held_bytes c m n x) m ≡ with_held (member_in c m) n
       unfolding with_held_bytes
-      held_number = member-with-holding _ m x m (low c m e h) (low c m e h) ∙ member-put
+      held_number = member-with-holding _ m x m (low c m e h) (low c m e h) ∙ number_put
 
       pub held-bytes : length x ≡ holding_size → holding_in (with_held_bytes c m n x) m ≡ x
       unfolding with_held_bytes
