@@ -13,9 +13,10 @@ pub returns-then-n-gt99 : goal.returns-then-n-gt99
 returns-then-n-gt99 c = number-large _ _ _ c.loop-i.invariant.1 c.loop-i-test.true c.if-n-gt99.true
 
 pub loop-i-preserved : goal.loop-i-preserved
-loop-i-preserved c =
-    (omega arith
-    , number-on _ _ _ c.loop-i.invariant.1 c.loop-i-test.true (omega arith) (omega arith) (omega arith))
+loop-i-preserved c = (
+  omega arith,
+  number-on _ _ _ c.loop-i.invariant.1 c.loop-i-test.true (omega arith) (omega arith) (omega arith),
+)
 
 pub returns : goal.returns
 returns c = number-end _ _ _ c.loop-i.invariant.1 (omega arith)
