@@ -1,4 +1,5 @@
 // Parts by name: what differs between two captures, and what is salvaged of a torn one.
+use std::io;
 
 // A full capture of two queues: the reply's head and the list of all parts.
 pub const CAPTURE: usize = 309;
@@ -11,65 +12,66 @@ const TORN: usize = 158;
 
 const HEADER: usize = 16;
 
-fn name_part(part_type: u16, selector: u64) {
+fn name_part(rt: &impl Print, part_type: u16, selector: u64) -> io::Result<()> {
     match part_type {
-        0x100 => transcript::print(b"device features"),
-        0x101 => transcript::print(b"driver features"),
-        0x102 => transcript::print(b"PCI field"),
-        0x103 => transcript::print(b"device status"),
-        0x104 => transcript::print(b"queue"),
-        0x105 => transcript::print(b"queue notify"),
-        _ => transcript::print(b"?"),
+        0x100 => transcript::print(rt, b"device features")?,
+        0x101 => transcript::print(rt, b"driver features")?,
+        0x102 => transcript::print(rt, b"PCI field")?,
+        0x103 => transcript::print(rt, b"device status")?,
+        0x104 => transcript::print(rt, b"queue")?,
+        0x105 => transcript::print(rt, b"queue notify")?,
+        _ => transcript::print(rt, b"?")?,
     }
     if part_type == 0x102 || part_type == 0x104 || part_type == 0x105 {
-        transcript::print(b" ");
-        transcript::print_number(selector);
+        transcript::print(rt, b" ")?;
+        transcript::print_number(rt, selector)?;
     }
+    Ok(())
 }
 
-fn show_area(address: u64) {
-    transcript::print(b" ");
-    transcript::print_address(address);
+fn show_area(rt: &impl Print, address: u64) -> io::Result<()> {
+    transcript::print(rt, b" ")?;
+    transcript::print_address(rt, address)
 }
 
-fn show_queue(value: &[u8]) {
+fn show_queue(rt: &impl Print, value: &[u8]) -> io::Result<()> {
     if value.len() < 32 {
-        return;
+        return Ok(());
     }
-    transcript::print(b"size ");
-    transcript::print_number(wire::read(value, 0, 2));
-    transcript::print(b", vector ");
-    transcript::print_number(wire::read(value, 2, 2));
-    transcript::print(b", enabled ");
-    transcript::print_number(wire::read(value, 4, 2));
-    transcript::print(b"\n      areas");
-    show_area(wire::read(value, 8, 8));
-    show_area(wire::read(value, 16, 8));
-    show_area(wire::read(value, 24, 8));
-    transcript::print(b"\n");
+    transcript::print(rt, b"size ")?;
+    transcript::print_number(rt, wire::read(value, 0, 2))?;
+    transcript::print(rt, b", vector ")?;
+    transcript::print_number(rt, wire::read(value, 2, 2))?;
+    transcript::print(rt, b", enabled ")?;
+    transcript::print_number(rt, wire::read(value, 4, 2))?;
+    transcript::print(rt, b"\n      areas")?;
+    show_area(rt, wire::read(value, 8, 8))?;
+    show_area(rt, wire::read(value, 16, 8))?;
+    show_area(rt, wire::read(value, 24, 8))?;
+    transcript::print(rt, b"\n")
 }
 
-fn show_value(part_type: u16, value: &[u8]) {
+fn show_value(rt: &impl Print, part_type: u16, value: &[u8]) -> io::Result<()> {
     if part_type == 0x104 {
-        show_queue(value);
+        show_queue(rt, value)
     } else {
-        transcript::print_hex(value);
+        transcript::print_hex(rt, value)
     }
 }
 
 // One part of two captures, named if it differs.
-fn show_part(before: &[u8], after: &[u8]) {
+fn show_part(rt: &impl Print, before: &[u8], after: &[u8]) -> io::Result<()> {
     if wire::equal(before, after) {
-        return;
+        return Ok(());
     }
     if after.len() < HEADER {
-        return;
+        return Ok(());
     }
     let part_type = wire::read_u16(after, 0);
-    transcript::print(b"    ");
-    name_part(part_type, wire::read(after, 4, 8));
-    transcript::print(b": ");
-    show_value(part_type, &after[HEADER..]);
+    transcript::print(rt, b"    ")?;
+    name_part(rt, part_type, wire::read(after, 4, 8))?;
+    transcript::print(rt, b": ")?;
+    show_value(rt, part_type, &after[HEADER..])
 }
 
 // The place after the part at this place; the end where no whole part stands here.
@@ -90,60 +92,70 @@ fn next_part(at: usize, list: &[u8]) -> usize {
 }
 
 // The part at this place of two captures; answers the place of the next one.
-fn show_change(at: usize, before: &[u8], after: &[u8]) -> usize {
+fn show_change(rt: &impl Print, at: usize, before: &[u8], after: &[u8]) -> io::Result<usize> {
     let next = next_part(at, after);
     if next < at {
-        return next;
+        return Ok(next);
     }
     if before.len() < next {
-        return next;
+        return Ok(next);
     }
     if after.len() < next {
-        return next;
+        return Ok(next);
     }
-    show_part(&before[at..next], &after[at..next]);
-    next
+    show_part(rt, &before[at..next], &after[at..next])?;
+    Ok(next)
 }
 
-pub fn show_changes(before: &[u8], after: &[u8]) {
-    transcript::print(b"  changed:\n");
+pub fn show_changes(rt: &impl Print, before: &[u8], after: &[u8]) -> io::Result<()> {
+    transcript::print(rt, b"  changed:\n")?;
     let mut at = HEAD;
-    let mut i = 0;
-    while i < PARTS {
-        at = show_change(at, before, after);
-        i += 1;
+    for _ in 0..PARTS {
+        at = show_change(rt, at, before, after)?;
     }
+    Ok(())
 }
 
 // ---- a torn capture ----
 
-fn name_part_at(at: usize, list: &[u8]) {
+fn name_part_at(rt: &impl Print, at: usize, list: &[u8]) -> io::Result<()> {
     if list.len() < HEADER {
-        return;
+        return Ok(());
     }
     if list.len() - HEADER < at {
-        return;
+        return Ok(());
     }
-    transcript::print(b"  ");
-    name_part(wire::read_u16(list, at), wire::read(list, at + 4, 8));
+    transcript::print(rt, b"  ")?;
+    name_part(rt, wire::read_u16(list, at), wire::read(list, at + 4, 8))
 }
 
 // The parts of the list of this fate: 1 kept, 0 filled.
-fn show_fate(name: &[u8], fate: u8, list: &[u8], kept: &[u8; PARTS]) {
-    transcript::print(name);
+fn show_fate(
+    rt: &impl Print,
+    name: &[u8],
+    fate: u8,
+    list: &[u8],
+    kept: &[u8; PARTS],
+) -> io::Result<()> {
+    transcript::print(rt, name)?;
     let mut at = 0;
-    let mut i = 0;
-    while i < PARTS {
+    for i in 0..PARTS {
         if kept[i] == fate {
-            name_part_at(at, list);
+            name_part_at(rt, at, list)?;
         }
         at = next_part(at, list);
-        i += 1;
     }
-    transcript::print(b"\n");
+    transcript::print(rt, b"\n")
 }
 
-fn salvage(setup: &[u8], member: u64, torn: &[u8], list: &mut [u8], kept: &mut [u8]) {
+fn salvage(
+    rt: &impl Print,
+    setup: &[u8],
+    member: u64,
+    torn: &[u8],
+    list: &mut [u8],
+    kept: &mut [u8],
+) -> io::Result<()> {
     let mut dropped = [0u32; 4];
     let mut left = 0u32;
     let written = kajurnat::kajurnat_salvage(
@@ -155,22 +167,28 @@ fn salvage(setup: &[u8], member: u64, torn: &[u8], list: &mut [u8], kept: &mut [
         &mut dropped,
         &mut left,
     );
-    transcript::print(b"  salvage                   ");
-    transcript::print_number(torn.len() as u64);
-    transcript::print(b" bytes -> ");
-    transcript::print_number(written as u64);
-    transcript::print(b" bytes; left over at the end: ");
-    transcript::print_number(left as u64);
-    transcript::print(b"\n");
+    transcript::print(rt, b"  salvage                   ")?;
+    transcript::print_number(rt, torn.len() as u64)?;
+    transcript::print(rt, b" bytes -> ")?;
+    transcript::print_number(rt, written as u64)?;
+    transcript::print(rt, b" bytes; left over at the end: ")?;
+    transcript::print_number(rt, left as u64)?;
+    transcript::print(rt, b"\n")
 }
 
 // What the torn capture still holds, as a list for the member; the capture comes with the reply's head.
-pub fn salvage_torn(setup: &[u8], member: u64, capture: &[u8], list: &mut [u8]) {
+pub fn salvage_torn(
+    rt: &impl Print,
+    setup: &[u8],
+    member: u64,
+    capture: &[u8],
+    list: &mut [u8],
+) -> io::Result<()> {
     if capture.len() < CAPTURE {
-        return;
+        return Ok(());
     }
     let mut kept = [0u8; PARTS];
-    salvage(setup, member, &capture[HEAD..TORN], list, &mut kept);
-    show_fate(b"    kept:", 1, list, &kept);
-    show_fate(b"    filled:", 0, list, &kept);
+    salvage(rt, setup, member, &capture[HEAD..TORN], list, &mut kept)?;
+    show_fate(rt, b"    kept:", 1, list, &kept)?;
+    show_fate(rt, b"    filled:", 0, list, &kept)
 }

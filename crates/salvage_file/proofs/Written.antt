@@ -9,7 +9,7 @@ use lib.Seq.{length-take-le}
 use Rattle.theory.specs.Logic.{if◌then◌else◌, unless◌answer◌then◌}
 use Rattle.theory.proofs.Tests.{by_cases}
 use Rattle.theory.proofs.Bytes.{length-put}
-use Rattle.io.specs.Counts.{IsPrefixLen}
+use Rattle.salvage_file.specs.Counts.{IsPrefixLen}
 use Rattle.inventory.specs.Inventory.{parts_size}
 use Rattle.setups.specs.declared.MemberSetup.{MemberSetup}
 use Rattle.salvage.specs.Salvage.{repaired, Salvage, is_taken, salvaged, salvage_of, salvage_under}

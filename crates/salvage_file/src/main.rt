@@ -5,9 +5,9 @@
 mod input;
 mod report;
 
-ghost use Rattle.io.specs.Counts.{IsPrefixLen};
+ghost use Rattle.salvage_file.specs.Counts.{IsPrefixLen};
 
-use libc::{STDIN_FILENO, STDOUT_FILENO};
+use std::{fs, io};
 
 // One byte more than the longest setup, of 16 members in version 2, and one more than the longest list: what is longer than
 // these is refused for its length.
@@ -20,6 +20,12 @@ const LIST_ROOM: usize = 445;
 const PARTS: usize = 15;
 
 const CAUSES: usize = 4;
+
+// The longest path, and the zero behind it.
+const PATH_ROOM: usize = 4096;
+
+// The system's number for text that is none.
+const EILSEQ: i32 = 84;
 
 // The library's call; what it writes is part of the list.
 fn salvaged(
@@ -36,7 +42,13 @@ fn salvaged(
     salvage::salvage(setup, member, damaged, list, kept, dropped, left)
 }
 
-fn repair(setup: &[u8], member: u64, queues: u8, damaged: &[u8]) {
+fn repair(
+    rt: &HostRuntime,
+    setup: &[u8],
+    member: u64,
+    queues: u8,
+    damaged: &[u8],
+) -> io::Result<()> {
     let mut list = [0u8; LIST_ROOM];
     let mut kept = [0u8; PARTS];
     let mut dropped = [0u32; CAUSES];
@@ -51,70 +63,66 @@ fn repair(setup: &[u8], member: u64, queues: u8, damaged: &[u8]) {
         &mut left,
     );
     if n == 0 {
-        report::too_long();
-        return;
+        return report::too_long(&rt.stderr());
     }
-    if !io::write_all(STDOUT_FILENO, &list[..n]) {
-        report::not_written();
-        return;
+    if let Err(e) = rt.write_all(&list[..n]) {
+        return report::not_written(&rt.stderr(), &e);
     }
-    report::show(queues, &kept, &dropped, left);
+    report::show(&rt.stderr(), queues, &kept, &dropped, left)
 }
 
-fn read_damaged(setup: &[u8], member: u64, queues: u8) {
+fn read_damaged(rt: &HostRuntime, setup: &[u8], member: u64, queues: u8) -> io::Result<()> {
     let mut damaged = [0u8; DAMAGED_ROOM];
-    let n = io::read_full(STDIN_FILENO, &mut damaged);
-    if !input::is_whole(STDIN_FILENO, n, DAMAGED_ROOM) {
-        report::not_read(b"standard input");
-        return;
+    match input::read_whole(&mut rt.stdin(), &mut damaged) {
+        Ok(n) => repair(rt, setup, member, queues, &damaged[..n]),
+        Err(e) => report::not_read(&rt.stderr(), b"standard input", &e),
     }
-    repair(setup, member, queues, &damaged[..n]);
 }
 
-fn find_member(setup: &[u8], path: &[u8]) {
+fn find_member(rt: &HostRuntime, setup: &[u8], path: &[u8]) -> io::Result<()> {
     let outcome = setups::read(setup);
     let members = outcome.setup.members;
     if members == 0 {
-        report::no_setup(path);
-        return;
+        return report::no_setup(&rt.stderr(), path);
     }
     let mut text = [0u8; 20];
-    let n = os::arg(2, &mut text);
+    let n = input::argument(rt, 2, &mut text);
     let member = input::number(&text[..n]);
     let m = setups::member_setup(setup, member);
     if !m.known {
-        report::no_member(members);
-        return;
+        return report::no_member(&rt.stderr(), members);
     }
-    read_damaged(setup, member, m.queues);
+    read_damaged(rt, setup, member, m.queues)
 }
 
-fn read_setup(fd: i32, path: &[u8]) {
+fn read_setup(rt: &HostRuntime, file: &mut fs::File, path: &[u8]) -> io::Result<()> {
     let mut setup = [0u8; SETUP_ROOM];
-    let n = io::read_full(fd, &mut setup);
-    if !input::is_whole(fd, n, SETUP_ROOM) {
-        report::not_read(path);
-        return;
+    match input::read_whole(file, &mut setup) {
+        Ok(n) => find_member(rt, &setup[..n], path),
+        Err(e) => report::not_read(&rt.stderr(), path, &e),
     }
-    find_member(&setup[..n], path);
 }
 
-fn open_setup(path: &[u8]) {
-    let fd = os::open_read(path);
-    if fd < 0 {
-        report::not_read(path);
-        return;
+// std opens what is named in UTF-8 alone; another name is one that the system cannot read.
+fn open(rt: &HostRuntime, path: &[u8]) -> io::Result<fs::File> {
+    match str::from_utf8(path) {
+        Ok(name) => fs::open(rt, name),
+        Err(_) => Err(io::Error::from_raw_os_error(EILSEQ)),
     }
-    read_setup(fd, path);
-    libc::close(fd);
 }
 
-fn main() {
-    if os::arg_count() != 3 {
-        report::usage();
-        return;
+fn open_setup(rt: &HostRuntime, path: &[u8]) -> io::Result<()> {
+    match open(rt, path) {
+        Ok(mut file) => read_setup(rt, &mut file, path),
+        Err(e) => report::not_read(&rt.stderr(), path, &e),
     }
-    let mut path = io::buffer();
-    let n = os::arg(1, &mut path);
-    open_setup(&path[..n]);
+}
+
+fn main(rt: HostRuntime) -> io::Result<()> {
+    if !input::has_argument(&rt, 2) || input::has_argument(&rt, 3) {
+        return report::usage(&rt.stderr());
+    }
+    let mut path = [0u8; PATH_ROOM];
+    let n = input::argument(&rt, 1, &mut path);
+    open_setup(&rt, &path[..n])
 }

@@ -3,7 +3,7 @@
 
 ghost use Rattle.std.specs.Prelude.{◌<◌};
 
-use libc::STDOUT_FILENO;
+use std::io;
 
 // The mask of all ten opcodes, and the kinds of objects.
 pub const ALL: u64 = 0x3fc03;
@@ -114,12 +114,12 @@ fn send_bytes(card: &mut [u8], bytes: &[u8], len: usize, reply: &mut [u8]) -> us
     kajurnat::kajurnat_command(card, &bytes[..len], reply)
 }
 
-pub fn print(text: &[u8]) {
-    io::write_all(STDOUT_FILENO, text);
+pub fn print(rt: &impl Print, text: &[u8]) -> io::Result<()> {
+    rt.write_all(text)
 }
 
-pub fn print_number(n: u64) {
-    io::print_decimal(STDOUT_FILENO, n);
+pub fn print_number(rt: &impl Print, n: u64) -> io::Result<()> {
+    rt.print(n)
 }
 
 const DIGITS: [u8; 16] = *b"0123456789abcdef";
@@ -140,30 +140,27 @@ fn separator(i: usize, n: usize) -> u8
 }
 
 // The bytes in hexadecimal, 16 to a line.
-pub fn print_hex(s: &[u8]) {
-    let mut i = 0;
-    while i < s.len() {
+pub fn print_hex(rt: &impl Print, s: &[u8]) -> io::Result<()> {
+    for i in 0..s.len() {
         let b = s[i];
         let text = [digit(b / 16), digit(b), separator(i, s.len())];
-        print(&text);
-        i += 1;
+        print(rt, &text)?;
     }
+    Ok(())
 }
 
-fn print_digits(text: &[u8; 16]) {
-    print(b"0x");
-    print(text);
+fn print_digits(rt: &impl Print, text: &[u8; 16]) -> io::Result<()> {
+    print(rt, b"0x")?;
+    print(rt, text)
 }
 
 // The number in hexadecimal, all sixteen digits of it.
-pub fn print_address(n: u64) {
+pub fn print_address(rt: &impl Print, n: u64) -> io::Result<()> {
     let mut text = [b'0'; 16];
     let mut rest = n;
-    let mut i = 16;
-    while 0 < i {
-        i -= 1;
+    for i in (0..16).rev() {
         text[i] = digit((rest % 16) as u8);
         rest /= 16;
     }
-    print_digits(&text);
+    print_digits(rt, &text)
 }
