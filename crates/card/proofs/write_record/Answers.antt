@@ -1,5 +1,3 @@
-use mathlib.Core.Path.{sym, ◌∙◌}
-use lib.ListN.{length-map}
 use borrow.Author.Rules.{rules}
 use Rattle.member.proofs.Record.{Shaped}
 use Rattle.card.proofs.WriteLaws.{record-written}

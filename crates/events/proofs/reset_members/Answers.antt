@@ -1,4 +1,3 @@
-use Prim.Native.Nat.{◌-◌}
 use borrow.Author.Rules.{rules}
 use Rattle.events.proofs.WriteLaws.{resetting-start, resetting-has, resetting-on, resetting-end}
 use Rattle.events.proofs.reset_members.Goals as goal

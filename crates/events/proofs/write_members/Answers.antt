@@ -1,4 +1,3 @@
-use Prim.Native.Nat.{◌-◌}
 use borrow.Author.Rules.{rules}
 use Rattle.events.proofs.WriteLaws.{writing_start, writing-has, writing-on, writing-end}
 use Rattle.events.proofs.write_members.Goals as goal

@@ -1,4 +1,3 @@
-use Prim.Native.Nat.{◌-◌}
 use borrow.Author.Rules.{rules}
 use Rattle.theory.proofs.Tests.{inside, below, above}
 use Rattle.setups.proofs.Ranges.{all-stop, all-on, all_end}

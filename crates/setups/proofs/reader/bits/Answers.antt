@@ -1,4 +1,3 @@
-use Prim.Native.Nat.{◌-◌}
 use borrow.Author.Rules.{rules}
 use Rattle.setups.proofs.Fields.{bits-start, bits-twice, bits-more, bits-on, bits-end, bits_small}
 use Rattle.setups.proofs.reader.bits.Goals as goal

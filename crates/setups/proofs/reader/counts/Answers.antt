@@ -1,4 +1,3 @@
-use Prim.Native.Nat.{◌-◌}
 use borrow.Author.Rules.{rules}
 use Rattle.setups.proofs.Reading.{counts_start, counts-on, counts_end}
 use Rattle.setups.proofs.reader.counts.Goals as goal

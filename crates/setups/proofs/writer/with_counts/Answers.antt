@@ -1,4 +1,3 @@
-use Prim.Native.Nat.{◌-◌}
 use borrow.Author.Rules.{rules}
 use Rattle.setups.proofs.Writing.{joining-start, joining-count, joining-fits, joining-sum, joining-on, joining-end, joining-room}
 use Rattle.setups.proofs.writer.with_counts.Goals as goal
