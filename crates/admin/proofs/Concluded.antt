@@ -6,7 +6,7 @@ use Prim.Native.Nat.{ℕ, ◌≤◌, ◌<◌}
 use lib.Dec.{leb}
 use lib.ListN.{length}
 use borrow.Author.Tests.{le-leb, lt-leb, not-true, not-false}
-use Rattle.theory.specs.Logic.{if◌then◌else◌, unless◌answer◌then◌, ◌and◌}
+use Rattle.theory.specs.Logic.{when◌then◌else◌, unless◌answer◌then◌, ◌and◌}
 use Rattle.theory.proofs.Tests.{by_cases, and-false}
 use Rattle.theory.proofs.Bytes.{put-nil}
 use Rattle.protocol.specs.declared.Answer.{Answer}
@@ -22,14 +22,14 @@ use Rattle.admin.specs.Command.{effect, ask_in, perform, conclude, respond, deli
 -- n and l' are what the writer left of the buffer l: answer a, result x
 module _ (c : List ℕ) (a : Answer) (x l l' : List ℕ) (n : ℕ) (e : (n, l') ≡ written (replied a x (length l)) l) where
   -- the card that stands is `next` after a success, c after a refusal
-  left : (next d : List ℕ) → d ≡ (if is_done (final_of a (length x) (length l)) then next else c)
+  left : (next d : List ℕ) → d ≡ (when is_done (final_of a (length x) (length l)) then next else c)
       → (n, (d, l')) ≡ delivered (conclude c (length l) (effect a next x)) l
   unfolding conclude delivered written
   left next d h = rw (h, ap (λ (y : ℕ × List ℕ). y.0) e, ap (λ (y : ℕ × List ℕ). y.1) e)
 
   -- nothing was to change
   pub kept : (n, (c, l')) ≡ delivered (conclude c (length l) (effect a c x)) l
-  unfolding if◌then◌else◌
+  unfolding when◌then◌else◌
   kept = left c c (by_cases (is_done (final_of a (length x) (length l))) (λ d. rw d) (λ d. rw d))
 
 -- a reply with no result always fits
@@ -42,11 +42,11 @@ module _ (c : List ℕ) (a : Answer) (l l' : List ℕ) (n : ℕ) (room : head_si
 
   module _ (b : Bool) (said : b ≡ is_done a) (next : List ℕ) where
     pub refused : not b ≡ true → (n, (c, l')) ≡ delivered (conclude c (length l) (effect a next [])) l
-    unfolding if◌then◌else◌
+    unfolding when◌then◌else◌
     refused t = left c a [] l l' n full next c (rw (final-empty a (length l) room, sym said ∙ not-true b t))
 
     pub changed : (d : List ℕ) → not b ≡ false → d ≡ next → (n, (d, l')) ≡ delivered (conclude c (length l) (effect a next [])) l
-    unfolding if◌then◌else◌
+    unfolding when◌then◌else◌
     changed d t h = left c a [] l l' n full next d (h ∙ rw (final-empty a (length l) room, sym said ∙ not-false b t))
 
 -- list use: its reply is 8 bytes, so it always stands

@@ -6,7 +6,7 @@ use Prim.Native.Nat.{ℕ, ◌+◌, ◌≤◌}
 use lib.Dec.{leb}
 use lib.ListN.{length}
 use borrow.Author.Tests.{leb-true, le-leb}
-use Rattle.theory.specs.Logic.{if◌then◌else◌, unless◌answer◌then◌, ◌and◌}
+use Rattle.theory.specs.Logic.{when◌then◌else◌, unless◌answer◌then◌, ◌and◌}
 use Rattle.theory.proofs.Tests.{both, if-cases, unless-cases}
 use Rattle.protocol.specs.declared.Answer.{Answer}
 use Rattle.protocol.specs.Answers.{is_done}
@@ -34,7 +34,7 @@ abbrev pub last_answer : ℕ → Effect → Answer
 last_answer room e = final_of e.outcome (length e.result) room
 
 abbrev pub ended : List ℕ → ℕ → Effect → List ℕ × List ℕ
-ended c room e = (if is_done (last_answer room e) then e.card else c, reply_of (last_answer room e) e.result)
+ended c room e = (when is_done (last_answer room e) then e.card else c, reply_of (last_answer room e) e.result)
 
 module _ (c r : List ℕ) (room : ℕ) where
   -- step 1

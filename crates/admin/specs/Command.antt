@@ -1,6 +1,6 @@
 -- A command, whole: SPEC 6.1. Assumes nothing.
 use Rattle.std.specs.Prelude.{List, [], ℕ, ◌+◌, leb, length}
-use Rattle.theory.specs.Logic.{if◌then◌else◌, unless◌answer◌then◌, ◌and◌}
+use Rattle.theory.specs.Logic.{when◌then◌else◌, unless◌answer◌then◌, ◌and◌}
 use Rattle.wire.specs.Le.{bytes}
 use Rattle.protocol.specs.declared.Answer.{Answer}
 use Rattle.protocol.specs.declared.Answer.TheVariants.{Done}
@@ -53,7 +53,7 @@ perform c r (Change m op) =
 -- steps 11 and 12: the card after, which a refusal leaves as it was, and the reply
 unfoldable pub conclude : List ℕ → ℕ → Effect → List ℕ × List ℕ
 conclude c room e =
-    (if is_done (final_of e.outcome (length e.result) room) then e.card else c, replied e.outcome e.result room)
+    (when is_done (final_of e.outcome (length e.result) room) then e.card else c, replied e.outcome e.result room)
 
 -- a command on a card, with room for so many bytes of reply: the card after it and the reply
 unfoldable pub respond : List ℕ → List ℕ → ℕ → List ℕ × List ℕ

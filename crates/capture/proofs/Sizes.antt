@@ -7,7 +7,7 @@ use native.Mathlib.Omega.{arith}
 use borrow.Author.Tests.{eqb-true}
 use lib.Dec.{eqb}
 use lib.ListN.{length, length-append}
-use Rattle.theory.specs.Logic.{if◌then◌else◌}
+use Rattle.theory.specs.Logic.{when◌then◌else◌}
 use Rattle.theory.proofs.Tests.{by_cases}
 use Rattle.theory.proofs.Sums.{sum_from, length-items}
 use Rattle.inventory.proofs.Values.{value-long}
@@ -24,10 +24,10 @@ part_length v i h e = rw (length-append, length-header, value-long v e i h)
 
 -- an item that is written if a test holds
 abbrev chosen_size : Bool → ℕ → ℕ
-chosen_size t n = if t then n else 0
+chosen_size t n = when t then n else 0
 
-length-if : (t : Bool) (x : List ℕ) (n : ℕ) → length x ≡ n → length (if t then x else []) ≡ chosen_size t n
-unfolding if◌then◌else◌
+length-if : (t : Bool) (x : List ℕ) (n : ℕ) → length x ≡ n → length (when t then x else []) ≡ chosen_size t n
+unfolding when◌then◌else◌
 length-if true x n e = e
 length-if false x n e = refl
 
@@ -35,7 +35,7 @@ abbrev pub item_size : Selection → ℕ → List ℕ → ℕ → ℕ
 item_size selection q list i = chosen_size (asks selection q list (row_at i)) (header_size + (row_at i).size)
 
 pub size-most : (selection : Selection) (q : ℕ) (list : List ℕ) (i : ℕ) → i < row_count → item_size selection q list i ≤ 272
-unfolding if◌then◌else◌
+unfolding when◌then◌else◌
 size-most selection q list i h =
     by_cases (asks selection q list (row_at i)) (λ e. rw e (omega (arith, size_below i h))) (λ e. rw e (omega arith))
 

@@ -10,7 +10,7 @@ use mir.Syntax.{w32, w64}
 use mir.Val.{Fits}
 use lib.Dec.{leb}
 use lib.ListN.{length, get_or, take, drop, length-append}
-use Rattle.theory.specs.Logic.{if◌then◌else◌}
+use Rattle.theory.specs.Logic.{when◌then◌else◌}
 use Rattle.theory.specs.Bytes.{bytes_at, put}
 use Rattle.theory.proofs.Bytes.{put-comm, put-append, bytes_at-put-as, length-bytes_at}
 use Rattle.theory.proofs.Items.{Written, written-room, written_next, written-skip}
@@ -75,7 +75,7 @@ chosen-row Asked q list i = rw (present-at q i, type_at i, selector-at i)
 module _ (q : ℕ) (out₀ out : List ℕ) (at i : ℕ) (w : Written (header_item q) row_count 0 out₀ out at i) (h : i < row_count)
     (b : Bool) (told : b ≡ present q (row (get_or types i 0) (get_or selectors i 0) 0)) where
   header-item : b ≡ true → header_item q i ≡ header_of (entry i)
-  unfolding header_item if◌then◌else◌
+  unfolding header_item when◌then◌else◌
   header-item y = rw (← present-at q i, ← told, y, row-at i)
 
   pub headers-room : b ≡ true → at + header_size ≤ length out
@@ -90,14 +90,14 @@ module _ (q : ℕ) (out₀ out : List ℕ) (at i : ℕ) (w : Written (header_ite
       wrote-next _ _ _ _ _ out' _ _ _ _ w h (header-item y) (record { buffer = e; place = rw length-header })
 
   pub headers-skip : b ≡ false → Written (header_item q) row_count 0 out₀ out at (i + 1)
-  unfolding header_item if◌then◌else◌
+  unfolding header_item when◌then◌else◌
   headers-skip n = written-skip _ _ _ _ _ _ _ w h (rw (← present-at q i, ← told, n))
 
 module _ (selection : Selection) (q : ℕ) (list v out₀ out : List ℕ) (at i : ℕ)
     (w : Written (part_item selection q list v) row_count 0 out₀ out at i) (h : i < row_count)
     (b : Bool) (told : b ≡ asks selection q list (row (get_or types i 0) (get_or selectors i 0) 0)) where
   part-item : b ≡ true → part_item selection q list v i ≡ header_of (entry i) ++ bytes_at (get_or offsets i 0) (get_or sizes i 0) v
-  unfolding part_item part_at if◌then◌else◌
+  unfolding part_item part_at when◌then◌else◌
   part-item y = rw (← chosen-row selection q list i, ← told, y, row-at i, offset-at i h, size-at i)
 
   pub parts-room : length v ≡ values_size → b ≡ true → at + (header_size + get_or sizes i 0) ≤ length out
@@ -112,12 +112,12 @@ module _ (selection : Selection) (q : ℕ) (list v out₀ out : List ℕ) (at i 
   parts-on out' next y d = wrote-next _ _ _ _ _ out' _ _ next _ w h (part-item y) d
 
   pub parts-skip : b ≡ false → Written (part_item selection q list v) row_count 0 out₀ out at (i + 1)
-  unfolding part_item if◌then◌else◌
+  unfolding part_item when◌then◌else◌
   parts-skip n = written-skip _ _ _ _ _ _ _ w h (rw (← chosen-row selection q list i, ← told, n))
 
 -- the bytes that a row adds
 module _ (selection : Selection) (q x : ℕ) (list : List ℕ) (i : ℕ)
-    (e : x ≡ (if asks selection q list (row (get_or types i 0) (get_or selectors i 0) 0) then header_size + get_or sizes i 0 else 0)) where
+    (e : x ≡ (when asks selection q list (row (get_or types i 0) (get_or selectors i 0) 0) then header_size + get_or sizes i 0 else 0)) where
   pub row-bytes : x ≡ item_size selection q list i
   row-bytes = e ∙ rw (chosen-row selection q list i, size-at i)
 

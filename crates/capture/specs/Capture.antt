@@ -1,6 +1,6 @@
 -- The headers and the parts of a member as bytes: SPEC 4.8 and 4.9. Assumes nothing.
 use Rattle.std.specs.Prelude.{Bool, List, [], ◌++◌, ◌≡◌, ℕ, ◌≤◌, ◌<◌, length}
-use Rattle.theory.specs.Logic.{if◌then◌else◌, ◌and◌}
+use Rattle.theory.specs.Logic.{when◌then◌else◌, ◌and◌}
 use Rattle.theory.specs.Items.{items_from}
 use Rattle.inventory.specs.Inventory.{Row, row_at, row_count, present, values_size, parts_size, value_of}
 use Rattle.inventory.specs.Header.{header_of}
@@ -9,7 +9,7 @@ use Rattle.parts.specs.List.{parts_of, among}
 
 -- the headers of the parts that a member has, in the order of the table
 unfoldable pub header_item : ℕ → ℕ → List ℕ
-header_item queues i = if present queues (row_at i) then header_of (row_at i) else []
+header_item queues i = when present queues (row_at i) then header_of (row_at i) else []
 
 unfoldable pub headers_of : ℕ → List ℕ
 headers_of queues = items_from (header_item queues) row_count 0
@@ -28,7 +28,7 @@ asks All queues list r = present queues r
 asks Asked queues list r = present queues r and among r.part_type r.selector (parts_of Headers list)
 
 unfoldable pub part_item : Selection → ℕ → List ℕ → List ℕ → ℕ → List ℕ
-part_item selection queues list values i = if asks selection queues list (row_at i) then part_at values i else []
+part_item selection queues list values i = when asks selection queues list (row_at i) then part_at values i else []
 
 -- in the order of the table, whatever the order of the list
 unfoldable pub parts_written : Selection → ℕ → List ℕ → List ℕ → List ℕ

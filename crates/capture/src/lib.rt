@@ -2,7 +2,7 @@
 #![tactic(auto)]
 
 ghost use Rattle.std.specs.Prelude.{◌≡◌, List, ◌++◌, ℕ, ◌+◌, ◌*◌, ◌≤◌, ◌<◌, length};
-ghost use Rattle.theory.specs.Logic.{if◌then◌else◌};
+ghost use Rattle.theory.specs.Logic.{when◌then◌else◌};
 ghost use Rattle.theory.specs.Bytes.{bytes_at, put};
 ghost use Rattle.inventory.specs.Inventory.{row, values_size};
 ghost use Rattle.inventory.specs.Header.{header_size, header_of};
@@ -173,7 +173,7 @@ pub fn write_asked(out: &mut [u8], values: &[u8], queues: u8, asked: &[u8])
 
 // The bytes of this row's part, if it is asked for.
 fn asked_size(queues: u8, asked: &[u8], row_type: u16, row_selector: u8, size: u8) -> usize
-    ensures { result ≡ (if asks Asked queues asked.now (row row_type row_selector 0) then header_size + size else 0) }
+    ensures { result ≡ (when asks Asked queues asked.now (row row_type row_selector 0) then header_size + size else 0) }
 {
     if !is_asked(queues, asked, row_type, row_selector) {
         return 0;

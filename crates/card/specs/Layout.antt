@@ -1,7 +1,7 @@
 -- The card (01's term for the device that owns the group) is a list of bytes, SPEC 2.7: a header, then a record for each
 -- of its N members. What is in it, and the card with something else there. Assumes nothing.
 use Rattle.std.specs.Prelude.{Bool, List, [], ◌∷◌, ◌++◌, ℕ, zero, suc, ◌+◌, ◌*◌, ◌-◌, ◌≤◌, length, get_or, take, drop, replicate}
-use Rattle.theory.specs.Logic.{if◌then◌else◌, ◌and◌, within}
+use Rattle.theory.specs.Logic.{when◌then◌else◌, ◌and◌, within}
 use Rattle.theory.specs.Bytes.{bytes_at, put}
 use Rattle.wire.specs.Le.{le, bytes, number}
 use Rattle.protocol.specs.Opcodes.{fresh_mask}
@@ -51,7 +51,7 @@ card_size members = card_header_size + record_size * members
 
 -- the exact length of a card's buffer; 0 where there is no such card
 unfoldable pub card_bytes : ℕ → ℕ
-card_bytes members = if within 1 16 members then card_size members else 0
+card_bytes members = when within 1 16 members then card_size members else 0
 
 unfoldable pub setup_in : List ℕ → Setup
 setup_in h =

@@ -9,7 +9,7 @@ use mir.Val.{Fits}
 use lib.Dec.{ltb, leb}
 use lib.ListN.{length, length-append, length-set, set}
 use borrow.Author.Tests.{lt-ltb, le-ltb, ltb-true, ltb-false, leb-true, leb-false}
-use Rattle.theory.specs.Logic.{if◌then◌else◌}
+use Rattle.theory.specs.Logic.{when◌then◌else◌}
 use Rattle.theory.specs.Bytes.{put}
 use Rattle.theory.proofs.Bytes.{put-cons, put-append, length-put, put_one}
 use Rattle.theory.proofs.Tests.{by_cases}
@@ -17,7 +17,7 @@ use Rattle.decimal.specs.Decimal.{last_digit, digits, decimal, line}
 
 -- with a bound that is large enough, one more changes nothing
 one_more : (f n : ℕ) → n ≤ f → digits (suc f) n ≡ digits f n
-unfolding digits if◌then◌else◌
+unfolding digits when◌then◌else◌
 one_more zero zero h = refl
 one_more zero (suc n) h = absurd (omega arith)
 one_more (suc f) n h = rw (one_more f (n / 10) (omega arith))
@@ -32,11 +32,11 @@ large-enough (suc f) n h =
 
 -- one digit, and the digits of the tenth part with one more
 pub decimal-one : (n : ℕ) → n < 10 → decimal n ≡ last_digit n ∷ []
-unfolding decimal digits if◌then◌else◌
+unfolding decimal digits when◌then◌else◌
 decimal-one n h = sym (one_more n n (le_refl n)) ∙ rw (lt-ltb n 10 h)
 
 pub decimal-more : (n : ℕ) → 10 ≤ n → decimal n ≡ decimal (n / 10) ++ (last_digit n ∷ [])
-unfolding digits if◌then◌else◌
+unfolding digits when◌then◌else◌
 decimal-more n h =
     sym (large-enough (suc n) n (omega arith)) ∙ rw (le-ltb n 10 h, large-enough n (n / 10) (omega arith))
 

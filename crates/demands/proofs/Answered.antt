@@ -7,7 +7,7 @@ use native.Mathlib.Omega.{arith}
 use borrow.Author.Tests.{eqb-true, eq-eqb, ne_eqb, leb-true, le-leb, lt-leb}
 use lib.Dec.{leb, eqb}
 use lib.ListN.{length, drop, length-drop}
-use Rattle.theory.specs.Logic.{if◌then◌else◌, unless◌answer◌then◌, ◌and◌}
+use Rattle.theory.specs.Logic.{when◌then◌else◌, unless◌answer◌then◌, ◌and◌}
 use Rattle.theory.specs.Bytes.{bytes_at, put}
 use Rattle.theory.proofs.Tests.{by_cases, unless-cases, both, and_i, inside, within-high}
 use Rattle.theory.proofs.Bytes.{length-put, put-eq, put-nil, length-bytes_at}
@@ -35,7 +35,7 @@ module _ (x : List ℕ) where
   is-request h l = and_i _ _ (and_i _ _ (le-leb _ _ l) (eq-eqb _ _ h.request)) (eq-eqb _ _ h.size)
 
   whole-read : (d offset n : ℕ) → ReadRequest x d offset n → whole_of x ≡ Read (d + 1) offset n
-  unfolding whole_of read_in if◌then◌else◌ unless◌answer◌then◌
+  unfolding whole_of read_in when◌then◌else◌ unless◌answer◌then◌
   whole-read d offset n r =
       let l = r.long in
       rw (
@@ -49,7 +49,7 @@ module _ (x : List ℕ) where
 
   whole-write : (d sent offset : ℕ) (bs : List ℕ) → WriteRequest x d sent offset bs
       → whole_of x ≡ Write (d + 1) sent offset (length bs)
-  unfolding whole_of write_in if◌then◌else◌ unless◌answer◌then◌
+  unfolding whole_of write_in when◌then◌else◌ unless◌answer◌then◌
   whole-write d sent offset bs w =
       let l = w.long in
       let k : eqb (20 + length_of x) (length x) ≡ true = eq-eqb _ _ (ap (20 +◌) w.count ∙ sym l) in
@@ -75,7 +75,7 @@ module _ (x : List ℕ) where
   whole-none : ((d offset n : ℕ) → ReadRequest x d offset n → ⊥)
       → ((d sent offset : ℕ) (bs : List ℕ) → WriteRequest x d sent offset bs → ⊥)
       → whole_of x ≡ Nothing
-  unfolding whole_of read_in write_in if◌then◌else◌ unless◌answer◌then◌
+  unfolding whole_of read_in write_in when◌then◌else◌ unless◌answer◌then◌
   whole-none f g =
       by_cases (is_request x)
       (λ t. rw t
@@ -189,11 +189,11 @@ module _ (c : List ℕ) (d : ℕ) (r : Reaches c d) (x : List ℕ) (room : ℕ) 
 
   module _ (offset n : ℕ) (q : ReadRequest x d offset n) where
     read-inside : offset + n ≤ 12 → act_of c x (Read (d + 1) offset n) ≡ (c, response_of x current offset (bytes_at offset n conf))
-    unfolding act_of readable is_inside if◌then◌else◌
+    unfolding act_of readable is_inside when◌then◌else◌
     read-inside h = rw (le-leb _ 12 h)
 
     read_past : 12 < offset + n → act_of c x (Read (d + 1) offset n) ≡ (c, response_of x current offset [])
-    unfolding act_of readable is_inside if◌then◌else◌
+    unfolding act_of readable is_inside when◌then◌else◌
     read_past h = rw (lt-leb _ 12 h)
 
     read-long : offset + n ≤ 12 → length (bytes_at offset n conf) ≡ n

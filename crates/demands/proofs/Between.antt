@@ -7,7 +7,7 @@ use Prim.Native.Nat.{ℕ, zero, suc, ◌≤◌}
 use borrow.Author.Tests.{eqb-true}
 use lib.Dec.{eqb, leb}
 use lib.ListN.{length, get_or}
-use Rattle.theory.specs.Logic.{if◌then◌else◌, unless◌answer◌then◌, ◌or◌, within}
+use Rattle.theory.specs.Logic.{when◌then◌else◌, unless◌answer◌then◌, ◌or◌, within}
 use Rattle.theory.proofs.Tests.{both, by_cases}
 use Rattle.protocol.specs.declared.Answer.TheVariants.{Marked}
 use Rattle.protocol.specs.declared.EventAnswer.{EventAnswer}
@@ -75,7 +75,7 @@ module _ (c : List ℕ) (m : ℕ) (s : is_sound c ≡ true) (u : is_marked c m �
 
   command-refused : (r : List ℕ) (room : ℕ) → names m (command r room) ≡ true → usable (in_use_of c) (opcode_of r) ≡ true → 8 ≤ room
       → respond c r room ≡ (c, head_of Marked)
-  unfolding perform if◌then◌else◌
+  unfolding perform when◌then◌else◌
   command-refused r room n v l = rw (respond-is c r room l s, asked-marked r room n v, final-empty Marked room l, reply-empty)
 
   between : Between c m

@@ -7,7 +7,7 @@ use Prim.Native.Nat.{ℕ, ◌≤◌}
 use lib.Dec.{leb}
 use lib.ListN.{length}
 use borrow.Author.Tests.{eqb-false, leb-true}
-use Rattle.theory.specs.Logic.{if◌then◌else◌, ◌and◌}
+use Rattle.theory.specs.Logic.{when◌then◌else◌, ◌and◌}
 use Rattle.theory.proofs.Tests.{by_cases, and-true}
 use Rattle.protocol.specs.Answers.{is_done}
 use Rattle.card.specs.Layout.{card_size, setup_of, member_in}
@@ -54,7 +54,7 @@ module _ (m : ℕ) (low : 1 ≤ m) (c : List ℕ) (s : is_sound c ≡ true) (r :
   -- steps 11 and 12 choose between two cards with the same mask
   ended-alike : (e f : Effect) → Alike m e f
       → ((ended (mask m c) room e).1 ≡ (ended c room f).1) × (mask m (ended (mask m c) room e).0 ≡ mask m (ended c room f).0)
-  unfolding if◌then◌else◌
+  unfolding when◌then◌else◌
   ended-alike e f h =
       rw (h.outcomes, h.results)
       (refl, by_cases (is_done (last_answer room f)) (λ t. rw t h.cards) (λ t. rw t (mask-mask m low c whole)))

@@ -5,7 +5,7 @@ use mathlib.Core.List.{[], ◌∷◌}
 use Prim.Native.Nat.{ℕ, ◌+◌, ◌*◌}
 use native.Mathlib.Omega.{arith}
 use lib.ListN.{length, replicate, length-replicate}
-use Rattle.theory.specs.Logic.{if◌then◌else◌, unless◌answer◌then◌, ◌and◌}
+use Rattle.theory.specs.Logic.{when◌then◌else◌, unless◌answer◌then◌, ◌and◌}
 use Rattle.theory.specs.Bytes.{put}
 use Rattle.setups.specs.Bits.{bit, bits_at}
 use Rattle.setups.specs.Setup.{no_counts, sixteen, setup_with}
@@ -54,7 +54,7 @@ short-card = (setup-is-done (7 ∷ []) 1 (4 ∷ []) 8 0 zeros).other_length (λ 
 -- ---- packed ----
 
 is_read : read_setup bench ≡ read_as (setup_with 2 (1 ∷ 1 ∷ []) 1 1 zeros)
-unfolding if◌then◌else◌ unless◌answer◌then◌ ◌and◌ put bit bits_at no_counts sixteen counts_from setup_at head_right
+unfolding when◌then◌else◌ unless◌answer◌then◌ ◌and◌ put bit bits_at no_counts sixteen counts_from setup_at head_right
     is_version1 take_version1 read_setup
 is_read = refl
 
@@ -62,7 +62,7 @@ packed-short : numbered (set_up_from (7 ∷ []) bench) ≡ (4, 0 ∷ [])
 packed-short = (from-is-done (7 ∷ []) bench).other_length (setup_with 2 (1 ∷ 1 ∷ []) 1 1 zeros) is_read (λ e. omega arith)
 
 not-read : read_number (read_setup []).answer ≡ 2
-unfolding if◌then◌else◌ unless◌answer◌then◌ ◌and◌ bit bits_at head_right is_version1 take_version1 read_setup
+unfolding when◌then◌else◌ unless◌answer◌then◌ ◌and◌ bit bits_at head_right is_version1 take_version1 read_setup
 not-read = refl
 
 packed-bad : numbered (set_up_from (7 ∷ []) []) ≡ (4, 0 ∷ [])

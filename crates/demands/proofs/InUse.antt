@@ -6,7 +6,7 @@ use mathlib.Core.List.{List, []}
 use Prim.Native.Nat.{ℕ, ◌≤◌}
 use native.Mathlib.Omega.{arith}
 use borrow.Author.Tests.{eq-eqb}
-use Rattle.theory.specs.Logic.{if◌then◌else◌, unless◌answer◌then◌, ◌and◌, ◌or◌, within}
+use Rattle.theory.specs.Logic.{when◌then◌else◌, unless◌answer◌then◌, ◌and◌, ◌or◌, within}
 use Rattle.theory.proofs.Tests.{both, unless-cases, or-true, never}
 use Rattle.wire.specs.Le.{le, bytes, number}
 use Rattle.protocol.specs.declared.Answer.TheVariants.{Done, BadLength, BadGroup, BadOpcode}
@@ -79,13 +79,13 @@ lasting c (message x room) e n =
 -- ---- empty list use ----
 
 asked-empty : (c : List ℕ) (m : ℕ) → bit (in_use_of c) 0x01 ≡ true → ask_in c (request 0x01 1 m []) ≡ UseList 0
-unfolding ask_in ask_of framed_of usable reaches attended fields_of use_in supported_only supported names_member opcode_row opcode_rows le if◌then◌else◌
+unfolding ask_in ask_of framed_of usable reaches attended fields_of use_in supported_only supported names_member opcode_row opcode_rows le when◌then◌else◌
     unless◌answer◌then◌ ◌and◌ ◌or◌ within
 asked-empty c m b =
     rw (length-request 0x01 1 m [], group-request 0x01 1 m [] (omega arith), opcode-request 0x01 1 m [] (omega arith), b, data-request) (rw or-true)
 
 empties : (c : List ℕ) (m room : ℕ) → is_sound c ≡ true → bit (in_use_of c) 0x01 ≡ true → 8 ≤ room → in_use_of (step c (command (request 0x01 1 m []) room)).0 ≡ 0
-unfolding step perform if◌then◌else◌
+unfolding step perform when◌then◌else◌
 empties c m room s b h =
     rw (respond-is c (request 0x01 1 m []) room h s, asked-empty c m b, final-empty Done room h)
     (use-same c 0 (sound-long c (sound-of c s)) (omega arith))

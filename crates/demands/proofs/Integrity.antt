@@ -5,7 +5,7 @@ use mathlib.Core.List.{List}
 use Prim.Native.Nat.{ℕ, ◌+◌, ◌≤◌, ◌<◌}
 use native.Mathlib.Omega.{arith}
 use lib.ListN.{length, take}
-use Rattle.theory.specs.Logic.{if◌then◌else◌}
+use Rattle.theory.specs.Logic.{when◌then◌else◌}
 use Rattle.theory.specs.Bytes.{put}
 use Rattle.theory.proofs.Tests.{unless-cases}
 use Rattle.theory.proofs.Bytes.{take-before, drop-after, length-bytes_at-le}
@@ -100,7 +100,7 @@ ask-at c r op e P f g =
 
 -- list use
 use-outside : (c r : List ℕ) (room : ℕ) → opcode_of r ≡ 0x01 → SameOutside in_use_at 8 (respond c r room).0 c
-unfolding perform with_in_use fields_of use_in if◌then◌else◌ bytes
+unfolding perform with_in_use fields_of use_in when◌then◌else◌ bytes
 use-outside c r room e =
     let P : Ask → Type 0 = λ a. SameOutside in_use_at 8 (perform c r a).card c in
     card-cases c r room (λ d. SameOutside in_use_at 8 d c) (same _ _ c)
@@ -142,7 +142,7 @@ module _ (c : List ℕ) (s : Sound c) (r : List ℕ) where
       rw (member-same c m _ (sound-has c s m h) y.shaped) (set-kept (setup_of c).gets (setup_of c).sets id (given_list r) (member_in c m))
 
   asked-kept : opcode_of r ≡ 0x10 → FactsIn c r (ask_in c r) → StaysAs (perform c r (ask_in c r)).card
-  unfolding fields_of set_in perform if◌then◌else◌ Kept
+  unfolding fields_of set_in perform when◌then◌else◌ Kept
   asked-kept e =
       let P : Ask → Type 0 = λ a. FactsIn c r a → StaysAs (perform c r a).card in
       ask-at c r 0x10 e P (λ a f. (refl, refl))

@@ -9,7 +9,7 @@ use borrow.Author.Tests.{leb-true, ltb-true, eqb-true, eq-eqb, ne_eqb, lt-ltb}
 use lib.Dec.{leb, ltb, eqb}
 use lib.ListN.{length, get_or, take, length-append}
 use lib.Seq.{take_at, drop_at}
-use Rattle.theory.specs.Logic.{if◌then◌else◌, unless◌answer◌then◌, ◌and◌}
+use Rattle.theory.specs.Logic.{when◌then◌else◌, unless◌answer◌then◌, ◌and◌}
 use Rattle.theory.specs.Bytes.{bytes_at}
 use Rattle.theory.proofs.Tests.{by_cases, both, never, unless-cases, within-high}
 use Rattle.theory.proofs.Bytes.{length-put, bytes_at-bytes_at}
@@ -280,7 +280,7 @@ module _ (c : List ℕ) (m j : ℕ) (x : Settable c m j) (list : List ℕ) (shor
   is_good = is_accepted (cause_of (member_in c m).queues (features_in (member_in c m)) list)
 
   set-refused : is_good ≡ false → (parts_set_of c m j list).0 ≡ answer.BadList
-  unfolding parts_set_of set_parts_of if◌then◌else◌ unless◌answer◌then◌
+  unfolding parts_set_of set_parts_of when◌then◌else◌ unless◌answer◌then◌
   set-refused a = rw (x.set_in_use, lt-ltb j _ (valid c m (settable c m j x) j Set x.set_object), x.set_object, x.stopped, a) refl
 
   -- the reply says whether it was accepted

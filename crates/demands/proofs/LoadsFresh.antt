@@ -9,7 +9,7 @@ use native.Mathlib.Omega.{arith}
 use borrow.Author.Tests.{eq-eqb}
 use lib.ListN.{length, take, length-append}
 use lib.Seq.{take_at, drop_at, take_all}
-use Rattle.theory.specs.Logic.{if◌then◌else◌, unless◌answer◌then◌, ◌and◌, indicator}
+use Rattle.theory.specs.Logic.{when◌then◌else◌, unless◌answer◌then◌, ◌and◌, indicator}
 use Rattle.theory.specs.Bytes.{bytes_at}
 use Rattle.theory.specs.Machine.{Observation, replied, exposed, trace, run, seen}
 use Rattle.theory.proofs.Tests.{by_cases, within_low}
@@ -136,7 +136,7 @@ module _ (c : List ℕ) (m g : ℕ) where
     here-after = rw setup-with-record z.here
 
     fresh-numbers : numbers_of (summary_of fresh) ≡ (0, ((member_in c m).queues, (0, (0, 0))))
-    unfolding summary_of state_of live_of fresh_of count indicator if◌then◌else◌
+    unfolding summary_of state_of live_of fresh_of count indicator when◌then◌else◌
     fresh-numbers = refl
 
     reads-fresh : ReadsFresh c m g d
@@ -219,7 +219,7 @@ module _ {State Call Reply : Type 0} (step : State → Call → State × Reply) 
 
   last-seen : (p : List Call) (r : Call) (t : List Call) (a d : State)
       → last d (seen hidden (length p) (trace step a (p ++ r ∷ t))) ≡ run step a (p ++ r ∷ t)
-  unfolding run trace seen last if◌then◌else◌
+  unfolding run trace seen last when◌then◌else◌
   last-seen [] r t a d = last-later t (step a r).0
   last-seen (c ∷ p) r t a d = by_cases (hidden c) (λ e. rw e (last-seen p r t (step a c).0 d)) (λ e. rw e (last-seen p r t (step a c).0 d))
 

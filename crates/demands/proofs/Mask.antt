@@ -9,7 +9,7 @@ use native.Mathlib.Omega.{arith}
 use lib.Dec.{eqb}
 use lib.ListN.{length}
 use borrow.Author.Tests.{eqb-true, eqb-false}
-use Rattle.theory.specs.Logic.{if◌then◌else◌, within}
+use Rattle.theory.specs.Logic.{when◌then◌else◌, within}
 use Rattle.theory.proofs.Tests.{by_cases, if-cases, within_low, within-high, outside}
 use Rattle.member.specs.declared.Member.{Member}
 use Rattle.member.specs.Record.{member_size, holding_size, member_bytes}
@@ -30,7 +30,7 @@ use Rattle.demands.proofs.Named.{SameKept, Leaves, unchanged, changed, leaves-wh
 
 -- what it puts there: a fresh member, handed back where m is marked
 unfoldable pub blank_of : ℕ → List ℕ → Bool → Member
-blank_of queues f marked = if marked then handed_back (fresh_of queues f) else fresh_of queues f
+blank_of queues f marked = when marked then handed_back (fresh_of queues f) else fresh_of queues f
 
 unfoldable pub blank_in : ℕ → List ℕ → Member
 blank_in m c = blank_of (member_in c m).queues (setup_of c).features (is_marked c m)
@@ -52,11 +52,11 @@ module _ (queues : ℕ) (f : List ℕ) (b : Bool) where
       if-cases Shaped b _ _ (λ t. record { ids = s.ids; low = s.low; long = s.long }) (λ t. s)
 
   blank-marked : (blank_of queues f b).marked ≡ b
-  unfolding blank_of fresh_of if◌then◌else◌
+  unfolding blank_of fresh_of when◌then◌else◌
   blank-marked = by_cases b (λ t. rw t) (λ t. rw t)
 
   blank-queues : (blank_of queues f b).queues ≡ queues
-  unfolding blank_of fresh_of if◌then◌else◌
+  unfolding blank_of fresh_of when◌then◌else◌
   blank-queues = by_cases b (λ t. rw t) (λ t. rw t)
 
 -- a card with the same setup that keeps m's mark and count

@@ -1,5 +1,5 @@
 -- Every definition of the model, opened at once: an example that says `unfolding model` computes. Assumes nothing.
-use Rattle.theory.specs.Logic.{if◌then◌else◌, unless◌answer◌then◌, ◌and◌, ◌or◌, within, indicator}
+use Rattle.theory.specs.Logic.{when◌then◌else◌, unless◌answer◌then◌, ◌and◌, ◌or◌, within, indicator}
 use Rattle.theory.specs.Bytes.{put, same}
 use Rattle.theory.specs.Items.{items_from}
 use Rattle.theory.specs.Machine.{trace, replies, run, seen, visible}
@@ -39,7 +39,7 @@ use Rattle.host.specs.Request.{sent_of, object_header, before, fixed_of, list_fo
 use Rattle.demands.specs.Examples.{example_card, headers_listed, joined, nine_headers, nine_parts, worked_examples, replies_to, last_size}
 
 unfoldable pub model : Unit {0}
-unfolding if◌then◌else◌ unless◌answer◌then◌ ◌and◌ ◌or◌ within indicator put same items_from trace replies run seen visible le bytes number
+unfolding when◌then◌else◌ unless◌answer◌then◌ ◌and◌ ◌or◌ within indicator put same items_from trace replies run seen visible le bytes number
     opcode_rows opcode_row supported fixed_size names_member bit supported_only
     inventory_rows row_at present offset_of selector_of is_row seek place_of power_below ring_size queue_allowed value_allowed queues_allowed header_of header_at step_at at_most parts_from
     known known_or_skipped length_right size_right features_same asks_known whole every among repeated cause_in asked_in storable stored applied

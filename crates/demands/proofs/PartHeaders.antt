@@ -7,7 +7,7 @@ use native.Mathlib.Omega.{arith}
 use lib.Dec.{eqb}
 use lib.ListN.{length, get_or, drop, length-append, length-drop, get_or-append}
 use lib.Seq.{drop-append_seam, take-append_seam}
-use Rattle.theory.specs.Logic.{if◌then◌else◌, ◌or◌}
+use Rattle.theory.specs.Logic.{when◌then◌else◌, ◌or◌}
 use Rattle.theory.specs.Bytes.{bytes_at}
 use Rattle.theory.proofs.Tests.{by_cases}
 use Rattle.theory.proofs.Items.{items-same}
@@ -87,7 +87,7 @@ module _ (h k : List ℕ) (p : SamePart h k) where
   t = number 0 2 h
 
   selector-same : selector_of t (number 4 8 k) ≡ selector_of t (number 4 8 h)
-  unfolding selector_of named_bytes if◌then◌else◌
+  unfolding selector_of named_bytes when◌then◌else◌
   selector-same =
       let e = p.selector in
       by_cases (eqb t 0x102)
@@ -197,7 +197,7 @@ module _ (c front list other : List ℕ) (lens : length other ≡ length list) w
       rw (length-same, front_same 0 2 (omega arith), front_same group_at 2 (omega arith), front_same member_at 8 (omega arith), f _ _)
 
   set-fields : opcode_of r ≡ 0x10 → 32 ≤ length front → (ids m : ℕ) → fields_of ids m (opcode_of r) (data_of s) ≡ fields_of ids m (opcode_of r) (data_of r)
-  unfolding fields_of set_in object_valid if◌then◌else◌
+  unfolding fields_of set_in object_valid when◌then◌else◌
   set-fields o b ids m = rw (o, data-same 0 2 (omega arith), data-same 4 4 (omega arith))
 
   type-same : 40 ≤ length front → get_or (data_of s) 8 0 ≡ get_or (data_of r) 8 0
@@ -207,7 +207,7 @@ module _ (c front list other : List ℕ) (lens : length other ≡ length list) w
   data-long = rw (length-drop 24 s, length-drop 24 r, length-same)
 
   get-fields : opcode_of r ≡ 0x0f → 40 ≤ length front → (ids m : ℕ) → fields_of ids m (opcode_of r) (data_of s) ≡ fields_of ids m (opcode_of r) (data_of r)
-  unfolding fields_of get_in object_valid if◌then◌else◌
+  unfolding fields_of get_in object_valid when◌then◌else◌
   get-fields o b ids m = rw (o, data-same 0 2 (omega arith), data-same 4 4 (omega arith), type-same b, data-long)
 
 given : (c front list other : List ℕ) (room : ℕ) → length front ≡ 32 → opcode_of front ≡ 0x10

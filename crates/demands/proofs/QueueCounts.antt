@@ -6,7 +6,7 @@ use mathlib.Core.List.{List, [], ◌∷◌}
 use Prim.Native.Nat.{ℕ, ◌≤◌}
 use native.Mathlib.Omega.{arith}
 use lib.ListN.{take, replicate}
-use Rattle.theory.specs.Logic.{if◌then◌else◌, unless◌answer◌then◌, ◌and◌, within}
+use Rattle.theory.specs.Logic.{when◌then◌else◌, unless◌answer◌then◌, ◌and◌, within}
 use Rattle.theory.specs.Bytes.{put}
 use Rattle.setups.specs.Bits.{widths, joined, big_endian, packed}
 use Rattle.setups.specs.Setup.{in_ranges, all, in_numbers}
@@ -29,7 +29,7 @@ abbrev packed_bytes : List ℕ
 packed_bytes = 0x21 ∷ 0x04 ∷ 0x40 ∷ 0x10 ∷ replicate 16 0
 
 is-packed : ◌≡◌ {A = ℕ × List ℕ} (20, packed_bytes) (written (replicate 20 9) 2 (1 ∷ 2 ∷ []) 1 1 (replicate 16 0))
-unfolding if◌then◌else◌ unless◌answer◌then◌ ◌and◌ within put widths joined big_endian packed in_ranges all in_numbers
+unfolding when◌then◌else◌ unless◌answer◌then◌ ◌and◌ within put widths joined big_endian packed in_ranges all in_numbers
     count_fields are_equal fields_of packed_setup placed written
 is-packed = refl
 

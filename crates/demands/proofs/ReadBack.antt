@@ -8,7 +8,7 @@ use native.Mathlib.Omega.{arith}
 use borrow.Author.Tests.{eq-eqb, le-leb, ltb-true}
 use lib.Dec.{leb, ltb}
 use lib.ListN.{length, drop}
-use Rattle.theory.specs.Logic.{if◌then◌else◌, unless◌answer◌then◌, ◌and◌, ◌or◌}
+use Rattle.theory.specs.Logic.{when◌then◌else◌, unless◌answer◌then◌, ◌and◌, ◌or◌}
 use Rattle.theory.proofs.Tests.{by_cases, both}
 use Rattle.wire.specs.Le.{bytes, number}
 use Rattle.wire.proofs.Le.{le_bytes}
@@ -61,11 +61,11 @@ module _ (a : Answer) (x : List ℕ) where
   qualifier-in = le_bytes 2 (qualifier_of a) (ltb-true _ _ (both _ _ (both _ _ (both _ _ (all-readable a)).0).0).1)
 
   status-handled : handled_status (status_of a) ≡ status_of a
-  unfolding handled_status if◌then◌else◌
+  unfolding handled_status when◌then◌else◌
   status-handled = rw (both _ _ (both _ _ (all-readable a)).0).1
 
   qualifier-handled : handled_qualifier (qualifier_of a) ≡ qualifier_of a
-  unfolding handled_qualifier if◌then◌else◌
+  unfolding handled_qualifier when◌then◌else◌
   qualifier-handled = rw (both _ _ (all-readable a)).1
 
   pub after-head : drop head_size (head_of a ++ x) ≡ x
@@ -80,7 +80,7 @@ module _ (a : Answer) (x : List ℕ) where
 module _ (op what : ℕ) (a : Answer) (y : List ℕ) (s : supported op ≡ true)
     (f : is_done a ≡ true → result_fits (form_of op what) y ≡ true) (g : is_done a ≡ false → y ≡ []) where
   length-right : length_right (form_of op what) (status_of a) (head_of a ++ y) ≡ true
-  unfolding length_right if◌then◌else◌
+  unfolding length_right when◌then◌else◌
   length-right =
       by_cases (is_done a) (λ d. rw (d, after-head a y) (f d)) (λ d. rw d (eq-eqb _ _ (reply-long a y ∙ rw (g d))))
 
@@ -93,19 +93,19 @@ module _ (op what : ℕ) (a : Answer) (y : List ℕ) (s : supported op ≡ true)
 
 -- the result as it stands in the reply
 module _ (form : ResultForm) (x : List ℕ) where
-  success-stands : (t : Bool) → (t ≡ true → result_fits form x ≡ true) → t ≡ true → result_fits form (if t then x else []) ≡ true
-  unfolding if◌then◌else◌
+  success-stands : (t : Bool) → (t ≡ true → result_fits form x ≡ true) → t ≡ true → result_fits form (when t then x else []) ≡ true
+  unfolding when◌then◌else◌
   success-stands true f d = f d
   success-stands false f d = cc
 
-refusal-empty : (t : Bool) (x : List ℕ) → t ≡ false → (if t then x else []) ≡ []
-unfolding if◌then◌else◌
+refusal-empty : (t : Bool) (x : List ℕ) → t ≡ false → (when t then x else []) ≡ []
+unfolding when◌then◌else◌
 refusal-empty true x d = cc
 refusal-empty false x d = refl
 
 -- step 11 makes no success
 final-done : (a : Answer) (size room : ℕ) → is_done (final_of a size room) ≡ true → is_done a ≡ true
-unfolding final_of if◌then◌else◌
+unfolding final_of when◌then◌else◌
 final-done a size room = by_cases (is_done a) (λ d e. d) (λ d. rw d (λ e. sym d ∙ e))
 
 -- ---- the claim ----
@@ -122,8 +122,8 @@ read-back c x list room what sound h w t =
     record {
       outcome =
           rw (respond-is c r room h sound)
-          (reply-read op what a (if is_done a then e.result else []) (command-supported x)
+          (reply-read op what a (when is_done a then e.result else []) (command-supported x)
           (success-stands (form_of op what) e.result (is_done a) (λ d. fits (final-done e.outcome (length e.result) room d)))
           (refusal-empty (is_done a) e.result));
-      result = rw (respond-is c r room h sound) (after-head a (if is_done a then e.result else []));
+      result = rw (respond-is c r room h sound) (after-head a (when is_done a then e.result else []));
     }

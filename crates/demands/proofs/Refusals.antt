@@ -6,7 +6,7 @@ use mathlib.Core.List.{List}
 use Prim.Native.Nat.{ℕ}
 use lib.Dec.{eqb}
 use borrow.Author.Tests.{eqb-true}
-use Rattle.theory.specs.Logic.{if◌then◌else◌, unless◌answer◌then◌}
+use Rattle.theory.specs.Logic.{when◌then◌else◌, unless◌answer◌then◌}
 use Rattle.theory.proofs.Tests.{by_cases, unless-cases, and-false, never}
 use Rattle.wire.specs.Le.{le, bytes, number}
 use Rattle.protocol.specs.declared.Answer.{Answer}
@@ -26,8 +26,8 @@ use Rattle.staging.proofs.Refusals.{on-member-cases as restore-cases, on-open-ca
 use Rattle.message.proofs.Cases.{answer-unsound, no-data-keeps}
 
 -- a number that is refused picks the card as it was
-kept : (n : ℕ) (next c : List ℕ) → not (eqb n 0) ≡ true → (if eqb n 0 then next else c) ≡ c
-unfolding if◌then◌else◌
+kept : (n : ℕ) (next c : List ℕ) → not (eqb n 0) ≡ true → (when eqb n 0 then next else c) ≡ c
+unfolding when◌then◌else◌
 kept n next c e = by_cases (eqb n 0) (λ t. let z = rw t at e in cc) (λ t. rw t)
 
 -- the status is what the reply's first two bytes say

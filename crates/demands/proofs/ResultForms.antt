@@ -7,7 +7,7 @@ use native.Mathlib.Omega.{arith}
 use borrow.Author.Tests.{eq-eqb, leb-true}
 use lib.Dec.{leb, eqb}
 use lib.ListN.{length, get_or, length-append}
-use Rattle.theory.specs.Logic.{if◌then◌else◌, unless◌answer◌then◌}
+use Rattle.theory.specs.Logic.{when◌then◌else◌, unless◌answer◌then◌}
 use Rattle.theory.proofs.Tests.{if-cases, unless-cases, both, inside, within-high}
 use Rattle.wire.specs.Le.{bytes, number}
 use Rattle.wire.proofs.Le.{le_bytes}
@@ -75,15 +75,15 @@ Asks form (Read m op) = form ≡ read_form op
 Asks form (Change m op) = form ≡ Exactly 0
 
 -- a type that step 7 takes: 2 is the list
-metadata-form : (t : ℕ) → leb t 2 ≡ true → (if eqb t 2 then Counted else Exactly 8) ≡ metadata_form (metadata_is t)
-unfolding if◌then◌else◌
+metadata-form : (t : ℕ) → leb t 2 ≡ true → (when eqb t 2 then Counted else Exactly 8) ≡ metadata_form (metadata_is t)
+unfolding when◌then◌else◌
 metadata-form zero h = refl
 metadata-form (suc zero) h = refl
 metadata-form (suc (suc zero)) h = refl
 metadata-form (suc (suc (suc t))) h = absurd (omega (arith, leb-true (suc (suc (suc t))) 2 h))
 
 metadata-asks : (ids m t : ℕ) (d : List ℕ) → get_or d type_at 0 ≡ t → Asks (form_of 0x0e t) (metadata_in ids m d)
-unfolding metadata_in form_of if◌then◌else◌
+unfolding metadata_in form_of when◌then◌else◌
 metadata-asks ids m t d e = rw (← e) (unless-cases (Asks (form_of 0x0e (get_or d type_at 0))) _ _ _ (λ f. refl) (λ f. metadata-form (get_or d type_at 0) (both _ _ f).1))
 
 get-asks : (ids m : ℕ) (d : List ℕ) → Asks WholeParts (get_in ids m d)
@@ -99,7 +99,7 @@ TypeOf x what = (m id type : ℕ) → x ≡ host.Metadata m id type → type ≡
 
 fields-ask : (ids m : ℕ) (x : Command) (list : List ℕ) (what : ℕ) → what < 256 → TypeOf x what
     → Asks (form_of (sent_of x).opcode what) (fields_of ids m (sent_of x).opcode (data_for x list))
-unfolding fields_of create_in modify_in query_in destroy_in set_in mode_in use_in if◌then◌else◌ form_of laid
+unfolding fields_of create_in modify_in query_in destroy_in set_in mode_in use_in when◌then◌else◌ form_of laid
 fields-ask ids m host.ListQuery list what w t = refl
 fields-ask ids m (host.ListUse mask) list what w t = unless-cases (Asks (Exactly 0)) _ _ _ (λ e. refl) (λ e. refl)
 fields-ask ids m (host.Create k id kind) list what w t = unless-cases (Asks (Exactly 0)) _ _ _ (λ e. refl) (λ e. refl)

@@ -7,7 +7,7 @@ use Prim.Native.Nat.{ℕ}
 use borrow.Author.Tests.{eqb-true}
 use lib.Dec.{eqb}
 use lib.ListN.{get_or}
-use Rattle.theory.specs.Logic.{if◌then◌else◌, unless◌answer◌then◌}
+use Rattle.theory.specs.Logic.{when◌then◌else◌, unless◌answer◌then◌}
 use Rattle.theory.proofs.Tests.{if-cases, unless-cases}
 use Rattle.protocol.specs.declared.Body.{Body}
 use Rattle.protocol.specs.declared.Body.TheVariants as body
@@ -69,7 +69,7 @@ module _ (c r s : List ℕ) where
   unfolding Same perform
   guarded t a x f = unless-cases Same t (Refused a) x (λ e. refl) (λ e. f)
 
-  branch : (op k : ℕ) (x y : Ask) → (op ≡ k → Same x) → Same y → Same (if eqb op k then x else y)
+  branch : (op k : ℕ) (x y : Ask) → (op ≡ k → Same x) → Same y → Same (when eqb op k then x else y)
   branch op k x y f g = if-cases Same (eqb op k) x y (λ e. f (eqb-true op k e)) (λ e. g)
 
   module _ (m id : ℕ) where

@@ -6,7 +6,7 @@ use Prim.Native.Nat.{ℕ, ◌+◌, ◌^◌, ◌≤◌, ◌<◌}
 use native.Mathlib.Omega.{arith}
 use lib.ListN.{length, take, drop}
 use borrow.Author.Tests.{le-leb, lt-ltb}
-use Rattle.theory.specs.Logic.{if◌then◌else◌, unless◌answer◌then◌, ◌and◌, ◌or◌}
+use Rattle.theory.specs.Logic.{when◌then◌else◌, unless◌answer◌then◌, ◌and◌, ◌or◌}
 use Rattle.theory.proofs.Tests.{or-true, within_low}
 use Rattle.wire.specs.Le.{bytes}
 use Rattle.protocol.specs.declared.Answer.TheVariants.{Done}
@@ -53,7 +53,7 @@ use Rattle.demands.specs.Lists.{Settable, set_list}
 -- a command with a result that succeeds and has room
 respond-done : (c r : List ℕ) (room : ℕ) (result : List ℕ) → is_sound c ≡ true
     → perform c r (ask_in c r) ≡ effect Done c result → 8 + length result ≤ room → (respond c r room).1 ≡ head_of Done ++ result
-unfolding final_of reply_of if◌then◌else◌ unless◌answer◌then◌
+unfolding final_of reply_of when◌then◌else◌ unless◌answer◌then◌
 respond-done c r room result s e h =
     rw (respond-is c r room (omega arith) s, e, le-leb (8 + length result) room h)
 
@@ -143,7 +143,7 @@ module _ (c : List ℕ) (m j : ℕ) (x : Settable c m j) where
     card-is = refl
 
     set-done : parts_set_of c m j list ≡ (Done, card_set)
-    unfolding card_set member_set parts_set_of set_parts_of if◌then◌else◌ unless◌answer◌then◌
+    unfolding card_set member_set parts_set_of set_parts_of when◌then◌else◌ unless◌answer◌then◌
     set-done = rw (x.set_in_use, lt-ltb j _ (valid c m settable j Set x.set_object), x.set_object, x.stopped, a)
 
     pub set_is : (r : ℕ) → 8 ≤ r → length list ≤ longest_list → set_list c m j list r ≡ (card_set, head_of Done)

@@ -8,7 +8,7 @@ use native.Mathlib.Omega.{arith}
 use borrow.Author.Tests.{eqb-true, not-false}
 use lib.Dec.{leb, ltb, eqb}
 use lib.ListN.{length, get_or, drop, replicate, length-append}
-use Rattle.theory.specs.Logic.{if◌then◌else◌, unless◌answer◌then◌, ◌and◌, ◌or◌, within}
+use Rattle.theory.specs.Logic.{when◌then◌else◌, unless◌answer◌then◌, ◌and◌, ◌or◌, within}
 use Rattle.theory.proofs.Tests.{by_cases, both, either, true-and, within_low, within-high, tests}
 use Rattle.theory.proofs.Sums.{sum_from}
 use Rattle.wire.specs.Le.{le, bytes}
@@ -50,13 +50,13 @@ abbrev pub Told : Type 0
 Told = ℕ × (ℕ × ℕ)
 
 abbrev pub answered : Answer → List ℕ → Told
-answered a x = (status_of a, (qualifier_of a, length (if is_done a then x else [])))
+answered a x = (status_of a, (qualifier_of a, length (when is_done a then x else [])))
 
 abbrev pub ends : ℕ → Effect → Told
 ends room e = answered (last_answer room e) e.result
 
 abbrev pub says : List Row → ℕ → Told
-says xs n = ((first_of xs).0, ((first_of xs).1, if eqb (first_of xs).0 0 then n else 0))
+says xs n = ((first_of xs).0, ((first_of xs).1, when eqb (first_of xs).0 0 then n else 0))
 
 -- steps 7 to 12 at an opcode
 abbrev Agree : List ℕ → List ℕ → ℕ → ℕ → Type 0
@@ -97,7 +97,7 @@ type-up-to-2 {P} b l f g h = among (λ n. b ≡ n → P) 0 3 (f, (g, (h, tt))) b
 
 -- the rows and the definitions are ladders of the same tests
 unfoldable ladders : Unit {0}
-unfolding if◌then◌else◌ unless◌answer◌then◌ ◌and◌ ◌or◌ within bytes
+unfolding when◌then◌else◌ unless◌answer◌then◌ ◌and◌ ◌or◌ within bytes
     fields_of create_in modify_in query_in destroy_in metadata_in get_in set_in mode_in use_in
     create_of modify_of destroy_of set_parts_of limited query_of through_get selected_of result_of final_of perform
     first_of has_kind needs_get bad_list result_size rows_at

@@ -5,7 +5,7 @@ use mathlib.Core.List.{List, ◌++◌}
 use Prim.Native.Nat.{ℕ, ◌+◌}
 use lib.Dec.{eqb}
 use lib.ListN.{length, take, replicate, length-append}
-use Rattle.theory.specs.Logic.{if◌then◌else◌, unless◌answer◌then◌, ◌and◌, ◌or◌, within}
+use Rattle.theory.specs.Logic.{when◌then◌else◌, unless◌answer◌then◌, ◌and◌, ◌or◌, within}
 use Rattle.theory.proofs.Tests.{by_cases, both, or_comm, not-and}
 use Rattle.wire.specs.Le.{bytes}
 use Rattle.protocol.specs.declared.Answer.{Answer}
@@ -35,7 +35,7 @@ attended-is : (n w : Bool) → not w or not n ≡ not (n and w)
 attended-is n w = or_comm (not w) (not n) ∙ not-and n w
 
 agree : (c r : List ℕ) (room : ℕ) → Sound c → ends room (perform c r (ask_in c r)) ≡ says (rows c r room) (result_size c r (opcode_of r))
-unfolding ask_in ask_of framed_of usable reaches attended perform final_of first_of rows_at if◌then◌else◌ unless◌answer◌then◌
+unfolding ask_in ask_of framed_of usable reaches attended perform final_of first_of rows_at when◌then◌else◌ unless◌answer◌then◌
 agree c r room s =
     test (within 24 4096 (length r)) (λ e. rw e) λ e. rw e (
     test (eqb (group_of r) 1) (λ e. rw e) λ e. rw e (

@@ -5,7 +5,7 @@ use mathlib.Core.Bool.{true}
 use mathlib.Core.List.{List, [], ◌∷◌, ◌++◌, map}
 use Prim.Native.Nat.{ℕ, suc}
 use native.Mathlib.Omega.{arith}
-use Rattle.theory.specs.Logic.{if◌then◌else◌}
+use Rattle.theory.specs.Logic.{when◌then◌else◌}
 use Rattle.theory.specs.Machine.{run}
 use Rattle.card.specs.Sound.{is_sound}
 use Rattle.demands.specs.Calls.{Call, command, hand_back, wipe, card_reset, card_store, restore_begin, restore_feed, restore_finish, restore_drop, message, step}
@@ -30,7 +30,7 @@ first-row = refl
 -- the place of the first row that applies
 place : List Row → ℕ
 place [] = 0
-place (x ∷ xs) = if x.applies then 0 else suc (place xs)
+place (x ∷ xs) = when x.applies then 0 else suc (place xs)
 
 place_for : List ℕ → Call → ℕ
 place_for c (command r room) = place (rows c r room)

@@ -5,7 +5,7 @@ use Prim.Native.Nat.{ℕ, zero, suc, ◌+◌, ◌*◌, ◌%◌, ◌≤◌, ◌<�
 use native.Mathlib.Omega.{arith}
 use borrow.Author.Tests.{eqb-true, eqb-false, ltb-true, lt-ltb}
 use lib.Dec.{ltb, eqb}
-use Rattle.theory.specs.Logic.{if◌then◌else◌, ◌or◌}
+use Rattle.theory.specs.Logic.{when◌then◌else◌, ◌or◌}
 use Rattle.theory.proofs.Tests.{by_cases, never, tests}
 use Rattle.inventory.specs.Inventory.{row_at, offset_of, selector_of, place_of}
 use Rattle.inventory.specs.Worked.{nth_of, field_at, queue_rows}
@@ -44,12 +44,12 @@ notify-rows (suc (suc (suc (suc k)))) h = absurd (omega arith)
 
 -- the n-th of them, if the member has it
 nth-there : (first q n : ℕ) → n < q → q ≤ 4 → nth_of first (queue_rows q) n ≡ At (first + n)
-unfolding nth_of queue_rows if◌then◌else◌
+unfolding nth_of queue_rows when◌then◌else◌
 nth-there first q n h l =
     by_cases (ltb q 4) (λ e. rw (e, lt-ltb n q h)) (λ e. rw (e, lt-ltb n 4 (omega arith)))
 
 nth-below : (first q n i : ℕ) → q ≤ 4 → nth_of first (queue_rows q) n ≡ At i → (n < q) × (first + n ≡ i)
-unfolding nth_of queue_rows if◌then◌else◌
+unfolding nth_of queue_rows when◌then◌else◌
 nth-below first q n i l e =
     let k : (ltb n q ≡ true → (n < q) × (first + n ≡ i)) → (ltb n q ≡ false → (n < q) × (first + n ≡ i))
     → (n < q) × (first + n ≡ i) = by_cases (ltb n q) in
@@ -63,27 +63,27 @@ nth-below first q n i l e =
 -- the place of each type
 module _ (q s : ℕ) where
   place-queue : place_of q 0x104 (selector_of 0x104 s) ≡ nth_of 7 (queue_rows q) (s % 65536)
-  unfolding selector_of if◌then◌else◌ ◌or◌
+  unfolding selector_of when◌then◌else◌ ◌or◌
   place-queue = sym (in-queues q 0x104 (s % 65536) (queue_rows q) (nth_of 7 (queue_rows q) (s % 65536)) refl refl refl)
 
   place-notify : place_of q 0x105 (selector_of 0x105 s) ≡ nth_of 11 (queue_rows q) (s % 65536)
-  unfolding selector_of if◌then◌else◌ ◌or◌
+  unfolding selector_of when◌then◌else◌ ◌or◌
   place-notify = sym (in-notifies q 0x105 (s % 65536) (queue_rows q) (nth_of 11 (queue_rows q) (s % 65536)) refl refl refl)
 
   place-field : (k : ℕ) → s % 4294967296 ≡ k → place_of q 0x102 (selector_of 0x102 s) ≡ field_at k
-  unfolding selector_of if◌then◌else◌
+  unfolding selector_of when◌then◌else◌
   place-field k e = sym (in-fields q 0x102 (s % 4294967296) (field_at (s % 4294967296)) refl refl) ∙ ap field_at e
 
   place-status : place_of q 0x103 (selector_of 0x103 s) ≡ At 6
-  unfolding selector_of nth_of if◌then◌else◌ ◌or◌
+  unfolding selector_of nth_of when◌then◌else◌ ◌or◌
   place-status = sym (in-status q 0x103 0 (At 6) refl refl)
 
   place-driver : place_of q 0x101 (selector_of 0x101 s) ≡ At 1
-  unfolding selector_of nth_of if◌then◌else◌ ◌or◌
+  unfolding selector_of nth_of when◌then◌else◌ ◌or◌
   place-driver = sym (in-driver q 0x101 0 (At 1) refl refl)
 
   place-features : place_of q 0x100 (selector_of 0x100 s) ≡ At 0
-  unfolding selector_of nth_of if◌then◌else◌ ◌or◌
+  unfolding selector_of nth_of when◌then◌else◌ ◌or◌
   place-features = sym (in-features q 0x100 0 (At 0) refl refl)
 
 -- row i, which a place names

@@ -7,7 +7,7 @@ use native.Mathlib.Omega.{arith}
 use borrow.Author.Tests.{ltb-true, leb-true, eqb-true}
 use lib.Dec.{leb, ltb, eqb}
 use lib.ListN.{length, replicate}
-use Rattle.theory.specs.Logic.{if◌then◌else◌, unless◌answer◌then◌, ◌and◌, ◌or◌, within}
+use Rattle.theory.specs.Logic.{when◌then◌else◌, unless◌answer◌then◌, ◌and◌, ◌or◌, within}
 use Rattle.theory.proofs.Tests.{both, either, and_i, within-high, never}
 use Rattle.theory.proofs.Lists.{length-zero}
 use Rattle.wire.specs.Le.{le, bytes, number}
@@ -77,7 +77,7 @@ mask-read mask list h e = rw e (le_bytes 8 mask (mask_fits mask h))
 
 fields_read : (ids : ℕ) (x : Command) (list : List ℕ) → ids ≤ 16 → inside ids x list ≡ true
     → fields_of ids (sent_of x).member (sent_of x).opcode (data_for x list) ≡ ask_for x
-unfolding inside fields_of if◌then◌else◌ unless◌answer◌then◌ flags_valid number le laid
+unfolding inside fields_of when◌then◌else◌ unless◌answer◌then◌ flags_valid number le laid
 fields_read ids host.ListQuery list n h = refl
 fields_read ids (host.ListUse mask) list n h =
     let p = both _ _ h in

@@ -8,7 +8,7 @@ use borrow.Author.Tests.{leb-true}
 use lib.Dec.{leb, eqb}
 use lib.ListN.{length, get_or, drop, length-drop}
 use lib.Seq.{drop-drop, ext_get_or, get_or-drop}
-use Rattle.theory.specs.Logic.{if◌then◌else◌, unless◌answer◌then◌, ◌and◌, ◌or◌, within}
+use Rattle.theory.specs.Logic.{when◌then◌else◌, unless◌answer◌then◌, ◌and◌, ◌or◌, within}
 use Rattle.theory.specs.Bytes.{put}
 use Rattle.theory.proofs.Tests.{by_cases, false-and, and-false, or-false, or-true, below, above, outside, tests}
 use Rattle.theory.proofs.Bytes.{length-put, bytes_at-after}
@@ -154,7 +154,7 @@ module _ (r s : List ℕ) (long : length s ≡ length r) (op : ℕ) (same : (i :
 
   -- and so what is asked
   fields-same : (ids m : ℕ) → fields_of ids m op (data_of s) ≡ fields_of ids m op (data_of r)
-  unfolding fields_of create_in modify_in query_in destroy_in metadata_in get_in set_in mode_in use_in kind_valid object_valid flags_valid if◌then◌else◌
+  unfolding fields_of create_in modify_in query_in destroy_in metadata_in get_in set_in mode_in use_in kind_valid object_valid flags_valid when◌then◌else◌
   fields-same ids m =
       by_cases (eqb op 0x00) (λ t. rw t) λ t. rw t (
       by_cases (eqb op 0x01) (λ t. rw (t, mask-same (omega tests))) λ t. rw t (
@@ -169,7 +169,7 @@ module _ (r s : List ℕ) (long : length s ≡ length r) (op : ℕ) (same : (i :
 -- a list command asks the same of any member
 framed-list : (members ids in_use group op : ℕ) (d : List ℕ) → op ≤ 0x01 → (t t' : Bool) (m m' : ℕ)
     → framed_of members ids in_use t group op m d ≡ framed_of members ids in_use t' group op m' d
-unfolding framed_of reaches attended names_member fields_of if◌then◌else◌ ◌or◌
+unfolding framed_of reaches attended names_member fields_of when◌then◌else◌ ◌or◌
 framed-list members ids in_use group op d h t t' m m' =
     rw (below 0x0a 0x11 op (omega arith), or-true (not t), or-true (not t'))
     (by_cases (eqb op 0x00) (λ e. rw e) λ e. rw e (by_cases (eqb op 0x01) (λ f. rw f) (λ f. absurd (omega tests))))

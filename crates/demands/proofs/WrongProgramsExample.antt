@@ -7,7 +7,7 @@ use Prim.Native.Nat.{ℕ}
 use native.Mathlib.Omega.{arith}
 use lib.Dec.{eqb}
 use lib.ListN.{replicate}
-use Rattle.theory.specs.Logic.{if◌then◌else◌}
+use Rattle.theory.specs.Logic.{when◌then◌else◌}
 use Rattle.theory.proofs.Tests.{by_cases}
 use Rattle.wire.specs.Le.{number}
 use Rattle.frame.specs.Frame.{opcode_of}
@@ -49,17 +49,17 @@ unchanging = answering (λ c r x. (c, x.1))
 -- metadata is always of ten parts, and a selection of one of 42 bytes
 ten_parts : List ℕ → Call → List ℕ × Reply
 unfolding Answering
-ten_parts = answering (λ c r x. if eqb (opcode_of r) 0x0e then (c, gives (a_number 10)) else x)
+ten_parts = answering (λ c r x. when eqb (opcode_of r) 0x0e then (c, gives (a_number 10)) else x)
 
 one_byte_more : List ℕ → Call → List ℕ × Reply
 unfolding Answering
-one_byte_more = answering (λ c r x. if eqb (opcode_of r) 0x0f then (c, gives (replicate 42 0)) else x)
+one_byte_more = answering (λ c r x. when eqb (opcode_of r) 0x0f then (c, gives (replicate 42 0)) else x)
 
 -- whether a command came, and the card
 once : ℕ × List ℕ → Call → (ℕ × List ℕ) × Reply
 once s (command r room) =
     let x = step s.1 (command r room) in
-    if eqb s.0 0 then ((1, x.0), x.1) else (s, refuses 22 2)
+    when eqb s.0 0 then ((1, x.0), x.1) else (s, refuses 22 2)
 once s (hand_back m) = let x = step s.1 (hand_back m) in ((s.0, x.0), x.1)
 once s (wipe m g) = let x = step s.1 (wipe m g) in ((s.0, x.0), x.1)
 once s (card_reset g) = let x = step s.1 (card_reset g) in ((s.0, x.0), x.1)

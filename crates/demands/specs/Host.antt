@@ -1,7 +1,7 @@
 -- REQUEST 1, SPEC 13.1: the host's half. What is claimed of a built request and of the reply to it, over the definitions that the
 -- contracts of both halves go by: request_of and read_reply at the host, ask_in and respond at the card. Assumes nothing.
 use Rattle.std.specs.Prelude.{◌≡◌, Bool, true, List, [], ℕ, ◌+◌, ◌%◌, ◌≤◌, ◌<◌, leb, ltb, eqb, length}
-use Rattle.theory.specs.Logic.{if◌then◌else◌, ◌and◌, ◌or◌}
+use Rattle.theory.specs.Logic.{when◌then◌else◌, ◌and◌, ◌or◌}
 use Rattle.protocol.specs.declared.Answer.{Answer}
 use Rattle.protocol.specs.declared.ReadOp.TheVariants.{QueryObject, GetMetadata, GetSelected, GetAll}
 use Rattle.protocol.specs.declared.ChangeOp.TheVariants.{Create, Modify, Destroy, SetParts, SetMode}
@@ -34,7 +34,7 @@ ask_for (host.Modify m id kind) = Change m (Modify id (kind_in kind))
 ask_for (host.Query m id) = Read m (QueryObject id)
 ask_for (host.Destroy m id) = Change m (Destroy id)
 ask_for (host.Metadata m id what) = Read m (GetMetadata id (metadata_is what))
-ask_for (host.Get m id which) = Read m (if eqb which 0 then GetSelected id else GetAll id)
+ask_for (host.Get m id which) = Read m (when eqb which 0 then GetSelected id else GetAll id)
 ask_for (host.Set m id) = Change m (SetParts id)
 ask_for (host.SetMode m mode) = Change m (SetMode (mode_of mode))
 
@@ -89,7 +89,7 @@ told a = answered (status_of a) (qualifier_of a) (status_of a) (qualifier_of a)
 pub record ReadAs (c : List ℕ) (x : Command) (list : List ℕ) (room what : ℕ) : Type 0 where
   pub outcome : read_reply (sent_of x).opcode what (respond c (request_of x list) room).1 ≡ told (answer_in c (request_of x list) room)
   pub result : result_in (respond c (request_of x list) room).1
-      ≡ (if is_done (answer_in c (request_of x list) room) then (effect_in c (request_of x list)).result else [])
+      ≡ (when is_done (answer_in c (request_of x list) room) then (effect_in c (request_of x list)).result else [])
 
 -- Whatever fields and list were sent, and in any buffer that has room for a reply at all. what is a byte, and that of the
 -- command if it is a metadata command

@@ -2,7 +2,7 @@
 -- not name, the flags of a part that the member has got; and of a header that is asked for its flags and its length too. Assumes
 -- nothing.
 use Rattle.std.specs.Prelude.{◌≡◌, false, List, ◌++◌, ℕ, eqb, length, get_or}
-use Rattle.theory.specs.Logic.{if◌then◌else◌, ◌or◌}
+use Rattle.theory.specs.Logic.{when◌then◌else◌, ◌or◌}
 use Rattle.theory.specs.Bytes.{bytes_at}
 use Rattle.wire.specs.Le.{number}
 use Rattle.inventory.specs.Inventory.{selector_of}
@@ -13,7 +13,7 @@ use Rattle.admin.specs.Command.{respond}
 
 -- how many of the eight selector bytes, from byte 4 on, a type names: an offset four, a queue index two
 unfoldable pub named_bytes : ℕ → ℕ
-named_bytes t = if eqb t 0x102 then 4 else if eqb t 0x104 or eqb t 0x105 then 2 else 0
+named_bytes t = when eqb t 0x102 then 4 else when eqb t 0x104 or eqb t 0x105 then 2 else 0
 
 -- two headers of 16 bytes with the same type, and the same bytes of the selector that it names
 pub record SamePart (h k : List ℕ) : Type 0 where

@@ -1,6 +1,6 @@
 -- REQUEST 4, SPEC 13.4: the place of a part, said of the member's own inventory of 7 + 2Q parts. Assumes nothing.
 use Rattle.std.specs.Prelude.{◌≡◌, List, [], ◌∷◌, ℕ, ◌+◌, ◌*◌, ◌≤◌, ◌<◌, length, get_or}
-use Rattle.theory.specs.Logic.{if◌then◌else◌}
+use Rattle.theory.specs.Logic.{when◌then◌else◌}
 use Rattle.theory.specs.Bytes.{bytes_at}
 use Rattle.inventory.specs.Inventory.{Row, rows, row_at, row_count, present, part_count, place_of}
 use Rattle.inventory.specs.Header.{header_of, header_size}
@@ -10,7 +10,7 @@ use Rattle.capture.specs.Capture.{headers_of}
 -- the rows of the parts that a member with so many queues has, in the order of the table, among these rows from the i-th
 unfoldable pub own_from : ℕ → List Row → ℕ → List ℕ
 own_from queues [] i = []
-own_from queues (r ∷ rs) i = if present queues r then i ∷ own_from queues rs (i + 1) else own_from queues rs (i + 1)
+own_from queues (r ∷ rs) i = when present queues r then i ∷ own_from queues rs (i + 1) else own_from queues rs (i + 1)
 
 unfoldable pub own_rows : ℕ → List ℕ
 own_rows queues = own_from queues rows 0

@@ -3,7 +3,7 @@
 -- decoder makes of them. Data may have any length, SPEC 13.2: there is no row of step 6, and `number` and `get_or` read each
 -- missing byte as zero. Assumes nothing.
 use Rattle.std.specs.Prelude.{◌≡◌, Bool, true, false, not, List, [], ◌∷◌, ◌++◌, map, ℕ, ◌+◌, ◌*◌, ◌≤◌, leb, ltb, eqb, length, get_or, take, replicate}
-use Rattle.theory.specs.Logic.{if◌then◌else◌, ◌and◌, ◌or◌, within}
+use Rattle.theory.specs.Logic.{when◌then◌else◌, ◌and◌, ◌or◌, within}
 use Rattle.wire.specs.Le.{le, bytes, number}
 use Rattle.protocol.specs.Answers.{is_stopped, is_get, is_set}
 use Rattle.protocol.specs.Opcodes.{supported, bit, names_member, supported_only}
@@ -35,7 +35,7 @@ row t s q = record { applies = t; status = s; qualifier = q }
 -- its status and qualifier; where none applies success, step 12
 unfoldable pub first_of : List Row → ℕ × ℕ
 first_of [] = (0, 0)
-first_of (x ∷ xs) = if x.applies then (x.status, x.qualifier) else first_of xs
+first_of (x ∷ xs) = when x.applies then (x.status, x.qualifier) else first_of xs
 
 -- ---- what the rows read: c is the card, r the request, op its opcode and d its data ----
 
@@ -111,15 +111,15 @@ bad_list c r op =
 -- the parts that a list asks for, each a header of 16 bytes and its value
 unfoldable pub asked_size : ℕ → List ℕ → ℕ
 asked_size queues list =
-    total (map (λ (p : inventory.Row). if asks Asked queues list p then 16 + p.size else 0) inventory.rows)
+    total (map (λ (p : inventory.Row). when asks Asked queues list p then 16 + p.size else 0) inventory.rows)
 
 -- the length of a result, SPEC 3.4
 unfoldable pub result_size : List ℕ → List ℕ → ℕ → ℕ
 result_size c r op =
-    if eqb op 0x00 or eqb op 0x0c then 8 else
-    if eqb op 0x0e then (if eqb (type_byte (data_of r)) 2 then 8 + 16 * part_count (member_named c r).queues else 8) else
-    if eqb op 0x0f and eqb (type_byte (data_of r)) 1 then parts_size (member_named c r).queues else
-    if eqb op 0x0f then asked_size (member_named c r).queues (asked_list r) else
+    when eqb op 0x00 or eqb op 0x0c then 8 else
+    when eqb op 0x0e then (when eqb (type_byte (data_of r)) 2 then 8 + 16 * part_count (member_named c r).queues else 8) else
+    when eqb op 0x0f and eqb (type_byte (data_of r)) 1 then parts_size (member_named c r).queues else
+    when eqb op 0x0f then asked_size (member_named c r).queues (asked_list r) else
     0
 
 -- ---- the table; room is the reply buffer's length ----
@@ -154,7 +154,7 @@ pub record FirstRowAnswers (c r : List ℕ) (room : ℕ) : Type 0 where
   pub head : take 8 (respond c r room).1
       ≡ bytes 2 (first_of (rows c r room)).0 ++ (bytes 2 (first_of (rows c r room)).1 ++ replicate 4 0)
   pub size : length (respond c r room).1
-      ≡ 8 + (if eqb (first_of (rows c r room)).0 0 then result_size c r (opcode_of r) else 0)
+      ≡ 8 + (when eqb (first_of (rows c r room)).0 0 then result_size c r (opcode_of r) else 0)
 
 abbrev pub Statuses : Type 0
 Statuses = (c r : List ℕ) (room : ℕ) → is_sound c ≡ true → 8 ≤ room → FirstRowAnswers c r room

@@ -6,7 +6,7 @@ use mathlib.Core.List.{List, [], ◌∷◌, ◌++◌}
 use Prim.Native.Nat.{ℕ}
 use native.Mathlib.Omega.{arith}
 use lib.ListN.{replicate, take}
-use Rattle.theory.specs.Logic.{if◌then◌else◌, unless◌answer◌then◌, ◌and◌, ◌or◌, indicator}
+use Rattle.theory.specs.Logic.{when◌then◌else◌, unless◌answer◌then◌, ◌and◌, ◌or◌, indicator}
 use Rattle.theory.specs.Bytes.{put, same}
 use Rattle.theory.specs.Items.{items_from}
 use Rattle.wire.specs.Le.{le, bytes, number}
@@ -23,7 +23,7 @@ use Rattle.difference.specs.Claims.{Pair}
 
 -- what computes where a proof says `unfolding model`
 unfoldable model : Unit {0}
-unfolding if◌then◌else◌ unless◌answer◌then◌ ◌and◌ ◌or◌ indicator put same items_from le bytes number rows row_at present offset_of selector_of
+unfolding when◌then◌else◌ unless◌answer◌then◌ ◌and◌ ◌or◌ indicator put same items_from le bytes number rows row_at present offset_of selector_of
     is_row seek place_of power_below ring_size queue_allowed value_allowed header_of header_at step_at at_most parts_from whole among known known_or_skipped length_right size_right features_same every
     repeated cause_in part_at asks part_item parts_written span_from place_in has_row has_rows verdict_of on_verdict lookup_of lookup_told made_part made_item
     made merge_of

@@ -7,7 +7,7 @@ use native.Mathlib.Nat.{add-sub_cancel_left}
 use borrow.Author.Tests.{eq-eqb, ne_eqb}
 use denote.Ref.{Bor}
 use lib.ListN.{length, take, drop}
-use Rattle.theory.specs.Logic.{if◌then◌else◌}
+use Rattle.theory.specs.Logic.{when◌then◌else◌}
 use Rattle.theory.specs.Bytes.{bytes_at}
 use Rattle.theory.proofs.Tests.{if-cases}
 use Rattle.inventory.specs.Inventory.{selector_of}
@@ -70,11 +70,11 @@ module _ (full later : List ℕ) (t s : ℕ) where
 
 module _ {A : Type 0} (v : Verdict) (refused : Verdict → A) (a : A) where
   pub verdict-refused : (code_of v ≡ 0 → ⊥) → on_verdict v refused a ≡ refused v
-  unfolding on_verdict if◌then◌else◌
+  unfolding on_verdict when◌then◌else◌
   verdict-refused n = rw (ne_eqb (code_of v) 0 n)
 
   pub verdict-passed : code_of v ≡ 0 → on_verdict v refused a ≡ a
-  unfolding on_verdict if◌then◌else◌
+  unfolding on_verdict when◌then◌else◌
   verdict-passed e = rw (eq-eqb (code_of v) 0 e)
 
 module _ (q : ℕ) (features full later : List ℕ) (t selector named : ℕ) (en : named ≡ selector_of t selector) where

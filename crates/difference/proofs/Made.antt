@@ -10,7 +10,7 @@ use borrow.Author.Tests.{eqb-true}
 use lib.Dec.{eqb}
 use lib.ListN.{length, replicate, length-append, length-replicate}
 use lib.Seq.{take_at}
-use Rattle.theory.specs.Logic.{if◌then◌else◌, ◌or◌}
+use Rattle.theory.specs.Logic.{when◌then◌else◌, ◌or◌}
 use Rattle.theory.specs.Bytes.{bytes_at}
 use Rattle.theory.proofs.Tests.{by_cases, false-or}
 use Rattle.theory.proofs.Items.{items-same}
@@ -100,7 +100,7 @@ module _ (q : ℕ) (full later v : List ℕ) (long : length v ≡ values_size) (
       ∙ sym (applied-at q i pair.few h y ls once once-long later-accepts)
 
   made-item : (i : ℕ) → i < row_count → made_item q full later i ≡ part_item All q [] u i
-  unfolding made_item made_part part_item asks part_at if◌then◌else◌
+  unfolding made_item made_part part_item asks part_at when◌then◌else◌
   made-item i h = by_cases (present q (row_at i)) (λ y. rw (y, looked-up i h y)) (λ n. rw n)
 
   -- THE LAW: the made list is the capture of a member in which both were set

@@ -7,7 +7,7 @@ use Prim.Native.Nat.{ℕ, zero, suc, ◌+◌, ◌≤◌}
 use native.Mathlib.Omega.{arith}
 use lib.Dec.{eqb}
 use lib.ListN.{length}
-use Rattle.theory.specs.Logic.{if◌then◌else◌, ◌and◌}
+use Rattle.theory.specs.Logic.{when◌then◌else◌, ◌and◌}
 use Rattle.theory.specs.Bytes.{bytes_at}
 use Rattle.theory.proofs.Tests.{by_cases, never}
 use Rattle.theory.proofs.Bytes.{length-bytes_at}
@@ -25,7 +25,7 @@ use Rattle.difference.specs.Difference.{span_from, span_of, on_span}
 
 -- a part in front whose step stands at `at`
 span-part : (t s : ℕ) (l : List ℕ) (at u f v start len : ℕ) → step_at Parts l at ≡ step.Part u f v start len → (ps : PartList)
-    → span_from t s at (part (part_in l u f v start len) ps) ≡ if eqb u t and eqb v s then Value start len else span_from t s (start + len) ps
+    → span_from t s at (part (part_in l u f v start len) ps) ≡ when eqb u t and eqb v s then Value start len else span_from t s (start + len) ps
 unfolding span_from
 span-part t s l at u f v start len e ps =
     let w = step_part Parts l at e in
@@ -39,17 +39,17 @@ module _ (t s : ℕ) (l : List ℕ) (at : ℕ) (r : Step) (here : r ≡ step_at 
 
   -- b: it is the part that is looked for
   module _ (u f v start len : ℕ) (found : r ≡ step.Part u f v start len) (b : Bool) (named : b ≡ eqb u t and eqb v s) where
-    at_part : x ≡ if b then Value start len else span_from t s (start + len) (parts_from Parts l (start + len))
+    at_part : x ≡ when b then Value start len else span_from t s (start + len) (parts_from Parts l (start + len))
     at_part =
         e ∙ ap (span_from t s at) (opened Parts l at r here u f v start len found)
         ∙ span-part t s l at u f v start len (sym here ∙ found) _ ∙ rw (← named)
 
     pub span-here : b ≡ true → x ≡ Value start len
-    unfolding if◌then◌else◌
+    unfolding when◌then◌else◌
     span-here y = rw y at at_part
 
     pub span-on : b ≡ false → x ≡ span_from t s (start + len) (parts_from Parts l (start + len))
-    unfolding if◌then◌else◌
+    unfolding when◌then◌else◌
     span-on n = rw n at at_part
 
 -- ---- what stands there ----
@@ -64,8 +64,8 @@ nowhere l start len e = never cc
 
 stands-part : (t s : ℕ) (l : List ℕ) (u f v start len : ℕ) (ps : PartList) → start + len ≤ length l
     → Stands t s l ps (span_from t s (start + len) ps)
-    → Stands t s l (part (part_in l u f v start len) ps) (if eqb u t and eqb v s then Value start len else span_from t s (start + len) ps)
-unfolding value_or if◌then◌else◌
+    → Stands t s l (part (part_in l u f v start len) ps) (when eqb u t and eqb v s then Value start len else span_from t s (start + len) ps)
+unfolding value_or when◌then◌else◌
 stands-part t s l u f v start len ps h r =
     by_cases (eqb u t and eqb v s)
     (λ y. rw y (record { value = λ d. rw y; inside = here }))

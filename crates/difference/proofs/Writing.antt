@@ -8,7 +8,7 @@ use mir.Syntax.{w64}
 use mir.Val.{Fits}
 use denote.Ref.{Bor}
 use lib.ListN.{length, get_or, length-append}
-use Rattle.theory.specs.Logic.{if◌then◌else◌}
+use Rattle.theory.specs.Logic.{when◌then◌else◌}
 use Rattle.theory.specs.Bytes.{put}
 use Rattle.theory.proofs.Bytes.{length-put, put-append}
 use Rattle.theory.proofs.Items.{Written, written-room, written-skip}
@@ -66,7 +66,7 @@ module _ (q : ℕ) (full later out₀ out : List ℕ) (at i : ℕ) (w : Written 
   own = sym (told ∙ present-at q i)
 
   item-is : b ≡ true → made_item q full later i ≡ made_part full later (row (get_or types i 0) (get_or selectors i 0) (get_or sizes i 0))
-  unfolding made_item made_part if◌then◌else◌
+  unfolding made_item made_part when◌then◌else◌
   item-is y = rw (own, y, type_at i, selector-at i, size-at i)
 
   pub made-room : b ≡ true → at + length (made_part full later (row (get_or types i 0) (get_or selectors i 0) (get_or sizes i 0))) ≤ length out
@@ -78,5 +78,5 @@ module _ (q : ℕ) (full later out₀ out : List ℕ) (at i : ℕ) (w : Written 
   made-on out' next y d = wrote-next _ _ _ _ _ out' _ _ next _ w h (item-is y) d
 
   pub made-skip : b ≡ false → Written (made_item q full later) row_count 0 out₀ out at (i + 1)
-  unfolding made_item if◌then◌else◌
+  unfolding made_item when◌then◌else◌
   made-skip n = written-skip _ _ _ _ _ _ _ w h (rw (own, n))

@@ -1,7 +1,7 @@
 -- A full capture and a later list of what changed: one part looked up in the pair, and one list made of it. 02, request 7.
 -- Assumes nothing.
 use Rattle.std.specs.Prelude.{Bool, true, not, List, [], ◌++◌, ℕ, zero, suc, ◌+◌, leb, eqb, length}
-use Rattle.theory.specs.Logic.{if◌then◌else◌, unless◌answer◌then◌, ◌and◌, ◌or◌}
+use Rattle.theory.specs.Logic.{when◌then◌else◌, unless◌answer◌then◌, ◌and◌, ◌or◌}
 use Rattle.theory.specs.Bytes.{bytes_at, put}
 use Rattle.theory.specs.Items.{items_from}
 use Rattle.inventory.specs.Inventory.{Row, row_at, row_count, present, parts_size, selector_of}
@@ -23,7 +23,7 @@ unfoldable pub span_from : ℕ → ℕ → ℕ → PartList → Span
 span_from t s at end = Nowhere
 span_from t s at cut = Nowhere
 span_from t s at (part p ps) =
-    if eqb p.part_type t and eqb p.selector s then Value (at + header_size) (length p.value) else
+    when eqb p.part_type t and eqb p.selector s then Value (at + header_size) (length p.value) else
     span_from t s (at + header_size + length p.value) ps
 
 abbrev pub span_of : ℕ → ℕ → List ℕ → Span
@@ -81,7 +81,7 @@ code_of ShortBuffer = 6
 
 -- a where nothing is refused
 unfoldable pub on_verdict : {A : Type 0} → Verdict → (Verdict → A) → A → A
-on_verdict v refused a = if eqb (code_of v) 0 then a else refused v
+on_verdict v refused a = when eqb (code_of v) 0 then a else refused v
 
 -- ---- looking up one part ----
 
@@ -105,7 +105,7 @@ unfoldable pub made_part : List ℕ → List ℕ → Row → List ℕ
 made_part full later r = header_of r ++ value_at full later (place_in full later r.part_type r.selector)
 
 unfoldable pub made_item : ℕ → List ℕ → List ℕ → ℕ → List ℕ
-made_item queues full later i = if present queues (row_at i) then made_part full later (row_at i) else []
+made_item queues full later i = when present queues (row_at i) then made_part full later (row_at i) else []
 
 unfoldable pub made : ℕ → List ℕ → List ℕ → List ℕ
 made queues full later = items_from (made_item queues full later) row_count 0

@@ -10,7 +10,7 @@ use borrow.Author.Rules.{rules}
 use borrow.Author.Tests.{not-true, not-false, eqb-true, eq-eqb, ne_eqb}
 use lib.Dec.{eqb}
 use lib.ListN.{length, take, drop, replicate}
-use Rattle.theory.specs.Logic.{if◌then◌else◌, unless◌answer◌then◌, ◌and◌}
+use Rattle.theory.specs.Logic.{when◌then◌else◌, unless◌answer◌then◌, ◌and◌}
 use Rattle.theory.specs.Bytes.{put}
 use Rattle.theory.proofs.Tests.{both, never, unless-passed}
 use Rattle.theory.proofs.Bytes.{put_all}
@@ -89,7 +89,7 @@ pub ruleset told = (rules, told-long, told-size, member-record, member-long, mem
 -- ---- setup ----
 
 pub bytes-tested : (n : ℕ) (q : List ℕ) (g s b r : ℕ) (t : Bool) → not t ≡ false → t ≡ in_numbers n q g s → r ≡ card_bytes n → eqb b r ≡ eqb b (card_size n)
-unfolding card_bytes if◌then◌else◌ in_numbers in_ranges
+unfolding card_bytes when◌then◌else◌ in_numbers in_ranges
 bytes-tested n q g s b r t h e f =
     let w = (both _ _ (both _ _ (both _ _ (both _ _ (sym e ∙ not-false t h)).0).0).0).0 in
     rw (f, w)

@@ -8,7 +8,7 @@ use borrow.Author.Tests.{ne_eqb}
 use lib.Dec.{eqb}
 use lib.ListN.{length, take}
 use lib.Seq.{take_all, length-take-le}
-use Rattle.theory.specs.Logic.{if◌then◌else◌, unless◌answer◌then◌}
+use Rattle.theory.specs.Logic.{when◌then◌else◌, unless◌answer◌then◌}
 use Rattle.theory.proofs.Tests.{by_cases, and-false, false-and}
 use Rattle.setups.specs.Setup.{features_size}
 use Rattle.setups.specs.Reading.{version_in, head_size, head_right, is_version1, take_version1, read_version1}
@@ -33,7 +33,7 @@ no-version-1 l h =
     rw (ne_eqb (length l) (head_size + features_size) n, and-false (eqb (version_in l) 1)) (false-and (head_right l))
 
 short-refused : (l rest : List ℕ) → length l < setup_size → sheet_under (read_version1 l) rest ≡ refused_text
-unfolding read_version1 take_version1 if◌then◌else◌ unless◌answer◌then◌
+unfolding read_version1 take_version1 when◌then◌else◌ unless◌answer◌then◌
 short-refused l rest h = by_cases (eqb (version_in l) 2) (λ e. rw e) (λ e. rw (e, no-version-1 l h))
 
 short-sheet : (l : List ℕ) → length l < setup_size → sheet_of l ≡ refused_text

@@ -5,7 +5,7 @@ use mathlib.Core.Bool.{true}
 use mathlib.Core.List.{List, [], ◌∷◌}
 use Prim.Native.Nat.{ℕ}
 use lib.ListN.{replicate}
-use Rattle.theory.specs.Logic.{if◌then◌else◌, unless◌answer◌then◌, ◌and◌}
+use Rattle.theory.specs.Logic.{when◌then◌else◌, unless◌answer◌then◌, ◌and◌}
 use Rattle.theory.specs.Bytes.{put}
 use Rattle.setups.specs.Bits.{bit, bits_at}
 use Rattle.setups.specs.Setup.{no_counts, sixteen}
@@ -23,7 +23,7 @@ use Rattle.figures.specs.Claims.{Sheets}
 
 -- what computes where a proof says `unfolding model`
 unfoldable pub model : Unit {0}
-unfolding if◌then◌else◌ unless◌answer◌then◌ ◌and◌ put bit bits_at no_counts sixteen counts_from setup_at head_right is_version1
+unfolding when◌then◌else◌ unless◌answer◌then◌ ◌and◌ put bit bits_at no_counts sixteen counts_from setup_at head_right is_version1
     no_setup take_version1 read_version1 captures_in is_whole total totals figures_of rows sheet_of
 model = tt
 

@@ -7,7 +7,7 @@ use Prim.Native.Nat.{ℕ, ◌≤◌, ◌<◌}
 use borrow.Author.Tests.{ltb-true, eqb-true, eqb-false, not-true}
 use lib.Dec.{eqb, lit<}
 use lib.ListN.{length}
-use Rattle.theory.specs.Logic.{if◌then◌else◌, unless◌answer◌then◌, within}
+use Rattle.theory.specs.Logic.{when◌then◌else◌, unless◌answer◌then◌, within}
 use Rattle.theory.proofs.Tests.{if-cases, unless-cases, both, either, below, within_low, within-high, tests}
 use Rattle.protocol.specs.declared.Answer.{Answer}
 use Rattle.protocol.specs.declared.ReadOp.{ReadOp}
@@ -66,7 +66,7 @@ module _ (members ids : ℕ) (marked : Bool) (r : List ℕ) where
       → Facts members ids marked r (unless t answer Refused a then x)
   guarded t a x f = unless-cases (Facts members ids marked r) t (Refused a) x (λ e. tt) f
 
-  branch : (t : Bool) (x y : Ask) → Facts members ids marked r x → Facts members ids marked r y → Facts members ids marked r (if t then x else y)
+  branch : (t : Bool) (x y : Ask) → Facts members ids marked r x → Facts members ids marked r y → Facts members ids marked r (when t then x else y)
   branch t x y f g = if-cases (Facts members ids marked r) t x y (λ e. f) (λ e. g)
 
   -- step 7

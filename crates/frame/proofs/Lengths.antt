@@ -10,7 +10,7 @@ use borrow.Author.Tests.{eqb-true, eqb-false, le-leb}
 use lib.Dec.{leb, eqb}
 use lib.ListN.{length, get_or, take, drop, replicate, length-append, length-replicate, get_or-append}
 use lib.Seq.{drop-append-le}
-use Rattle.theory.specs.Logic.{if◌then◌else◌, unless◌answer◌then◌, ◌and◌}
+use Rattle.theory.specs.Logic.{when◌then◌else◌, unless◌answer◌then◌, ◌and◌}
 use Rattle.theory.specs.Bytes.{put}
 use Rattle.theory.proofs.Tests.{by_cases, inside, tests}
 use Rattle.theory.proofs.Bytes.{put-nil, length-bytes_at}
@@ -27,8 +27,8 @@ use Rattle.frame.proofs.Steps.{last-long}
 
 -- ---- data that reads alike in its first k bytes asks the same ----
 
-choice : (t : Bool) (x x' y y' : Ask) → (t ≡ true → x ≡ x') → (t ≡ false → y ≡ y') → (if t then x else y) ≡ (if t then x' else y')
-unfolding if◌then◌else◌
+choice : (t : Bool) (x x' y y' : Ask) → (t ≡ true → x ≡ x') → (t ≡ false → y ≡ y') → (when t then x else y) ≡ (when t then x' else y')
+unfolding when◌then◌else◌
 choice true x x' y y' f g = f refl
 choice false x x' y y' f g = g refl
 
@@ -178,9 +178,9 @@ fixed-inside op n k e l = omega (arith, fixed-longest op)
 
 -- n bytes of the padded data where the data is short, else the data
 module _ (op n : ℕ) (d padded whole : List ℕ) (e : n ≡ fixed_size op)
-    (q : whole ≡ (if leb n (length d) then d else take (n - 0) (drop 0 padded))) where
+    (q : whole ≡ (when leb n (length d) then d else take (n - 0) (drop 0 padded))) where
   pub whole_long : length padded ≡ longest_fixed → fixed_size op ≤ length whole
-  unfolding if◌then◌else◌
+  unfolding when◌then◌else◌
   whole_long l =
       let most = fixed-longest op in
       by_cases (leb n (length d))
@@ -188,9 +188,9 @@ module _ (op n : ℕ) (d padded whole : List ℕ) (e : n ≡ fixed_size op)
       (λ t. rw (q, t, sub-zero, length-bytes_at 0 n padded (omega arith)) (omega arith))
 
   pub whole-read : (ids m : ℕ) (x : Ask)
-      → padded ≡ (if leb n (length d) then replicate longest_fixed 0 else put 0 d (replicate longest_fixed 0))
+      → padded ≡ (when leb n (length d) then replicate longest_fixed 0 else put 0 d (replicate longest_fixed 0))
       → x ≡ fields_of ids m op whole → supported op ≡ true → x ≡ fields_of ids m op d
-  unfolding if◌then◌else◌
+  unfolding when◌then◌else◌
   whole-read ids m x w r s =
       let most = fixed-longest op in
       by_cases (leb n (length d))

@@ -8,7 +8,7 @@ use native.Mathlib.Omega.{arith}
 use borrow.Author.Tests.{not-false, eq-eqb, ne_eqb}
 use lib.Dec.{ltb, eqb}
 use lib.ListN.{length, get_or, take, drop, drop_of_length-le}
-use Rattle.theory.specs.Logic.{if◌then◌else◌, unless◌answer◌then◌}
+use Rattle.theory.specs.Logic.{when◌then◌else◌, unless◌answer◌then◌}
 use Rattle.theory.proofs.Tests.{by_cases, both, either, inside, within_low, within-high, tests}
 use Rattle.theory.proofs.Ladder.{pass, stop, and_right, said-true, said-false}
 use Rattle.theory.proofs.Lent.{tail-is}
@@ -94,7 +94,7 @@ module _ (op : ℕ) (s : supported op ≡ true) (n0 : op ≡ 0x00 → ⊥) (n1 :
   last-long n f = data-long op 0x11 n 1 f is_last tt
 
   pub at-last-opcode : (ids m : ℕ) (d : List ℕ) (x : Ask) → x ≡ mode_in m d → x ≡ fields_of ids m op d
-  unfolding fields_of if◌then◌else◌
+  unfolding fields_of when◌then◌else◌
   at-last-opcode ids m d x h = rw is_last h
 
 pub usable-supported : (used op : ℕ) (b : Bool) → b ≡ usable used op → not b ≡ false → supported op ≡ true

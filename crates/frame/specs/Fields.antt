@@ -2,7 +2,7 @@
 -- data, of any length, SPEC 13.2: `number` and `get_or` read each missing byte as zero, and only list use and parts get read
 -- past their fixed fields. Assumes nothing.
 use Rattle.std.specs.Prelude.{Bool, List, ℕ, zero, suc, leb, ltb, eqb, length, get_or}
-use Rattle.theory.specs.Logic.{if◌then◌else◌, unless◌answer◌then◌, ◌and◌}
+use Rattle.theory.specs.Logic.{when◌then◌else◌, unless◌answer◌then◌, ◌and◌}
 use Rattle.wire.specs.Le.{le, number}
 use Rattle.protocol.specs.declared.Answer.TheVariants.{BadField}
 use Rattle.protocol.specs.declared.ObjectKind.{ObjectKind}
@@ -71,7 +71,7 @@ metadata_in ids m d =
 unfoldable pub get_in : ℕ → ℕ → List ℕ → Ask
 get_in ids m d =
     unless object_valid ids d answer Refused BadField then
-    if eqb (get_or d type_at 0) 0 then Read m (GetSelected (id_of d)) else
+    when eqb (get_or d type_at 0) 0 then Read m (GetSelected (id_of d)) else
     unless eqb (get_or d type_at 0) 1 and leb (length d) headers_at answer Refused BadField then
     Read m (GetAll (id_of d))
 
@@ -95,13 +95,13 @@ use_in d =
 -- by opcode; the last is 0x11, since no other passes step 4
 unfoldable pub fields_of : ℕ → ℕ → ℕ → List ℕ → Ask
 fields_of ids m op d =
-    if eqb op 0x00 then QueryList else
-    if eqb op 0x01 then use_in d else
-    if eqb op 0x0a then create_in ids m d else
-    if eqb op 0x0b then modify_in ids m d else
-    if eqb op 0x0c then query_in ids m d else
-    if eqb op 0x0d then destroy_in ids m d else
-    if eqb op 0x0e then metadata_in ids m d else
-    if eqb op 0x0f then get_in ids m d else
-    if eqb op 0x10 then set_in ids m d else
+    when eqb op 0x00 then QueryList else
+    when eqb op 0x01 then use_in d else
+    when eqb op 0x0a then create_in ids m d else
+    when eqb op 0x0b then modify_in ids m d else
+    when eqb op 0x0c then query_in ids m d else
+    when eqb op 0x0d then destroy_in ids m d else
+    when eqb op 0x0e then metadata_in ids m d else
+    when eqb op 0x0f then get_in ids m d else
+    when eqb op 0x10 then set_in ids m d else
     mode_in m d

@@ -1,7 +1,7 @@
 // Step 7 of SPEC 6.1: the fields of each command's data, SPEC 4. Data may have any length, SPEC 13.2: what is missing of the
 // fixed fields reads as zero.
 ghost use Rattle.std.specs.Prelude.{◌≡◌, true, ◌≤◌, ◌<◌, leb, eqb, length, drop, replicate};
-ghost use Rattle.theory.specs.Logic.{if◌then◌else◌};
+ghost use Rattle.theory.specs.Logic.{when◌then◌else◌};
 ghost use Rattle.theory.specs.Bytes.{put};
 ghost use Rattle.wire.specs.Le.{le};
 ghost use Rattle.protocol.specs.Opcodes.{supported, fixed_size, longest_fixed};
@@ -217,7 +217,7 @@ fn whole_fields(ids: u8, m: u64, op: usize, d: &[u8]) -> Ask
 // Data that ends within the fixed fields, over zeros. Other data is not copied.
 fn padded(fixed: usize, d: &[u8]) -> [u8; protocol::LONGEST_FIXED]
     requires { fixed ≤ longest_fixed }
-    ensures { result ≡ (if leb fixed (length d.now) then replicate longest_fixed 0 else put 0 d.now (replicate longest_fixed 0)) }
+    ensures { result ≡ (when leb fixed (length d.now) then replicate longest_fixed 0 else put 0 d.now (replicate longest_fixed 0)) }
 {
     let mut zeros = [0u8; protocol::LONGEST_FIXED];
     if fixed <= d.len() {
@@ -229,7 +229,7 @@ fn padded(fixed: usize, d: &[u8]) -> [u8; protocol::LONGEST_FIXED]
 
 // The data where it holds all fixed fields, else the bytes that stand in for it.
 fn complete<'a>(fixed: usize, d: &'a [u8], instead: &'a [u8]) -> &'a [u8]
-    ensures { result.now ≡ (if leb fixed (length d.now) then d.now else instead.now) }
+    ensures { result.now ≡ (when leb fixed (length d.now) then d.now else instead.now) }
 {
     if d.len() < fixed {
         return instead;

@@ -4,7 +4,7 @@
 mod fields;
 
 ghost use Rattle.std.specs.Prelude.{◌≡◌, leb, length};
-ghost use Rattle.theory.specs.Logic.{if◌then◌else◌};
+ghost use Rattle.theory.specs.Logic.{when◌then◌else◌};
 ghost use Rattle.frame.specs.Frame.{data_at, target_of};
 ghost use Rattle.frame.specs.Ask.{usable, reaches, attended, framed_of, ask_of};
 
@@ -111,7 +111,7 @@ fn framed(
 
 // The member field of a request; 0, which is no member, where it is too short to be one.
 pub fn member_of(request: &[u8]) -> u64
-    ensures { result ≡ (if leb data_at (length request.now) then target_of request.now else 0) }
+    ensures { result ≡ (when leb data_at (length request.now) then target_of request.now else 0) }
 {
     if request.len() < DATA_AT {
         return 0;

@@ -6,7 +6,7 @@ use Prim.Native.Nat.{ℕ, ◌+◌, ◌^◌, ◌≤◌, ◌<◌}
 use native.Mathlib.Omega.{arith}
 use lib.Dec.{leb, ltb, eqb}
 use lib.ListN.{length, get_or}
-use Rattle.theory.specs.Logic.{if◌then◌else◌, unless◌answer◌then◌, ◌and◌, ◌or◌, within}
+use Rattle.theory.specs.Logic.{when◌then◌else◌, unless◌answer◌then◌, ◌and◌, ◌or◌, within}
 use Rattle.theory.proofs.Tests.{by_cases, inside, within-high, tests}
 use Rattle.wire.specs.Le.{le, bytes, number}
 use Rattle.wire.proofs.Le.{le_bytes}
@@ -32,7 +32,7 @@ data_for x list = fixed_of (sent_of x) ++ list_for x list
 
 -- the data of each command computes where a proof says `unfolding laid`
 unfoldable pub laid : Unit {0}
-unfolding if◌then◌else◌ bytes opcode_rows opcode_row fixed_size sent_of object_header before fixed_of list_for
+unfolding when◌then◌else◌ bytes opcode_rows opcode_row fixed_size sent_of object_header before fixed_of list_for
 laid = tt
 
 module _ (x : Command) (list : List ℕ) where
@@ -104,8 +104,8 @@ module _ (id : ℕ) (rest : List ℕ) (small : id < 256 ^ 4) where
 
     -- headers with selected only
     pub get-read : (t : ℕ) (list : List ℕ) → get_or d type_at 0 ≡ t → leb t 1 ≡ true → length d ≡ headers_at + length list
-        → eqb t 0 or eqb (length list) 0 ≡ true → get_in ids m d ≡ Read m (if eqb t 0 then GetSelected id else GetAll id)
-    unfolding get_in unless◌answer◌then◌ if◌then◌else◌ ◌and◌ ◌or◌
+        → eqb t 0 or eqb (length list) 0 ≡ true → get_in ids m d ≡ Read m (when eqb t 0 then GetSelected id else GetAll id)
+    unfolding get_in unless◌answer◌then◌ when◌then◌else◌ ◌and◌ ◌or◌
     get-read t list e b n h =
         rw (object-read ids, valid, e, id-read)
         (by_cases (eqb t 0) (λ z. rw z) (λ z.

@@ -8,7 +8,7 @@ use borrow.Author.Tests.{leb-true}
 use lib.Dec.{leb}
 use lib.ListN.{length, replicate, length-append}
 use lib.Seq.{length-take-le}
-use Rattle.theory.specs.Logic.{if◌then◌else◌, ◌and◌}
+use Rattle.theory.specs.Logic.{when◌then◌else◌, ◌and◌}
 use Rattle.theory.proofs.Tests.{by_cases, both}
 use Rattle.wire.specs.Le.{bytes, number}
 use Rattle.wire.proofs.Le.{le_bytes, length-bytes}
@@ -106,9 +106,9 @@ request-long x list = rw (length-append, start-long x)
 -- ---- the list ----
 
 pub list-none : (x : Command) → list_for x [] ≡ []
-unfolding list_for if◌then◌else◌
+unfolding list_for when◌then◌else◌
 list-none x = by_cases (opcode_row (sent_of x).opcode).listed (λ e. rw e) (λ e. rw e)
 
 pub list-given : (x : Command) (list : List ℕ) → (opcode_row (sent_of x).opcode).listed ≡ true → list_for x list ≡ list
-unfolding list_for if◌then◌else◌
+unfolding list_for when◌then◌else◌
 list-given x list e = rw e

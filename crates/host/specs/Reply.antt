@@ -1,6 +1,6 @@
 -- A reply read as the answer to the command sent: SPEC 3, 4 and 13.1. Assumes nothing.
 use Rattle.std.specs.Prelude.{Bool, List, ℕ, ◌+◌, ◌*◌, leb, eqb, length, drop}
-use Rattle.theory.specs.Logic.{if◌then◌else◌, unless◌answer◌then◌, ◌or◌}
+use Rattle.theory.specs.Logic.{when◌then◌else◌, unless◌answer◌then◌, ◌or◌}
 use Rattle.wire.specs.Le.{number}
 use Rattle.protocol.specs.Opcodes.{supported}
 use Rattle.inventory.specs.Header.{header_size}
@@ -28,10 +28,10 @@ result_in r = drop head_size r
 -- not read with another command
 unfoldable pub form_of : ℕ → ℕ → ResultForm
 form_of op what =
-    if eqb op 0x00 then Exactly 8 else
-    if eqb op 0x0c then Exactly 8 else
-    if eqb op 0x0e then (if eqb what 2 then Counted else Exactly 8) else
-    if eqb op 0x0f then WholeParts else
+    when eqb op 0x00 then Exactly 8 else
+    when eqb op 0x0c then Exactly 8 else
+    when eqb op 0x0e then (when eqb what 2 then Counted else Exactly 8) else
+    when eqb op 0x0f then WholeParts else
     Exactly 0
 
 -- a metadata list: a count of 4 bytes, 4 bytes more, and as many headers as the count says
@@ -46,7 +46,7 @@ result_fits WholeParts x = whole (parts_of Parts x)
 
 -- a success has a result of its form, any other status none
 unfoldable pub length_right : ResultForm → ℕ → List ℕ → Bool
-length_right form status r = if eqb status 0 then result_fits form (result_in r) else eqb (length r) head_size
+length_right form status r = when eqb status 0 then result_fits form (result_in r) else eqb (length r) head_size
 
 -- ---- status and qualifier ----
 
@@ -56,10 +56,10 @@ known_status n = eqb n 0 or eqb n 6 or eqb n 11 or eqb n 12 or eqb n 17 or eqb n
 
 -- a status that is not known is handled as 22, and a qualifier that is not known as 1
 unfoldable pub handled_status : ℕ → ℕ
-handled_status n = if known_status n then n else 22
+handled_status n = when known_status n then n else 22
 
 unfoldable pub handled_qualifier : ℕ → ℕ
-handled_qualifier n = if leb n 7 then n else 1
+handled_qualifier n = when leb n 7 then n else 1
 
 -- ---- what is read ----
 

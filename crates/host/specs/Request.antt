@@ -1,6 +1,6 @@
 -- A command by its fields, and the bytes of its request: SPEC 3, 4 and 13.1. Assumes nothing.
 use Rattle.std.specs.Prelude.{◌≡◌, List, [], ◌++◌, ℕ, ◌+◌, ◌-◌, ◌≤◌, leb, length, take, replicate}
-use Rattle.theory.specs.Logic.{if◌then◌else◌, unless◌answer◌then◌, ◌and◌}
+use Rattle.theory.specs.Logic.{when◌then◌else◌, unless◌answer◌then◌, ◌and◌}
 use Rattle.theory.specs.Bytes.{put}
 use Rattle.wire.specs.Le.{bytes}
 use Rattle.protocol.specs.Opcodes.{opcode_row, fixed_size}
@@ -45,7 +45,7 @@ fixed_of s = before s ++ bytes (fixed_size s.opcode - s.place) s.value
 
 -- the list goes in as given, where one follows
 unfoldable pub list_for : Command → List ℕ → List ℕ
-list_for command list = if (opcode_row (sent_of command).opcode).listed then list else []
+list_for command list = when (opcode_row (sent_of command).opcode).listed then list else []
 
 -- opcode 2 bytes, group type 2, reserved 12, member 8, data
 unfoldable pub request : ℕ → ℕ → ℕ → List ℕ → List ℕ

@@ -8,7 +8,7 @@ use native.Mathlib.Omega.{arith}
 use borrow.Author.Tests.{eqb-true}
 use lib.Dec.{eqb}
 use lib.ListN.{length, get_or}
-use Rattle.theory.specs.Logic.{if◌then◌else◌}
+use Rattle.theory.specs.Logic.{when◌then◌else◌}
 use Rattle.theory.proofs.Tests.{by_cases, both, never}
 use Rattle.theory.proofs.Table.{every}
 use Rattle.inventory.specs.Inventory.{Row, row, rows, row_at, row_count, present, is_row, seek, place_of}
@@ -35,7 +35,7 @@ found q t s i h e =
 -- in rows that are those of the table from k on
 seek_found : (q t s : ℕ) (rs : List Row) (k i : ℕ) → k + length rs ≡ row_count → ((j : ℕ) → get_or rs j (row 0 0 0) ≡ row_at (k + j))
     → seek q t s rs k ≡ At i → Found q t s i
-unfolding seek if◌then◌else◌
+unfolding seek when◌then◌else◌
 seek_found q t s [] k i n same e = never cc
 seek_found q t s (r ∷ rs) k i n same e =
     by_cases (is_row q t s r)
@@ -65,8 +65,8 @@ is_at-is k Absent e = cc
 pub own-place : (q i : ℕ) → q < 5 → i < row_count → present q (row_at i) ≡ true → place_of q (row_at i).part_type (row_at i).selector ≡ At i
 unfolding table is_at
 own-place q i h l p =
-    let t = every-count (λ q. every (λ k r. if present q r then is_at k (place_of q r.part_type r.selector) else true) 0 rows) refl q h in
-    let u = every-row (λ k r. if present q r then is_at k (place_of q r.part_type r.selector) else true) t i l in
+    let t = every-count (λ q. every (λ k r. when present q r then is_at k (place_of q r.part_type r.selector) else true) 0 rows) refl q h in
+    let u = every-row (λ k r. when present q r then is_at k (place_of q r.part_type r.selector) else true) t i l in
     is_at-is i _ (rw p at u)
 
 -- with four queues every row is there, so no two rows have one type and selector

@@ -8,7 +8,7 @@ use lib.Dec.{eqb}
 use lib.ListN.{get_or}
 use lib.Bits.{bit_and, bit_or, and_le_l, and_le_r, or_add_and, and_mask, and_block, and_zero_r}
 use borrow.Author.Tests.{eqb-true, eqb-false, eq-eqb, ne_eqb}
-use Rattle.theory.specs.Logic.{if◌then◌else◌, ◌and◌, ◌or◌}
+use Rattle.theory.specs.Logic.{when◌then◌else◌, ◌and◌, ◌or◌}
 use Rattle.theory.specs.Bytes.{bytes_at}
 use Rattle.theory.proofs.Tests.{by_cases, both, either, and_i, true-and, false-and, false-or, or-false}
 use Rattle.theory.proofs.Ladder.{or_left, or_right}
@@ -41,7 +41,7 @@ some_size q n =
     ∙ sym (rw (ne_eqb q 0 (λ e. n (omega arith))) (false-or _))
 
 plain-tested : (q r : ℕ) → q < 2 ^ 64 → r ≡ number_before (q % 2 ^ 16) → eqb (bit_and q r) 0 ≡ plain_queue q
-unfolding plain_queue number_before if◌then◌else◌
+unfolding plain_queue number_before when◌then◌else◌
 plain-tested q r h e =
     by_cases (eqb (q % 2 ^ 16) 0)
     (λ t. rw (e, t) (no_size q h (eqb-true _ _ t)))

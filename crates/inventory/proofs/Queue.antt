@@ -10,7 +10,7 @@ use lib.ListN.{length}
 use lib.Seq.{take_all}
 use lib.Bits.{bit_and}
 use borrow.Author.Tests.{eqb-true, eqb-false, eq-eqb, ltb-true, ltb-false, lt-ltb, leb-false, lt-leb, not-true, not-false}
-use Rattle.theory.specs.Logic.{unless◌answer◌then◌, if◌then◌else◌, ◌and◌, ◌or◌}
+use Rattle.theory.specs.Logic.{unless◌answer◌then◌, when◌then◌else◌, ◌and◌, ◌or◌}
 use Rattle.theory.specs.Bytes.{bytes_at}
 use Rattle.theory.proofs.Tests.{by_cases, unless-cases, both, and_i, false-or, or-true, true-or}
 use Rattle.theory.proofs.Bytes.{length-bytes_at, bytes_at-bytes_at}
@@ -74,15 +74,15 @@ queue-place (suc (suc (suc zero))) l = refl
 queue-place (suc (suc (suc (suc k)))) l = absurd (omega arith)
 
 pub rows_few : (q n : ℕ) → n ≡ queue_rows q → n ≤ 4
-unfolding queue_rows if◌then◌else◌
+unfolding queue_rows when◌then◌else◌
 rows_few q n e = rw e (by_cases (ltb q 4) (λ t. rw t (omega (arith, ltb-true q 4 t))) (λ t. rw t (omega arith)))
 
 within-rows : (q k : ℕ) → k < queue_rows q → k < q
-unfolding queue_rows if◌then◌else◌
+unfolding queue_rows when◌then◌else◌
 within-rows q k h = by_cases (ltb q 4) (λ t. rw t at h) (λ t. let i : k < 4 = rw t at h in omega (arith, ltb-false q 4 t))
 
 rows-within : (q k : ℕ) → k < q → k < 4 → k < queue_rows q
-unfolding queue_rows if◌then◌else◌
+unfolding queue_rows when◌then◌else◌
 rows-within q k h l = by_cases (ltb q 4) (λ t. rw t h) (λ t. rw t l)
 
 -- those below k are allowed, of n that have rows

@@ -6,7 +6,7 @@ use Prim.Native.Nat.{ℕ, ◌+◌, ◌<◌, ◌≤◌, ◌^◌}
 use borrow.Author.Tests.{eqb-true, ltb-true, leb-true, lt-leb, eq-eqb}
 use lib.Dec.{leb, ltb, eqb}
 use lib.ListN.{length}
-use Rattle.theory.specs.Logic.{◌and◌, ◌or◌, indicator, if◌then◌else◌}
+use Rattle.theory.specs.Logic.{◌and◌, ◌or◌, indicator, when◌then◌else◌}
 use Rattle.theory.proofs.Table.{every, at}
 use Rattle.wire.specs.Le.{bytes}
 use Rattle.inventory.specs.Inventory.{Row, row, rows, row_at, row_count, features_row, device_features, features_size, present, offset_of, values_size, selector_of, is_row, seek, place_of}
@@ -14,7 +14,7 @@ use Rattle.inventory.specs.Header.{header_of, header_size}
 
 -- what computes where a proof says `unfolding table`
 unfoldable pub table : Unit {0}
-unfolding rows row_at present offset_of selector_of is_row seek place_of every ◌and◌ ◌or◌ indicator if◌then◌else◌
+unfolding rows row_at present offset_of selector_of is_row seek place_of every ◌and◌ ◌or◌ indicator when◌then◌else◌
 table = tt
 
 -- ---- the numbers of the table ----

@@ -7,7 +7,7 @@ use Prim.Native.Nat.{ℕ, zero, suc, ◌+◌, ◌<◌, ◌≤◌}
 use native.Mathlib.Omega.{arith}
 use borrow.Author.Tests.{eqb-true, eqb-false, ne_eqb, ltb-true, ltb-false, lt-ltb, le-ltb}
 use lib.Dec.{ltb, eqb}
-use Rattle.theory.specs.Logic.{if◌then◌else◌, ◌and◌}
+use Rattle.theory.specs.Logic.{when◌then◌else◌, ◌and◌}
 use Rattle.theory.proofs.Tests.{by_cases}
 use Rattle.inventory.specs.Inventory.{device_features, driver_features, pci_common, device_status, queue, queue_notify, place_of}
 use Rattle.inventory.specs.Worked.{nth_of, field_at, queue_rows}
@@ -23,14 +23,14 @@ turned k n h = ne_eqb k n (λ e. h (sym e))
 
 -- a number below 4 is that of a queue with rows if it is that of a queue; no other one is
 below_rows : (q n : ℕ) → n < 4 → ltb n (queue_rows q) ≡ ltb n q
-unfolding queue_rows if◌then◌else◌
+unfolding queue_rows when◌then◌else◌
 below_rows q n h =
     by_cases (ltb q 4)
     (λ e. rw e)
     (λ e. rw (e, lt-ltb n 4 h, lt-ltb n q (omega (arith, ltb-false q 4 e))))
 
 past-rows : (q n : ℕ) → 4 ≤ n → ltb n (queue_rows q) ≡ false
-unfolding queue_rows if◌then◌else◌
+unfolding queue_rows when◌then◌else◌
 past-rows q n h =
     by_cases (ltb q 4)
     (λ e. rw e (le-ltb n q (omega (arith, ltb-true q 4 e))))
@@ -39,19 +39,19 @@ past-rows q n h =
 -- the search among the four rows of such a type
 unfoldable among : ℕ → ℕ → ℕ → Place
 among first q n =
-    if eqb 0 n and ltb 0 q then At (first + 0) else
-    if eqb 1 n and ltb 1 q then At (first + 1) else
-    if eqb 2 n and ltb 2 q then At (first + 2) else
-    if eqb 3 n and ltb 3 q then At (first + 3) else
+    when eqb 0 n and ltb 0 q then At (first + 0) else
+    when eqb 1 n and ltb 1 q then At (first + 1) else
+    when eqb 2 n and ltb 2 q then At (first + 2) else
+    when eqb 3 n and ltb 3 q then At (first + 3) else
     Absent
 
 among-past : (first q n : ℕ) → 4 ≤ n → nth_of first (queue_rows q) n ≡ among first q n
-unfolding among nth_of if◌then◌else◌ ◌and◌
+unfolding among nth_of when◌then◌else◌ ◌and◌
 among-past first q n h =
     rw (past-rows q n h, turned 0 n (λ e. omega arith), turned 1 n (λ e. omega arith), turned 2 n (λ e. omega arith), turned 3 n (λ e. omega arith))
 
 among-is : (first q n : ℕ) → nth_of first (queue_rows q) n ≡ among first q n
-unfolding among nth_of if◌then◌else◌ ◌and◌
+unfolding among nth_of when◌then◌else◌ ◌and◌
 among-is first q zero = rw (below_rows q 0 (omega arith))
 among-is first q (suc zero) = rw (below_rows q 1 (omega arith))
 among-is first q (suc (suc zero)) = rw (below_rows q 2 (omega arith))
@@ -61,10 +61,10 @@ among-is first q (suc (suc (suc (suc n)))) = among-past first q (suc (suc (suc (
 -- ---- a type with one row ----
 
 unfoldable alone : ℕ → ℕ → Place
-alone first n = if eqb 0 n and true then At (first + 0) else Absent
+alone first n = when eqb 0 n and true then At (first + 0) else Absent
 
 alone-is : (first n : ℕ) → nth_of first 1 n ≡ alone first n
-unfolding alone nth_of if◌then◌else◌ ◌and◌
+unfolding alone nth_of when◌then◌else◌ ◌and◌
 alone-is first zero = refl
 alone-is first (suc n) = rw (le-ltb (suc n) 1 (omega arith), turned 0 (suc n) (λ e. omega arith))
 

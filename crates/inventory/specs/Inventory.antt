@@ -1,6 +1,6 @@
 -- The parts of a member and their order: SPEC 5.2 and 5.3; their selectors: SPEC 5.1. Assumes nothing.
 use Rattle.std.specs.Prelude.{Bool, List, [], ◌∷◌, map, ℕ, ◌+◌, ◌*◌, ◌%◌, ◌^◌, ltb, eqb, get_or, take}
-use Rattle.theory.specs.Logic.{if◌then◌else◌, ◌and◌, ◌or◌}
+use Rattle.theory.specs.Logic.{when◌then◌else◌, ◌and◌, ◌or◌}
 use Rattle.theory.specs.Bytes.{bytes_at}
 use Rattle.inventory.specs.declared.Place.{Place}
 use Rattle.inventory.specs.declared.Place.TheVariants.{At, Absent}
@@ -91,8 +91,8 @@ low_bytes n x = x % 256 ^ n
 -- of the eight selector bytes, as a number, those that the type names: an offset 4, a queue index 2, else none
 unfoldable pub selector_of : ℕ → ℕ → ℕ
 selector_of t s =
-    if eqb t pci_common then low_bytes 4 s else
-    if eqb t queue or eqb t queue_notify then low_bytes 2 s else
+    when eqb t pci_common then low_bytes 4 s else
+    when eqb t queue or eqb t queue_notify then low_bytes 2 s else
     0
 
 -- the row of a type and selector that a member with so many queues has
@@ -101,7 +101,7 @@ is_row queues t s r = eqb r.part_type t and eqb r.selector s and present queues 
 
 unfoldable pub seek : ℕ → ℕ → ℕ → List Row → ℕ → Place
 seek queues t s [] i = Absent
-seek queues t s (r ∷ rs) i = if is_row queues t s r then At i else seek queues t s rs (i + 1)
+seek queues t s (r ∷ rs) i = when is_row queues t s r then At i else seek queues t s rs (i + 1)
 
 unfoldable pub place_of : ℕ → ℕ → ℕ → Place
 place_of queues t s = seek queues t s rows 0

@@ -1,7 +1,7 @@
 -- The row of a part worked out from its type and selector, and the quick test of queues, for the private functions that do
 -- so. No public contract cites this. Assumes nothing.
 use Rattle.std.specs.Prelude.{Bool, List, ℕ, ◌+◌, ◌-◌, ◌%◌, ◌^◌, ltb, eqb}
-use Rattle.theory.specs.Logic.{if◌then◌else◌, ◌and◌, ◌or◌}
+use Rattle.theory.specs.Logic.{when◌then◌else◌, ◌and◌, ◌or◌}
 use Rattle.wire.specs.Le.{number}
 use Rattle.inventory.specs.Inventory.{offset_of}
 use Rattle.inventory.specs.Queue.{power_below, queue_row}
@@ -10,24 +10,24 @@ use Rattle.inventory.specs.declared.Place.TheVariants.{At, Absent}
 
 -- the n-th, from 0, of so many rows of one type, which stand one after another from the first
 unfoldable pub nth_of : ℕ → ℕ → ℕ → Place
-nth_of first count n = if ltb n count then At (first + n) else Absent
+nth_of first count n = when ltb n count then At (first + n) else Absent
 
 -- the row of the PCI common field at an offset
 unfoldable pub field_at : ℕ → Place
 field_at offset =
-    if eqb offset 0 then At 2 else
-    if eqb offset 8 then At 3 else
-    if eqb offset 16 then At 4 else
-    if eqb offset 22 then At 5 else
+    when eqb offset 0 then At 2 else
+    when eqb offset 8 then At 3 else
+    when eqb offset 16 then At 4 else
+    when eqb offset 22 then At 5 else
     Absent
 
 -- the table has rows for four queues
 unfoldable pub queue_rows : ℕ → ℕ
-queue_rows queues = if ltb queues 4 then queues else 4
+queue_rows queues = when ltb queues 4 then queues else 4
 
 -- the number before n in eight bytes, where all bits stand before 0
 unfoldable pub number_before : ℕ → ℕ
-number_before n = if eqb n 0 then 2 ^ 64 - 1 else n - 1
+number_before n = when eqb n 0 then 2 ^ 64 - 1 else n - 1
 
 -- the first eight bytes of a queue's value, as a number: all are 0, or the size, which is the first two, is a power of two
 unfoldable pub plain_queue : ℕ → Bool

@@ -8,7 +8,7 @@ use mir.Syntax.{w8}
 use mir.Val.{Fits, bool_byte}
 use lib.Dec.{eqb}
 use lib.ListN.{length, get_or, drop}
-use Rattle.theory.specs.Logic.{if◌then◌else◌}
+use Rattle.theory.specs.Logic.{when◌then◌else◌}
 use Rattle.theory.proofs.Tests.{bool-byte, indicator-le}
 use Rattle.protocol.specs.declared.Mode.{Mode}
 use Rattle.protocol.specs.declared.Mode.TheVariants.{Running, Stopped}
@@ -20,15 +20,15 @@ use Rattle.loads.specs.Loads.{state_of, live_of, summary_of}
 
 module _ (mode : Mode) (marked : Bool) where
   pub state-marked : marked ≡ true → 2 ≡ state_of mode marked
-  unfolding state_of if◌then◌else◌
+  unfolding state_of when◌then◌else◌
   state-marked e = rw e
 
   pub state-running : marked ≡ false → mode ≡ Running → 0 ≡ state_of mode marked
-  unfolding state_of if◌then◌else◌
+  unfolding state_of when◌then◌else◌
   state-running e f = rw (e, f)
 
   pub state-stopped : marked ≡ false → mode ≡ Stopped → 1 ≡ state_of mode marked
-  unfolding state_of if◌then◌else◌
+  unfolding state_of when◌then◌else◌
   state-stopped e f = rw (e, f)
 
 -- ---- the loop ----

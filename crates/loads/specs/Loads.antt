@@ -2,7 +2,7 @@
 -- that applies, as a card store does, and what is then in the numbers and buffers lent to it; refused, they are as they were.
 -- The card is lent, and no call here changes it. Assumes nothing.
 use Rattle.std.specs.Prelude.{Bool, List, [], map, ℕ, eqb, length}
-use Rattle.theory.specs.Logic.{if◌then◌else◌, unless◌answer◌then◌}
+use Rattle.theory.specs.Logic.{when◌then◌else◌, unless◌answer◌then◌}
 use Rattle.protocol.specs.declared.EventAnswer.{EventAnswer}
 use Rattle.protocol.specs.declared.EventAnswer.TheVariants.{Done, NoPart, WrongLength}
 use Rattle.protocol.specs.declared.Mode.{Mode}
@@ -53,7 +53,7 @@ lent c m t s = unless is_event_done (member_answer c m) answer [] then part_of (
 
 -- 0 running, 1 stopped, 2 marked
 unfoldable pub state_of : Mode → Bool → ℕ
-state_of mode marked = if marked then 2 else mode_byte mode
+state_of mode marked = when marked then 2 else mode_byte mode
 
 -- how many of a member's objects are live, of the kind whose byte this is
 unfoldable pub live_of : ℕ → Member → ℕ

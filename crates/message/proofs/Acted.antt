@@ -2,7 +2,7 @@
 use Rattle.std.proofs.Common.{◌≡◌, ℕ, ◌+◌, ◌-◌, ◌%◌, ◌^◌, ◌<◌, ◌≤◌, Bool, true, false, not, leb, List, length, take, drop, sym, ap, ◌∙◌, arith, length-drop, leb-true}
 use native.Mathlib.Nat.{add-sub_cancel_left}
 use borrow.Author.Tests.{not-true, not-false}
-use Rattle.theory.specs.Logic.{if◌then◌else◌, unless◌answer◌then◌}
+use Rattle.theory.specs.Logic.{when◌then◌else◌, unless◌answer◌then◌}
 use Rattle.theory.specs.Bytes.{put}
 use Rattle.theory.proofs.Tests.{by_cases, both}
 use Rattle.theory.proofs.Bytes.{put-nil, length-bytes_at-le}
@@ -25,7 +25,7 @@ inside_is offset n e = leb-true _ _ e
 
 module _ (l : List ℕ) (offset n : ℕ) (b : Bool) (e : b ≡ is_inside offset n) where
   pub read_none : not b ≡ true → take (0 - 0) (drop 0 l) ≡ readable l offset n
-  unfolding readable if◌then◌else◌
+  unfolding readable when◌then◌else◌
   read_none h = rw (sym e ∙ not-true b h)
 
   module _ (h : not b ≡ false) where
@@ -33,11 +33,11 @@ module _ (l : List ℕ) (offset n : ℕ) (b : Bool) (e : b ≡ is_inside offset 
     read-ends k = omega (arith, inside_is offset n (sym e ∙ not-false b h))
 
     pub read-inside : take (offset + n - offset) (drop offset l) ≡ readable l offset n
-    unfolding readable if◌then◌else◌
+    unfolding readable when◌then◌else◌
     read-inside = rw (sym e ∙ not-false b h, add-sub_cancel_left offset n)
 
 pub readable-few : (l : List ℕ) (offset n : ℕ) (r : List ℕ) → r ≡ readable l offset n → length r ≤ configuration_size
-unfolding readable if◌then◌else◌
+unfolding readable when◌then◌else◌
 readable-few l offset n r e = rw e (by_cases (is_inside offset n)
     (λ t. let k = inside_is offset n t in rw t (omega (arith, length-bytes_at-le offset n l)))
     (λ t. rw t (omega arith)))

@@ -1,7 +1,7 @@
 -- What the returns of decode need, beside the laws of the ladder. Assumes nothing.
 use Rattle.std.proofs.Common.{◌≡◌, ℕ, ◌-◌, ◌<◌, ◌≤◌, Bool, true, false, not, List, length, sym, refl, ap, ◌∙◌, arith, ne_eqb, leb-true}
 use borrow.Author.Tests.{not-true, not-false}
-use Rattle.theory.specs.Logic.{if◌then◌else◌, unless◌answer◌then◌}
+use Rattle.theory.specs.Logic.{when◌then◌else◌, unless◌answer◌then◌}
 use Rattle.theory.proofs.Tests.{by_cases, both, tests}
 use Rattle.theory.proofs.Ladder.{pass, stop, no-not, yes-not}
 use Rattle.wire.specs.Le.{number}
@@ -50,15 +50,15 @@ module _ (c x : List ℕ) (m : ℕ) (em : m ≡ member_for x) (t : Bool) (et : t
       request = sym e ∙ not-false b n
 
       pub reads-config : msg_id_of x ≡ get_config → a ≡ read_in x → a ≡ access_in c x
-      unfolding whole_of if◌then◌else◌ unless◌answer◌then◌
+      unfolding whole_of when◌then◌else◌ unless◌answer◌then◌
       reads-config i w = of-whole (rw (request, i) w)
 
       pub writes-config : msg_id_of x ≡ set_config → a ≡ write_in x → a ≡ access_in c x
-      unfolding whole_of if◌then◌else◌ unless◌answer◌then◌
+      unfolding whole_of when◌then◌else◌ unless◌answer◌then◌
       writes-config i w = of-whole (rw (request, i) w)
 
       pub other-kind : (msg_id_of x ≡ get_config → ⊥) → (msg_id_of x ≡ set_config → ⊥) → a ≡ Nothing → a ≡ access_in c x
-      unfolding whole_of if◌then◌else◌ unless◌answer◌then◌
+      unfolding whole_of when◌then◌else◌ unless◌answer◌then◌
       other-kind i j w = of-whole (rw (request, ne_eqb _ _ i, ne_eqb _ _ j) w)
 
 -- the length field of a write, where the data agrees with it and where not

@@ -1,6 +1,6 @@
 -- What a message asks, by its bytes alone: SPEC 13.3. Assumes nothing.
 use Rattle.std.specs.Prelude.{ℕ, ◌+◌, ◌%◌, Bool, false, List, length, ◌==◌, nat_eq, nat_le}
-use Rattle.theory.specs.Logic.{if◌then◌else◌, unless◌answer◌then◌, ◌and◌}
+use Rattle.theory.specs.Logic.{when◌then◌else◌, unless◌answer◌then◌, ◌and◌}
 use Rattle.wire.specs.Le.{number}
 use Rattle.message.specs.declared.Access.{Access}
 use Rattle.message.specs.declared.Access.TheVariants.{Nothing, Read, Write}
@@ -26,8 +26,8 @@ write_in x =
 unfoldable pub whole_of : List ℕ → Access
 whole_of x =
     unless is_request x answer Nothing then
-    if msg_id_of x == get_config then read_in x else
-    if msg_id_of x == set_config then write_in x else
+    when msg_id_of x == get_config then read_in x else
+    when msg_id_of x == set_config then write_in x else
     Nothing
 
 -- whom such a request names (01's term), whatever the card

@@ -1,7 +1,7 @@
 -- A message, whole: SPEC 13.3. What it asks is done to the configuration and the generation of one member, and answered.
 -- Assumes nothing.
 use Rattle.std.specs.Prelude.{ℕ, ◌+◌, ◌%◌, ◌^◌, Bool, not, leb, List, [], length, nat_eq, nat_le}
-use Rattle.theory.specs.Logic.{if◌then◌else◌, unless◌answer◌then◌, ◌and◌}
+use Rattle.theory.specs.Logic.{when◌then◌else◌, unless◌answer◌then◌, ◌and◌}
 use Rattle.theory.specs.Bytes.{bytes_at, put}
 use Rattle.card.specs.Layout.{configuration_size, is_member, is_marked, configuration_in, generation_in, with_configuration}
 use Rattle.card.specs.Sound.{is_sound}
@@ -16,7 +16,7 @@ is_inside offset n = nat_le (offset + n) configuration_size
 
 -- a read inside gives the bytes, any other none
 unfoldable pub readable : List ℕ → ℕ → ℕ → List ℕ
-readable configuration offset n = if is_inside offset n then bytes_at offset n configuration else []
+readable configuration offset n = when is_inside offset n then bytes_at offset n configuration else []
 
 -- a write is applied if it has bytes (length 0 is a no-op), was sent with the current generation and is inside
 unfoldable pub is_applied : ℕ → ℕ → ℕ → ℕ → Bool

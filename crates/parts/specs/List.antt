@@ -1,6 +1,6 @@
 -- A list of parts and its bytes: SPEC 5.4. Assumes nothing.
 use Rattle.std.specs.Prelude.{Bool, true, false, List, ℕ, zero, suc, ◌+◌, ◌-◌, leb, ltb, eqb, length, get_or}
-use Rattle.theory.specs.Logic.{if◌then◌else◌, unless◌answer◌then◌, ◌and◌, ◌or◌}
+use Rattle.theory.specs.Logic.{when◌then◌else◌, unless◌answer◌then◌, ◌and◌, ◌or◌}
 use Rattle.theory.specs.Bytes.{bytes_at}
 use Rattle.wire.specs.Le.{number}
 use Rattle.inventory.specs.Inventory.{selector_of}
@@ -84,7 +84,7 @@ among t s (part p ps) = (eqb p.part_type t and eqb p.selector s) or among t s ps
 unfoldable pub value_or : ℕ → ℕ → PartList → List ℕ → List ℕ
 value_or t s end y = y
 value_or t s cut y = y
-value_or t s (part p ps) y = if eqb p.part_type t and eqb p.selector s then p.value else value_or t s ps y
+value_or t s (part p ps) y = when eqb p.part_type t and eqb p.selector s then p.value else value_or t s ps y
 
 -- the longest list of parts that a request gives: 4,096 bytes, less its frame and the object header
 abbrev pub longest_list : ℕ

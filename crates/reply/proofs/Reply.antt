@@ -9,7 +9,7 @@ use mir.Syntax.{w64}
 use mir.Val.{Fits}
 use lib.ListN.{length, take, drop, replicate, length-append}
 use borrow.Author.Tests.{le-leb, lt-leb, leb-true, not-true, not-false}
-use Rattle.theory.specs.Logic.{if◌then◌else◌, unless◌answer◌then◌}
+use Rattle.theory.specs.Logic.{when◌then◌else◌, unless◌answer◌then◌}
 use Rattle.theory.specs.Bytes.{put}
 use Rattle.theory.proofs.Tests.{by_cases, never}
 use Rattle.theory.proofs.Bytes.{length-put, put-append}
@@ -40,20 +40,20 @@ head-written a s q l l₁ l₂ l₃ es eq e₁ e₂ e₃ =
 -- the code was told b of the answer
 module _ (a : Answer) (size room : ℕ) (b : Bool) (said : b ≡ is_done a) where
   final-refused : not b ≡ true → final_of a size room ≡ a
-  unfolding final_of if◌then◌else◌
+  unfolding final_of when◌then◌else◌
   final-refused n = rw (sym said ∙ not-true b n)
 
   final-short : not b ≡ false → 8 ≤ room → room - 8 < size → final_of a size room ≡ ShortReply
-  unfolding final_of if◌then◌else◌ unless◌answer◌then◌
+  unfolding final_of when◌then◌else◌ unless◌answer◌then◌
   final-short n h k = rw (sym said ∙ not-false b n, lt-leb (8 + size) room (omega arith))
 
   final-fits : not b ≡ false → 8 ≤ room → size ≤ room - 8 → final_of a size room ≡ a
-  unfolding final_of if◌then◌else◌ unless◌answer◌then◌
+  unfolding final_of when◌then◌else◌ unless◌answer◌then◌
   final-fits n h k = rw (sym said ∙ not-false b n, le-leb (8 + size) room (omega arith))
 
 -- a success in the end has room
 pub final-room : (a : Answer) (size room : ℕ) → is_done (final_of a size room) ≡ true → 8 + size ≤ room
-unfolding final_of if◌then◌else◌ unless◌answer◌then◌
+unfolding final_of when◌then◌else◌ unless◌answer◌then◌
 final-room a size room =
     by_cases (is_done a)
     (λ d. rw d (by_cases (leb (8 + size) room) (λ l. rw l (λ e. leb-true (8 + size) room l)) (λ l. rw l (λ e. never e))))
@@ -63,15 +63,15 @@ final-room a size room =
 
 -- a refusal, and a success with no result, is the head alone
 pub reply-refused : (a : Answer) (x : List ℕ) → is_done a ≡ false → reply_of a x ≡ head_of a
-unfolding reply_of if◌then◌else◌
+unfolding reply_of when◌then◌else◌
 reply-refused a x d = rw (d, append-nil)
 
 pub reply-empty : (a : Answer) → reply_of a [] ≡ head_of a
-unfolding reply_of if◌then◌else◌
+unfolding reply_of when◌then◌else◌
 reply-empty a = by_cases (is_done a) (λ d. rw (d, append-nil)) (λ d. rw (d, append-nil))
 
 pub reply-done : (a : Answer) (x : List ℕ) → is_done a ≡ true → reply_of a x ≡ head_of a ++ x
-unfolding reply_of if◌then◌else◌
+unfolding reply_of when◌then◌else◌
 reply-done a x d = rw d
 
 -- x is the result, and the code was told b of the answer
@@ -114,7 +114,7 @@ unfolding written
 answer-only a l l' e = rw (e, reply-empty a, head-long a)
 
 pub final-empty : (a : Answer) (room : ℕ) → head_size ≤ room → final_of a 0 room ≡ a
-unfolding final_of if◌then◌else◌ unless◌answer◌then◌
+unfolding final_of when◌then◌else◌ unless◌answer◌then◌
 final-empty a room h =
     let f : leb (head_size + 0) room ≡ true = le-leb head_size room h in
     by_cases (is_done a) (λ d. rw (d, f)) (λ d. rw d)

@@ -5,7 +5,7 @@ use mathlib.Core.List.{List}
 use Prim.Native.Nat.{ℕ}
 use lib.Dec.{eqb}
 use borrow.Author.Tests.{eqb-true, eq-eqb}
-use Rattle.theory.specs.Logic.{if◌then◌else◌, ◌and◌}
+use Rattle.theory.specs.Logic.{when◌then◌else◌, ◌and◌}
 use Rattle.theory.proofs.Tests.{by_cases, both, and_i, true-or, false-or}
 use Rattle.parts.specs.List.{Part, PartList, end, cut, part, among, value_or}
 use Rattle.rules.specs.Rules.{every}
@@ -13,15 +13,15 @@ use Rattle.rules.specs.Rules.{every}
 -- of a list with a part in front
 module _ (t s : ℕ) (p : Part) (ps : PartList) (y : List ℕ) where
   pub value-here : p.part_type ≡ t → p.selector ≡ s → value_or t s (part p ps) y ≡ p.value
-  unfolding value_or if◌then◌else◌
+  unfolding value_or when◌then◌else◌
   value-here e f = rw (and_i _ _ (eq-eqb _ _ e) (eq-eqb _ _ f))
 
   pub value_on : eqb p.part_type t and eqb p.selector s ≡ false → value_or t s (part p ps) y ≡ value_or t s ps y
-  unfolding value_or if◌then◌else◌
+  unfolding value_or when◌then◌else◌
   value_on e = rw e
 
 pub value_none : (t s : ℕ) (ps : PartList) (y : List ℕ) → among t s ps ≡ false → value_or t s ps y ≡ y
-unfolding value_or among if◌then◌else◌
+unfolding value_or among when◌then◌else◌
 value_none t s end y e = refl
 value_none t s cut y e = refl
 value_none t s (part p ps) y e =
@@ -31,7 +31,7 @@ value_none t s (part p ps) y e =
 
 -- where there is one, what stands in for it does not count
 pub value_there : (t s : ℕ) (ps : PartList) (x y : List ℕ) → among t s ps ≡ true → value_or t s ps x ≡ value_or t s ps y
-unfolding value_or among if◌then◌else◌
+unfolding value_or among when◌then◌else◌
 value_there t s end x y e = cc
 value_there t s cut x y e = cc
 value_there t s (part p ps) x y e =
@@ -45,7 +45,7 @@ on_part rule p = rule p.part_type p.selector p.value
 
 pub value-obeys : (rule : ℕ → ℕ → List ℕ → Bool) (t s : ℕ) (ps : PartList) (y : List ℕ) → every (on_part rule) ps ≡ true
     → (among t s ps ≡ false → rule t s y ≡ true) → rule t s (value_or t s ps y) ≡ true
-unfolding value_or among every if◌then◌else◌
+unfolding value_or among every when◌then◌else◌
 value-obeys rule t s end y e h = h refl
 value-obeys rule t s cut y e h = h refl
 value-obeys rule t s (part p ps) y e h =

@@ -7,7 +7,7 @@ use native.Mathlib.Nat.{add-zero}
 use native.Mathlib.Omega.{arith}
 use lib.ListN.{length, get_or, length-append}
 use lib.Seq.{drop-append-add, take_at, drop_at, get_or-append-add}
-use Rattle.theory.specs.Logic.{if◌then◌else◌}
+use Rattle.theory.specs.Logic.{when◌then◌else◌}
 use Rattle.theory.specs.Bytes.{bytes_at}
 use Rattle.theory.specs.Items.{items_from}
 use Rattle.theory.proofs.Tests.{by_cases}
@@ -70,7 +70,7 @@ row_part v i = part_with (row_at i).part_type (flags_of (row_at i)) (row_at i).s
 unfoldable pub row_parts : ℕ → List ℕ → ℕ → ℕ → PartList
 row_parts q v zero i = end
 row_parts q v (suc k) i =
-    if present q (row_at i) then part (row_part v i) (row_parts q v k (i + 1)) else
+    when present q (row_at i) then part (row_part v i) (row_parts q v k (i + 1)) else
     row_parts q v k (i + 1)
 
 module _ (q : ℕ) (v : List ℕ) where
@@ -78,11 +78,11 @@ module _ (q : ℕ) (v : List ℕ) where
   item = part_item All q [] v
 
   item-there : (i : ℕ) → present q (row_at i) ≡ true → item i ≡ part_at v i
-  unfolding part_item asks if◌then◌else◌
+  unfolding part_item asks when◌then◌else◌
   item-there i y = rw y
 
   item-absent : (i : ℕ) → present q (row_at i) ≡ false → item i ≡ []
-  unfolding part_item asks if◌then◌else◌
+  unfolding part_item asks when◌then◌else◌
   item-absent i y = rw y
 
   split : (i : ℕ) (rest : List ℕ) → part_at v i ++ rest ≡ header_of (row_at i) ++ (value_of v i ++ rest)
@@ -91,7 +91,7 @@ module _ (q : ℕ) (v : List ℕ) where
 
   read-back : length v ≡ values_size → (k i : ℕ) (pre : List ℕ) → i + k ≡ row_count
       → parts_from Parts (pre ++ items_from item k i) (length pre) ≡ row_parts q v k i
-  unfolding items_from row_parts if◌then◌else◌
+  unfolding items_from row_parts when◌then◌else◌
   read-back e zero i pre n = rw append-nil (parts-end Parts pre (length pre) (step_end Parts pre (length pre) (omega arith)))
   read-back e (suc k) i pre n =
       let h : i < row_count = omega arith in
@@ -116,7 +116,7 @@ module _ (q : ℕ) (v : List ℕ) where
       → ((i : ℕ) (ps : PartList) → i < row_count → present q (row_at i) ≡ true → P (i + 1) ps → P i (part (row_part v i) ps))
       → ((i : ℕ) (ps : PartList) → i < row_count → present q (row_at i) ≡ false → P (i + 1) ps → P i ps)
       → (k i : ℕ) → i + k ≡ row_count → P i (row_parts q v k i)
-  unfolding row_parts if◌then◌else◌
+  unfolding row_parts when◌then◌else◌
   by_rows P z s t zero i n = let e : i ≡ row_count = omega arith in rw e z
   by_rows P z s t (suc k) i n =
       let ih = by_rows P z s t k (i + 1) (omega arith) in

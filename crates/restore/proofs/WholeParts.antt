@@ -5,7 +5,7 @@ use mathlib.Core.List.{List, [], ◌++◌, append_assoc, append-nil}
 use Prim.Native.Nat.{ℕ, zero, suc, ◌+◌, ◌<◌}
 use native.Mathlib.Omega.{arith}
 use lib.ListN.{length, length-append}
-use Rattle.theory.specs.Logic.{if◌then◌else◌}
+use Rattle.theory.specs.Logic.{when◌then◌else◌}
 use Rattle.theory.specs.Items.{items_from}
 use Rattle.theory.proofs.Tests.{by_cases}
 use Rattle.inventory.proofs.Values.{value-long}
@@ -22,7 +22,7 @@ module _ (selection : Selection) (queues : ℕ) (list values : List ℕ) (e : le
   -- the items of k rows from the i-th on, after some bytes
   whole_from : (k i : ℕ) (pre : List ℕ) → i + k ≡ row_count
       → whole (parts_from Parts (pre ++ items_from (part_item selection queues list values) k i) (length pre)) ≡ true
-  unfolding items_from part_item part_at whole if◌then◌else◌
+  unfolding items_from part_item part_at whole when◌then◌else◌
   whole_from zero i pre n = rw (append-nil, parts-end Parts pre (length pre) (step_end Parts pre (length pre) (omega arith)))
   whole_from (suc k) i pre n =
       let h : i < row_count = omega arith in

@@ -6,7 +6,7 @@ use native.Mathlib.Omega.{arith}
 use lib.Dec.{leb}
 use borrow.Author.Rules.{rules}
 use borrow.Author.Tests.{leb-true, leb-false, le-leb, ne_eqb}
-use Rattle.theory.specs.Logic.{if◌then◌else◌, unless◌answer◌then◌, ◌and◌, ◌or◌}
+use Rattle.theory.specs.Logic.{when◌then◌else◌, unless◌answer◌then◌, ◌and◌, ◌or◌}
 use Rattle.theory.proofs.Tests.{by_cases, not-or}
 use Rattle.rules.specs.declared.Cause.{Cause}
 use Rattle.rules.specs.declared.Cause.TheVariants.{Accepted, Cut, Unknown, Length, Size, Features, Twice}
@@ -15,11 +15,11 @@ use Rattle.rules.specs.Ranks.{rank_of, least, cause_at}
 -- ---- the lesser of two ----
 
 least-left : (a b : ℕ) → a ≤ b → least a b ≡ a
-unfolding least if◌then◌else◌
+unfolding least when◌then◌else◌
 least-left a b h = rw (le-leb a b h)
 
 least-right : (a b : ℕ) → b ≤ a → least a b ≡ b
-unfolding least if◌then◌else◌
+unfolding least when◌then◌else◌
 least-right a b h = by_cases (leb a b) (λ e. rw e (omega (arith, leb-true a b e))) (λ e. rw e)
 
 pub least-assoc : (a b c : ℕ) → least a (least b c) ≡ least (least a b) c
@@ -78,16 +78,16 @@ cause-is r k d x e h = rw e h
 -- b: what `repeats` answered
 module _ (r : ℕ) (d b : Bool) (told : b ≡ d) (last : r ≡ 4) where
   pub cause-twice : b ≡ true → Twice ≡ cause_at r d
-  unfolding cause_at if◌then◌else◌
+  unfolding cause_at when◌then◌else◌
   cause-twice h = rw (last, ← told, h)
 
   pub cause-once : b ≡ false → Accepted ≡ cause_at r d
-  unfolding cause_at if◌then◌else◌
+  unfolding cause_at when◌then◌else◌
   cause-once h = rw (last, ← told, h)
 
 -- a rank of 5 adds nothing
 pub cause-least : (r : ℕ) (d : Bool) → cause_at (least r 5) d ≡ cause_at r d
-unfolding cause_at if◌then◌else◌
+unfolding cause_at when◌then◌else◌
 cause-least r d =
     by_cases (leb r 5)
     (λ e. rw (least-left r 5 (leb-true r 5 e)))
@@ -112,7 +112,7 @@ pub cause-of-rank : (w k n z f d : Bool)
     unless not d answer Twice then
     Accepted)
     ≡ unless w answer Cut then cause_at (least 5 (rank_of k n z f d)) d
-unfolding unless◌answer◌then◌ rank_of least cause_at if◌then◌else◌
+unfolding unless◌answer◌then◌ rank_of least cause_at when◌then◌else◌
 cause-of-rank false k n z f d = refl
 cause-of-rank true false n z f d = refl
 cause-of-rank true true false z f d = refl

@@ -1,7 +1,7 @@
 -- The causes that a part can give, as numbers in the order of SPEC 5.5, for the private functions of the walk that keeps the
 -- least of them. No public contract cites this. Assumes nothing.
 use Rattle.std.specs.Prelude.{Bool, true, false, not, List, ℕ, leb, ltb, eqb, length}
-use Rattle.theory.specs.Logic.{if◌then◌else◌, unless◌answer◌then◌, ◌and◌, ◌or◌}
+use Rattle.theory.specs.Logic.{when◌then◌else◌, unless◌answer◌then◌, ◌and◌, ◌or◌}
 use Rattle.theory.specs.Bytes.{same}
 use Rattle.inventory.specs.Inventory.{device_features}
 use Rattle.inventory.specs.Queue.{value_allowed}
@@ -29,14 +29,14 @@ row_rank size seen t value features =
     rank_of true (eqb (length value) size) (value_allowed t value) (not (eqb t device_features) or same value features) seen
 
 unfoldable pub least : ℕ → ℕ → ℕ
-least a b = if leb a b then a else b
+least a b = when leb a b then a else b
 
 -- the cause of a rank: where a row was seen again, whether a part is named twice decides
 unfoldable pub cause_at : ℕ → Bool → Cause
 cause_at rank twice =
-    if eqb rank 0 then Unknown else
-    if eqb rank 1 then Length else
-    if eqb rank 2 then Size else
-    if eqb rank 3 then Features else
-    if eqb rank 4 then (if twice then Twice else Accepted) else
+    when eqb rank 0 then Unknown else
+    when eqb rank 1 then Length else
+    when eqb rank 2 then Size else
+    when eqb rank 3 then Features else
+    when eqb rank 4 then (when twice then Twice else Accepted) else
     Accepted

@@ -6,7 +6,7 @@ use mathlib.Core.List.{List, [], ◌∷◌, ◌++◌}
 use Prim.Native.Nat.{ℕ}
 use lib.Dec.{eqb}
 use lib.ListN.{replicate}
-use Rattle.theory.specs.Logic.{if◌then◌else◌, unless◌answer◌then◌, ◌and◌, ◌or◌, within, indicator}
+use Rattle.theory.specs.Logic.{when◌then◌else◌, unless◌answer◌then◌, ◌and◌, ◌or◌, within, indicator}
 use Rattle.theory.specs.Bytes.{put, same}
 use Rattle.theory.specs.Items.{items_from}
 use Rattle.wire.specs.Le.{le, bytes, number}
@@ -21,7 +21,7 @@ use Rattle.salvage.specs.Salvage.{value_right, allowed, is_copy, kept_or, is_kep
 
 -- every definition, opened at once
 unfoldable model : Unit {0}
-unfolding if◌then◌else◌ unless◌answer◌then◌ ◌and◌ ◌or◌ within indicator put same items_from le bytes number
+unfolding when◌then◌else◌ unless◌answer◌then◌ ◌and◌ ◌or◌ within indicator put same items_from le bytes number
     rows row_at present offset_of selector_of is_row seek place_of power_below ring_size queue_allowed value_allowed header_of
     header_at step_at at_most parts_from known length_right features_same part_at asks part_item parts_written fresh_of
     value_right allowed is_copy kept_or is_kept fate_of dropped_from bytes_read fresh_value repaired_item repaired kept_item kept_report dropped_report

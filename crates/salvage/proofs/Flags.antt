@@ -9,7 +9,7 @@ use mir.Syntax.{w64}
 use mir.Val.{Fits, bool_byte}
 use lib.Dec.{eqb}
 use lib.ListN.{length, get_or, set}
-use Rattle.theory.specs.Logic.{if◌then◌else◌, indicator}
+use Rattle.theory.specs.Logic.{when◌then◌else◌, indicator}
 use Rattle.theory.specs.Items.{items_from}
 use Rattle.theory.proofs.Tests.{bool-byte}
 use Rattle.theory.proofs.Bytes.{put_one}
@@ -30,8 +30,8 @@ length-one q item few one =
     length-items item (λ i. indicator (present q (row_at i))) row_count row_count 0 refl (λ i h. one i)
     ∙ eqb-true _ _ (every-count (λ q. eqb (sum_from (λ i. indicator (present q (row_at i))) row_count 0) (part_count q)) refl q few)
 
-pub length-byte : (b : Bool) (x : ℕ) → length (if b then x ∷ [] else []) ≡ indicator b
-unfolding if◌then◌else◌ indicator
+pub length-byte : (b : Bool) (x : ℕ) → length (when b then x ∷ [] else []) ≡ indicator b
+unfolding when◌then◌else◌ indicator
 length-byte true x = refl
 length-byte false x = refl
 
@@ -49,7 +49,7 @@ module _ (q : ℕ) (kept out₀ out : List ℕ) (at i : ℕ) (w : Written (flag_
   there = told ∙ present-at q i
 
   item-there : b ≡ true → flag_item q kept i ≡ indicator (not (eqb (get_or kept i 0) 0)) ∷ []
-  unfolding flag_item if◌then◌else◌
+  unfolding flag_item when◌then◌else◌
   item-there y = rw (← there, y)
 
   pub flags-room : b ≡ true → at < length out
@@ -64,5 +64,5 @@ module _ (q : ℕ) (kept out₀ out : List ℕ) (at i : ℕ) (w : Written (flag_
       rw (bool-byte, ← put_one at x out) (rw (item-there y) at (written_next _ _ _ _ _ _ _ w h))
 
   pub flags-skip : b ≡ false → Written (flag_item q kept) row_count 0 out₀ out at (i + 1)
-  unfolding flag_item if◌then◌else◌
+  unfolding flag_item when◌then◌else◌
   flags-skip n = written-skip _ _ _ _ _ _ _ w h (rw (← there, n))

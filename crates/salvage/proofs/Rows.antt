@@ -9,7 +9,7 @@ use native.Mathlib.Omega.{arith}
 use borrow.Author.Tests.{eqb-true, eq-eqb, not-true, not-false}
 use lib.ListN.{length, get_or, set}
 use lib.Seq.{get_or-set_same, get_or-set_other}
-use Rattle.theory.specs.Logic.{if◌then◌else◌, ◌and◌, ◌or◌}
+use Rattle.theory.specs.Logic.{when◌then◌else◌, ◌and◌, ◌or◌}
 use Rattle.theory.proofs.Tests.{by_cases, unless-cases, both, and_i, false-and, and-false, and-true, or-true, or-false, true-or, never, or_assoc, if-same}
 use Rattle.inventory.proofs.Values.{own_value, other-value}
 use Rattle.inventory.specs.Inventory.{row_at, row_count, place_of, on_place, value_of}
@@ -83,14 +83,14 @@ module _ (q : ℕ) (features : List ℕ) (p : Part) where
 
     record After (s s' : State) : Type 0 where
       flagged : flag s' i ≡ flag s i or copy_of
-      valued : value_of s'.values i ≡ (if flag s i then value_of s.values i else if copy_of then p.value else value_of s.values i)
+      valued : value_of s'.values i ≡ (when flag s i then value_of s.values i else when copy_of then p.value else value_of s.values i)
 
     module _ (s : State) (n : ℕ) (h : Sized n s) where
       before-is : copy_of ≡ true → kept_before q p s ≡ flag s i
       before-is c = rw (copy-place c)
 
       after-dropped : (cause : ℕ) → not (kept_before q p s) and allowed q features p ≡ false → After s (dropping s cause)
-      unfolding if◌then◌else◌
+      unfolding when◌then◌else◌
       after-dropped cause none =
           by_cases copy_of
           (λ c.
@@ -99,7 +99,7 @@ module _ (q : ℕ) (features : List ℕ) (p : Part) where
           (λ c. record { flagged = rw c (sym (or-false _)); valued = rw c (sym (if-same (flag s i) _)) })
 
       after_kept : kept_before q p s ≡ false → allowed q features p ≡ true → After s (done q Kept p s)
-      unfolding if◌then◌else◌
+      unfolding when◌then◌else◌
       after_kept free a =
           by_cases copy_of
           (λ c.
@@ -145,8 +145,8 @@ module _ (q : ℕ) (features : List ℕ) (i : ℕ) (below : i < row_count) where
       ∙ rw (taken-flag q features p i below s n h) (or_assoc _ _ _)
 
   pub walked-value : (ps : PartList) (s : State) (n : ℕ) → Sized n s
-      → value_of (walked q features ps s).values i ≡ (if flag s i then value_of s.values i else kept_or q features t v (value_of s.values i) ps)
-  unfolding walked kept_or if◌then◌else◌ ◌or◌
+      → value_of (walked q features ps s).values i ≡ (when flag s i then value_of s.values i else kept_or q features t v (value_of s.values i) ps)
+  unfolding walked kept_or when◌then◌else◌ ◌or◌
   walked-value end s n h = sym (if-same (flag s i) _)
   walked-value cut s n h = sym (if-same (flag s i) _)
   walked-value (part p ps) s n h =
@@ -155,8 +155,8 @@ module _ (q : ℕ) (features : List ℕ) (i : ℕ) (below : i < row_count) where
       ∙ rw (a.flagged, a.valued) (choose (flag s i) (is_copy q features t v p) ps (value_of s.values i) p.value)
     where
       choose : (a c : Bool) (ps : PartList) (x y : List ℕ)
-          → (if a or c then if a then x else if c then y else x else kept_or q features t v (if a then x else if c then y else x) ps)
-          ≡ (if a then x else if c then y else kept_or q features t v x ps)
+          → (when a or c then when a then x else when c then y else x else kept_or q features t v (when a then x else when c then y else x) ps)
+          ≡ (when a then x else when c then y else kept_or q features t v x ps)
       choose true c ps x y = refl
       choose false true ps x y = refl
       choose false false ps x y = refl

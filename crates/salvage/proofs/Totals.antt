@@ -9,7 +9,7 @@ use native.Mathlib.Omega.{arith}
 use borrow.Author.Tests.{eqb-true, eqb-false, not-true, not-false}
 use lib.ListN.{length, get_or, drop, set, replicate, drop_of_length-le}
 use lib.Seq.{drop-cons}
-use Rattle.theory.specs.Logic.{if◌then◌else◌, indicator}
+use Rattle.theory.specs.Logic.{when◌then◌else◌, indicator}
 use Rattle.theory.specs.Items.{items_from}
 use Rattle.theory.proofs.Tests.{by_cases, either}
 use Rattle.theory.proofs.Sums.{sum_from, sums_same}
@@ -99,7 +99,7 @@ module _ (q : ℕ) (features l : List ℕ) (sixteen : length features ≡ featur
 
   -- a row's flag is what it adds to the report
   row-total : (i : ℕ) → i < row_count → total (kept_item q features l i) ≡ get_or end_kept i 0
-  unfolding kept_item if◌then◌else◌ indicator
+  unfolding kept_item when◌then◌else◌ indicator
   row-total i h =
       let e = end-flag q features l sixteen i h in
       let low = (end-sized q features l sixteen).flags i in

@@ -7,7 +7,7 @@ use native.Mathlib.Omega.{arith}
 use borrow.Author.Tests.{eq-eqb}
 use lib.Dec.{eqb}
 use lib.ListN.{get_or, replicate}
-use Rattle.theory.specs.Logic.{if◌then◌else◌, ◌and◌, ◌or◌, indicator}
+use Rattle.theory.specs.Logic.{when◌then◌else◌, ◌and◌, ◌or◌, indicator}
 use Rattle.theory.specs.Bytes.{same}
 use Rattle.theory.specs.Items.{items_from}
 use Rattle.theory.proofs.Tests.{by_cases, both, and_i, and-true, same_true}
@@ -60,7 +60,7 @@ module _ (q : ℕ) (features : List ℕ) where
 
     kept-first : (x : List ℕ) (ps : PartList) → every (allowed q features) ps ≡ true → among t s ps ≡ true
         → kept_or q features t s x ps ≡ value_or t s ps []
-    unfolding every kept_or among value_or if◌then◌else◌ ◌or◌
+    unfolding every kept_or among value_or when◌then◌else◌ ◌or◌
     kept-first x end a y = cc
     kept-first x cut a y = cc
     kept-first x (part p ps) a y =
@@ -72,7 +72,7 @@ module _ (q : ℕ) (features : List ℕ) where
 -- ---- the report of all kept ----
 
 abbrev one_for : ℕ → ℕ → List ℕ
-one_for q i = if present q (row_at i) then 1 ∷ [] else []
+one_for q i = when present q (row_at i) then 1 ∷ [] else []
 
 all_ones : (q : ℕ) → q < 5 → items_from (one_for q) row_count 0 ≡ replicate (part_count q) 1
 unfolding table items_from same
@@ -94,7 +94,7 @@ module _ (q : ℕ) (features l : List ℕ) (g : InSetup q features) (u : Undamag
   each-kept i r = kept-among q features (row_at i).part_type (row_at i).selector (parts_of Parts l) each-allowed ∙ u.each i r
 
   pub comes_back : Back q features l
-  unfolding kept_report kept_item if◌then◌else◌ indicator
+  unfolding kept_report kept_item when◌then◌else◌ indicator
   comes_back =
       record {
         values = λ i r.

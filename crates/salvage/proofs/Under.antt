@@ -7,7 +7,7 @@ use native.Mathlib.Omega.{arith}
 use borrow.Author.Tests.{not-true, not-false}
 use lib.ListN.{length, take}
 use lib.Seq.{take_at}
-use Rattle.theory.specs.Logic.{if◌then◌else◌, unless◌answer◌then◌}
+use Rattle.theory.specs.Logic.{when◌then◌else◌, unless◌answer◌then◌}
 use Rattle.theory.proofs.Tests.{by_cases}
 use Rattle.theory.proofs.Bytes.{put_front}
 use Rattle.inventory.specs.Inventory.{parts_size}
@@ -33,7 +33,7 @@ module _ (s : MemberSetup) (known : s.known ≡ true) (g : InSetup s.queues s.fe
   -- what is written is the repaired list
   pub salvage-written : ((salvage_under s damaged b).written ≡ 0 → ⊥)
       → take (salvage_under s damaged b).written (salvage_under s damaged b).list ≡ repaired s.queues s.features damaged
-  unfolding salvage_under salvage_of salvaged unless◌answer◌then◌ if◌then◌else◌
+  unfolding salvage_under salvage_of salvaged unless◌answer◌then◌ when◌then◌else◌
   salvage-written some =
       let q = s.queues in
       let f = s.features in

@@ -7,7 +7,7 @@ use Prim.Native.Nat.{ℕ, ◌<◌}
 use native.Mathlib.Omega.{arith}
 use borrow.Author.Tests.{eqb-true, eq-eqb}
 use lib.ListN.{length}
-use Rattle.theory.specs.Logic.{if◌then◌else◌, ◌or◌}
+use Rattle.theory.specs.Logic.{when◌then◌else◌, ◌or◌}
 use Rattle.theory.specs.Bytes.{bytes_at}
 use Rattle.theory.proofs.Tests.{by_cases, both, and_i, false-or, within-high, same_true, same_refl}
 use Rattle.theory.proofs.Ladder.{or_left, or_right}
@@ -33,7 +33,7 @@ module _ (q : ℕ) (features : List ℕ) (t s : ℕ) where
   -- what holds of each allowed copy and of x holds of what is kept, or else x
   kept-or : (P : List ℕ → Type 0) (x : List ℕ) → P x → ((p : Part) → is_copy q features t s p ≡ true → P p.value)
       → (ps : PartList) → P (kept_or q features t s x ps)
-  unfolding kept_or if◌then◌else◌
+  unfolding kept_or when◌then◌else◌
   kept-or P x h f end = h
   kept-or P x h f cut = h
   kept-or P x h f (part p ps) =
@@ -41,12 +41,12 @@ module _ (q : ℕ) (features : List ℕ) (t s : ℕ) where
 
   -- an allowed copy is kept before all that follow it
   kept-first : (x : List ℕ) (p : Part) (ps : PartList) → is_copy q features t s p ≡ true → kept_or q features t s x (part p ps) ≡ p.value
-  unfolding kept_or if◌then◌else◌
+  unfolding kept_or when◌then◌else◌
   kept-first x p ps c = rw c
 
   kept-next : (x : List ℕ) (p : Part) (ps : PartList) → is_copy q features t s p ≡ false
       → kept_or q features t s x (part p ps) ≡ kept_or q features t s x ps
-  unfolding kept_or if◌then◌else◌
+  unfolding kept_or when◌then◌else◌
   kept-next x p ps c = rw c
 
   stands-first : (p : Part) (ps : PartList) → is_copy q features t s p ≡ true → stands t s p.value (part p ps) ≡ true
@@ -69,7 +69,7 @@ module _ (q : ℕ) (features : List ℕ) (t s : ℕ) where
       (λ c. subst Stands (sym (kept-next x p ps c)) (stands-next (kept_or q features t s x ps) p ps (kept-stands x ps (sym (false-or _) ∙ rw c at k))))
 
   pub kept-none : (x : List ℕ) (ps : PartList) → is_kept q features t s ps ≡ false → kept_or q features t s x ps ≡ x
-  unfolding kept_or is_kept if◌then◌else◌ ◌or◌
+  unfolding kept_or is_kept when◌then◌else◌ ◌or◌
   kept-none x end k = refl
   kept-none x cut k = refl
   kept-none x (part p ps) k =

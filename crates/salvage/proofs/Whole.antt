@@ -6,7 +6,7 @@ use Prim.Native.Nat.{ℕ, ◌+◌, ◌-◌, ◌<◌, ◌≤◌}
 use native.Mathlib.Nat.{zero-add, add-zero, add_assoc}
 use native.Mathlib.Omega.{arith}
 use lib.ListN.{length, get_or, set, replicate, length-append, length-replicate}
-use Rattle.theory.specs.Logic.{if◌then◌else◌}
+use Rattle.theory.specs.Logic.{when◌then◌else◌}
 use Rattle.theory.specs.Bytes.{put}
 use Rattle.theory.proofs.Tests.{false-or}
 use Rattle.theory.proofs.Bytes.{put-nil, put-cons}
@@ -99,7 +99,7 @@ module _ (q : ℕ) (features l : List ℕ) (sixteen : length features ≡ featur
   end-flag i h = walked-flag q features i h ps (start_of q features) 0 (start-sized q features sixteen) ∙ rw (start-flag i) (false-or _)
 
   pub end-value : (i : ℕ) → i < row_count → value_of end_of.values i ≡ row_value q features l i
-  unfolding if◌then◌else◌ fresh_value
+  unfolding when◌then◌else◌ fresh_value
   end-value i h = walked-value q features i h ps (start_of q features) 0 (start-sized q features sixteen) ∙ rw (start-flag i)
 
   -- ---- what is written ----

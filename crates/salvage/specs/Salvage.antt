@@ -1,6 +1,6 @@
 -- A list that step 10 passes, made of a damaged one, and the report of it: 02, request 8. Assumes nothing.
 use Rattle.std.specs.Prelude.{Bool, false, not, List, [], ◌∷◌, ◌++◌, ℕ, ◌+◌, ◌-◌, leb, eqb, length}
-use Rattle.theory.specs.Logic.{if◌then◌else◌, unless◌answer◌then◌, ◌and◌, ◌or◌, within, indicator}
+use Rattle.theory.specs.Logic.{when◌then◌else◌, unless◌answer◌then◌, ◌and◌, ◌or◌, within, indicator}
 use Rattle.theory.specs.Bytes.{put}
 use Rattle.theory.specs.Items.{items_from}
 use Rattle.inventory.specs.Inventory.{row_at, row_count, features_size, present, part_count, parts_size, value_of}
@@ -33,7 +33,7 @@ unfoldable pub kept_or : ℕ → List ℕ → ℕ → ℕ → List ℕ → PartL
 kept_or queues features t s x end = x
 kept_or queues features t s x cut = x
 kept_or queues features t s x (part p ps) =
-    if is_copy queues features t s p then p.value else kept_or queues features t s x ps
+    when is_copy queues features t s p then p.value else kept_or queues features t s x ps
 
 -- whether there is one
 unfoldable pub is_kept : ℕ → List ℕ → ℕ → ℕ → PartList → Bool
@@ -110,14 +110,14 @@ module _ (queues : ℕ) (features damaged : List ℕ) where
 
   -- the table's headers in the table's order
   unfoldable pub repaired_item : ℕ → List ℕ
-  repaired_item i = if present queues (row_at i) then header_of (row_at i) ++ row_value i else []
+  repaired_item i = when present queues (row_at i) then header_of (row_at i) ++ row_value i else []
 
   unfoldable pub repaired : List ℕ
   repaired = items_from repaired_item row_count 0
 
   -- for every part of the inventory 1 if it is kept, 0 if it is filled
   unfoldable pub kept_item : ℕ → List ℕ
-  kept_item i = if present queues (row_at i) then indicator (is_kept_row i) ∷ [] else []
+  kept_item i = when present queues (row_at i) then indicator (is_kept_row i) ∷ [] else []
 
   unfoldable pub kept_report : List ℕ
   kept_report = items_from kept_item row_count 0
@@ -164,7 +164,7 @@ refused b = salvage 0 b.list b.kept b.dropped b.left
 
 unfoldable pub salvage_of : ℕ → List ℕ → List ℕ → Salvage → Salvage
 salvage_of queues features damaged b =
-    if is_taken queues (length features) (length damaged) (length b.list) (length b.kept) (length b.dropped)
+    when is_taken queues (length features) (length damaged) (length b.list) (length b.kept) (length b.dropped)
     then salvaged queues features damaged b
     else refused b
 

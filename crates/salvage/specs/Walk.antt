@@ -1,7 +1,7 @@
 -- The walk over a damaged list with what it has kept and dropped so far, for the private functions that take it. No public
 -- contract cites this. Assumes nothing.
 use Rattle.std.specs.Prelude.{not, List, [], ◌∷◌, ◌≡◌, ℕ, ◌+◌, ◌≤◌, ◌<◌, ◌^◌, eqb, length, get_or, set}
-use Rattle.theory.specs.Logic.{if◌then◌else◌, unless◌answer◌then◌, indicator}
+use Rattle.theory.specs.Logic.{when◌then◌else◌, unless◌answer◌then◌, indicator}
 use Rattle.theory.specs.Bytes.{put}
 use Rattle.theory.specs.Items.{items_from}
 use Rattle.inventory.specs.Inventory.{features_size, row_at, row_count, present, offset_of, values_size, part_count, parts_size, place_of, on_place}
@@ -72,7 +72,7 @@ pub record Begins (before : State) (damaged : List ℕ) : Type 0 where
 -- ---- the report of kept rows ----
 
 unfoldable pub flag_item : ℕ → List ℕ → ℕ → List ℕ
-flag_item queues kept i = if present queues (row_at i) then indicator (not (eqb (get_or kept i 0) 0)) ∷ [] else []
+flag_item queues kept i = when present queues (row_at i) then indicator (not (eqb (get_or kept i 0) 0)) ∷ [] else []
 
 unfoldable pub flags_of : ℕ → List ℕ → List ℕ
 flags_of queues kept = items_from (flag_item queues kept) row_count 0

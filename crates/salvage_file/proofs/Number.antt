@@ -8,7 +8,7 @@ use borrow.Author.Tests.{le-leb, lt-leb}
 use lib.Dec.{leb}
 use lib.ListN.{length, get_or, drop, drop_of_length-le}
 use lib.Seq.{drop-cons}
-use Rattle.theory.specs.Logic.{if◌then◌else◌, ◌and◌, within}
+use Rattle.theory.specs.Logic.{when◌then◌else◌, ◌and◌, within}
 use Rattle.theory.proofs.Tests.{and_i, and-false, false-and, inside, below, above}
 use Rattle.salvage_file.specs.Number.{number_from, number_of}
 
@@ -16,12 +16,12 @@ use Rattle.salvage_file.specs.Number.{number_from, number_of}
 module _ (text : List ℕ) (n i : ℕ) (w : number_of text ≡ number_from n (drop i text)) where
   number_step : i < length text
       → number_of text
-      ≡ (if within 48 57 (get_or text i 0) and leb n 99 then number_from (n * 10 + (get_or text i 0 - 48)) (drop (i + 1) text) else 0)
+      ≡ (when within 48 57 (get_or text i 0) and leb n 99 then number_from (n * 10 + (get_or text i 0 - 48)) (drop (i + 1) text) else 0)
   unfolding number_from
   number_step h = w ∙ rw (drop-cons text i 0 h, add-one)
 
   number-stop : i < length text → within 48 57 (get_or text i 0) and leb n 99 ≡ false → 0 ≡ number_of text
-  unfolding if◌then◌else◌
+  unfolding when◌then◌else◌
   number-stop h e = sym (number_step h ∙ rw e)
 
   pub number-below : i < length text → get_or text i 0 < 48 → 0 ≡ number_of text
@@ -35,7 +35,7 @@ module _ (text : List ℕ) (n i : ℕ) (w : number_of text ≡ number_from n (dr
 
   pub number-on : i < length text → 48 ≤ get_or text i 0 → get_or text i 0 ≤ 57 → n ≤ 99
       → number_of text ≡ number_from (n * 10 + (get_or text i 0 - 48)) (drop (i + 1) text)
-  unfolding if◌then◌else◌
+  unfolding when◌then◌else◌
   number-on h low high few = number_step h ∙ rw (and_i _ _ (inside 48 57 (get_or text i 0) low high) (le-leb n 99 few))
 
   pub number-end : length text ≤ i → n ≡ number_of text

@@ -6,7 +6,7 @@ use Prim.Native.Nat.{ℕ, ◌≤◌}
 use native.Mathlib.Omega.{arith}
 use lib.ListN.{length}
 use lib.Seq.{length-take-le}
-use Rattle.theory.specs.Logic.{if◌then◌else◌, unless◌answer◌then◌}
+use Rattle.theory.specs.Logic.{when◌then◌else◌, unless◌answer◌then◌}
 use Rattle.theory.proofs.Tests.{by_cases}
 use Rattle.theory.proofs.Bytes.{length-put}
 use Rattle.salvage_file.specs.Counts.{IsPrefixLen}
@@ -17,7 +17,7 @@ use Rattle.salvage.proofs.Refusals.{taken-fits}
 
 fits : (s : MemberSetup) (damaged : List ℕ) (b : Salvage)
     → (salvage_under s damaged b).written ≤ length (salvage_under s damaged b).list
-unfolding salvage_under salvage_of salvaged unless◌answer◌then◌ if◌then◌else◌
+unfolding salvage_under salvage_of salvaged unless◌answer◌then◌ when◌then◌else◌
 fits s damaged b =
     let q = s.queues in
     by_cases s.known

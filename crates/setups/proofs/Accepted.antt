@@ -7,7 +7,7 @@ use native.Mathlib.Omega.{arith}
 use borrow.Author.Tests.{eqb-true, leb-true, le-leb, eq-eqb, ne_eqb}
 use lib.Dec.{leb, eqb}
 use lib.ListN.{length, get_or, length-append}
-use Rattle.theory.specs.Logic.{if◌then◌else◌, unless◌answer◌then◌}
+use Rattle.theory.specs.Logic.{when◌then◌else◌, unless◌answer◌then◌}
 use Rattle.theory.specs.Bytes.{put}
 use Rattle.theory.proofs.Tests.{by_cases, both, and_i, inside, within_low, within-high}
 use Rattle.theory.proofs.Ladder.{pass}
@@ -49,11 +49,11 @@ module _ (members : ℕ) (q : List ℕ) (gets sets : ℕ) (features : List ℕ) 
         (all_of is_count q λ i k. inside 1 4 (get_or q i 0) (h.least i (omega arith)) (h.most i (omega arith)))
 
     packed-1-long : are_equal q ≡ true → length (packed_setup members q gets sets features) ≡ 19
-    unfolding packed_setup packed fields_of if◌then◌else◌
+    unfolding packed_setup packed fields_of when◌then◌else◌
     packed-1-long e = rw (e, length-append, length-big, h.long, widths-head)
 
     packed-2-long : are_equal q ≡ false → length (packed_setup members q gets sets features) ≡ 19 + (members + 3) / 4
-    unfolding packed_setup packed fields_of if◌then◌else◌
+    unfolding packed_setup packed fields_of when◌then◌else◌
     packed-2-long e =
         rw (
           e,
@@ -196,7 +196,7 @@ module _ (l : List ℕ) where
       (eq-eqb _ _ p.no_count)) (eq-eqb _ _ p.padding))
 
   pub reads : Readers l
-  unfolding read_version1 read_setup take_version1 take_version2 if◌then◌else◌ unless◌answer◌then◌
+  unfolding read_version1 read_setup take_version1 take_version2 when◌then◌else◌ unless◌answer◌then◌
   reads = record {
     read1 = λ p.
         let a : eqb (version_in l) 2 ≡ false = ne_eqb _ 2 (λ (e : version_in l ≡ 2). omega (arith, p.version)) in

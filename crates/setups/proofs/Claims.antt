@@ -6,7 +6,7 @@ use native.Mathlib.Omega.{arith}
 use lib.Dec.{eqb}
 use lib.ListN.{length, take, length-append}
 use lib.Seq.{take_at}
-use Rattle.theory.specs.Logic.{if◌then◌else◌}
+use Rattle.theory.specs.Logic.{when◌then◌else◌}
 use Rattle.theory.proofs.Tests.{by_cases, never}
 use Rattle.theory.proofs.Bytes.{put_front, drop-after}
 use Rattle.setups.specs.declared.ReadAnswer.TheVariants.{Done, Version2}
@@ -47,7 +47,7 @@ module _ (buffer : List ℕ) (members : ℕ) (q : List ℕ) (gets sets : ℕ) (f
 -- ---- the readers ----
 
 read_alike : (l : List ℕ) → (read_version1 l).answer ≡ Done → read_setup l ≡ read_version1 l
-unfolding read_version1 read_setup if◌then◌else◌
+unfolding read_version1 read_setup when◌then◌else◌
 read_alike l e = by_cases (eqb (version_in l) 2) (λ t. let d = rw t at e in cc) (λ t. rw t)
 
 never-named : (l : List ℕ) → (read_setup l).answer ≡ Version2 → ⊥

@@ -1,7 +1,7 @@
 -- The worked examples hold by computation. Assumes nothing.
 use mathlib.Core.Path.{◌≡◌, refl}
 use mathlib.Core.List.{[], ◌∷◌}
-use Rattle.theory.specs.Logic.{if◌then◌else◌, unless◌answer◌then◌, ◌and◌, within}
+use Rattle.theory.specs.Logic.{when◌then◌else◌, unless◌answer◌then◌, ◌and◌, within}
 use Rattle.theory.specs.Bytes.{put}
 use Rattle.setups.specs.Bits.{bit, bits_at, widths, joined, big_endian, packed}
 use Rattle.setups.specs.Setup.{in_ranges, all, in_numbers, no_counts, sixteen, setup_with}
@@ -11,22 +11,22 @@ use Rattle.setups.specs.Writing.{count_fields, are_equal, fields_of, packed_setu
 use Rattle.setups.specs.Examples.{features, five, setups_written, SetupsWritten, setups_read, SetupsRead, members_asked, MembersAsked}
 
 pub setups-written : SetupsWritten
-unfolding if◌then◌else◌ unless◌answer◌then◌ ◌and◌ within put widths joined big_endian packed in_ranges all in_numbers
+unfolding when◌then◌else◌ unless◌answer◌then◌ ◌and◌ within put widths joined big_endian packed in_ranges all in_numbers
     count_fields are_equal fields_of packed_setup placed written setups_written
 setups-written = refl
 
 pub setups-read : SetupsRead
-unfolding if◌then◌else◌ unless◌answer◌then◌ ◌and◌ put bit bits_at no_counts sixteen counts_from setup_at head_right is_version1 is_version2
+unfolding when◌then◌else◌ unless◌answer◌then◌ ◌and◌ put bit bits_at no_counts sixteen counts_from setup_at head_right is_version1 is_version2
     no_setup take_version1 take_version2 read_version1 read_setup setups_read
 setups-read = refl
 
 pub members-asked : MembersAsked
-unfolding if◌then◌else◌ unless◌answer◌then◌ ◌and◌ within put bit bits_at no_counts sixteen counts_from setup_at head_right is_version1 is_version2
+unfolding when◌then◌else◌ unless◌answer◌then◌ ◌and◌ within put bit bits_at no_counts sixteen counts_from setup_at head_right is_version1 is_version2
     no_setup take_version1 take_version2 read_setup no_member member_of member_setup members_asked
 members-asked = refl
 
 -- one of those read, for itself
 pub read-five : read_setup five ≡ read_as (setup_with 5 (1 ∷ 2 ∷ 3 ∷ 4 ∷ 4 ∷ []) 8 5 features)
-unfolding if◌then◌else◌ unless◌answer◌then◌ ◌and◌ put bit bits_at no_counts sixteen counts_from setup_at head_right is_version1 is_version2
+unfolding when◌then◌else◌ unless◌answer◌then◌ ◌and◌ put bit bits_at no_counts sixteen counts_from setup_at head_right is_version1 is_version2
     take_version2 read_setup
 read-five = refl

@@ -10,7 +10,7 @@ use lib.Dec.{eqb}
 use lib.ListN.{length, drop, length-append}
 use lib.Pow.{pow_pos}
 use lib.Seq.{drop_at}
-use Rattle.theory.specs.Logic.{if◌then◌else◌}
+use Rattle.theory.specs.Logic.{when◌then◌else◌}
 use Rattle.theory.proofs.Tests.{by_cases, and_i, both, within_low}
 use Rattle.theory.proofs.Ladder.{is_le, pass}
 use Rattle.setups.specs.declared.ReadAnswer.TheVariants.{Version2}
@@ -159,12 +159,12 @@ module _ (members : ℕ) (q : List ℕ) (gets sets : ℕ) (h : InNumbers members
 
   -- both readers of either
   pub reads-back : read_setup (packed_setup members q gets sets features) ≡ read_as (setup_with members q gets sets features)
-  unfolding read_setup packed_setup fields_of are_equal if◌then◌else◌
+  unfolding read_setup packed_setup fields_of are_equal when◌then◌else◌
   reads-back =
       by_cases (all (eqb (first_count q)) q) (λ e. rw (e, version-1-head.version-is) (version-1-read e)) (λ e. rw (e, version-2-head.version-is) version-2-read)
 
   pub reads-version-1 : read_version1 (packed_setup members q gets sets features)
-      ≡ (if are_equal q then read_as (setup_with members q gets sets features) else refused_as Version2)
-  unfolding read_version1 packed_setup fields_of are_equal if◌then◌else◌
+      ≡ (when are_equal q then read_as (setup_with members q gets sets features) else refused_as Version2)
+  unfolding read_version1 packed_setup fields_of are_equal when◌then◌else◌
   reads-version-1 =
       by_cases (all (eqb (first_count q)) q) (λ e. rw (e, version-1-head.version-is) (version-1-read e)) (λ e. rw (e, version-2-head.version-is))

@@ -13,7 +13,7 @@ use mir.Val.{Fits}
 use lib.ListN.{length, get_or, drop, set, drop_of_length-le, length-append}
 use lib.Pow.{pow_mono, pow-add, shl_exact}
 use lib.Seq.{drop-cons}
-use Rattle.theory.specs.Logic.{if◌then◌else◌, within}
+use Rattle.theory.specs.Logic.{when◌then◌else◌, within}
 use Rattle.theory.specs.Bytes.{put}
 use Rattle.theory.proofs.Tests.{by_cases, inside, below, above, tests}
 use Rattle.theory.proofs.Bytes.{put-nil, put-append, put-comm, put_one}
@@ -114,12 +114,12 @@ module _ (members : ℕ) (q : List ℕ) (gets sets : ℕ) (b : Bool) (e : b ≡ 
 
   pub front-version-1 : (x n : ℕ) → b ≡ true → x ≡ first_count q - 1 → n ≡ joined 0 (head_fields 1 members x gets sets)
       → record { size = 3; number = n } ≡ front_of (fields_of members q gets sets)
-  unfolding fields_of if◌then◌else◌ widths
+  unfolding fields_of when◌then◌else◌ widths
   front-version-1 x n t d f = rw (equal_is, t, f, d)
 
   pub front-version-2 : (h x y : ℕ) → b ≡ false → h ≡ joined 0 (head_fields 2 members 0 gets sets) → x ≡ joined h (map count_field q)
       → y ≡ x * 2 ^ padding (length q) → record { size = 3 + (length q + 3) / 4; number = y } ≡ front_of (fields_of members q gets sets)
-  unfolding fields_of if◌then◌else◌
+  unfolding fields_of when◌then◌else◌
   front-version-2 h x y t d f g =
       let k = head_fields 2 members 0 gets sets in
       let w : widths (k ++ count_fields q) / 8 ≡ 3 + (length q + 3) / 4 = rw widths-version-2 (omega (arith, widths-head 2 members 0 gets sets)) in

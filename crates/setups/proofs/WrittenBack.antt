@@ -10,7 +10,7 @@ use lib.Dec.{eqb}
 use lib.ListN.{length, get_or, take, drop, take-append-drop}
 use lib.Pow.{pow-add, shr-shr}
 use lib.Seq.{take-suc}
-use Rattle.theory.specs.Logic.{if◌then◌else◌, unless◌answer◌then◌}
+use Rattle.theory.specs.Logic.{when◌then◌else◌, unless◌answer◌then◌}
 use Rattle.theory.proofs.Tests.{by_cases, and_i, never}
 use Rattle.theory.proofs.Bytes.{put_front}
 use Rattle.setups.specs.declared.Setup.{Setup}
@@ -127,7 +127,7 @@ module _ (l : List ℕ) (h : (i : ℕ) → get_or l i 0 < 256) where
       packed_setup (members_in l) (counts_from l at step (members_in l)) (gets_in l) (sets_in l) (drop (length l - 16) l)
 
   version-1-back : is_version1 l ≡ true → back 8 0 ≡ l
-  unfolding packed_setup fields_of are_equal if◌then◌else◌
+  unfolding packed_setup fields_of are_equal when◌then◌else◌
   version-1-back t =
       let p = packed-version-1 l t in
       let f = first_read l 8 0 (members_in l) (omega arith) in
@@ -147,7 +147,7 @@ module _ (l : List ℕ) (h : (i : ℕ) → get_or l i 0 < 256) where
 
   version-2-back : bits_at 0 4 l ≡ 2 → is_version2 (members_in l) l ≡ true → are_equal (counts_from l 24 2 (members_in l)) ≡ false
       → back 24 2 ≡ l
-  unfolding packed_setup fields_of count_fields if◌then◌else◌
+  unfolding packed_setup fields_of count_fields when◌then◌else◌
   version-2-back v t e =
       let p = packed-version-2 l v t in
       let q = counts_from l 24 2 (members_in l) in
@@ -186,7 +186,7 @@ module _ (l : List ℕ) (h : (i : ℕ) → get_or l i 0 < 256) where
 
     pub written_back : (s : Setup) → read_setup l ≡ read_as s → (bits_at 0 4 l ≡ 2 → EqualCounts (counts_read s) → ⊥)
         → written buffer s.members (counts_read s) s.gets s.sets s.features ≡ (length l, l ++ drop (length l) buffer)
-    unfolding read_setup take_version1 take_version2 if◌then◌else◌ unless◌answer◌then◌
+    unfolding read_setup take_version1 take_version2 when◌then◌else◌ unless◌answer◌then◌
     written_back s e differ = by_cases (eqb (version_in l) 2)
         (λ t. by_cases (is_version2 (members_in l) l)
         (λ u.

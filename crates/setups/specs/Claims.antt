@@ -1,6 +1,6 @@
 -- WHAT IS CLAIMED of packed setups: 02, request 9. Assumes nothing.
 use Rattle.std.specs.Prelude.{◌≡◌, true, List, ◌++◌, ℕ, ◌≤◌, ◌<◌, length, get_or, take, drop}
-use Rattle.theory.specs.Logic.{if◌then◌else◌}
+use Rattle.theory.specs.Logic.{when◌then◌else◌}
 use Rattle.setups.specs.declared.Setup.{Setup}
 use Rattle.setups.specs.declared.MemberSetup.{MemberSetup}
 use Rattle.setups.specs.declared.ReadAnswer.TheVariants.{Done, Version2}
@@ -16,7 +16,7 @@ use Rattle.setups.specs.Accepted.{EqualCounts, Writer, Readers}
 pub record ReadsBack (buffer : List ℕ) (members : ℕ) (queues : List ℕ) (gets sets : ℕ) (features : List ℕ) (n : ℕ) (b : List ℕ) : Type 0 where
   pub same_setup : read_setup (take n b) ≡ read_as (setup_with members queues gets sets features)
   pub by_version1 : read_version1 (take n b)
-      ≡ (if are_equal queues then read_as (setup_with members queues gets sets features) else refused_as Version2)
+      ≡ (when are_equal queues then read_as (setup_with members queues gets sets features) else refused_as Version2)
   pub rest_kept : drop n b ≡ drop n buffer
 
 -- the queue counts of the members of a setup that was read

@@ -1,6 +1,6 @@
 -- Packed setups read: 02, request 9. Assumes nothing.
 use Rattle.std.specs.Prelude.{Bool, List, [], ◌∷◌, ℕ, zero, suc, ◌+◌, ◌*◌, ◌-◌, ◌/◌, leb, eqb, length, drop, replicate}
-use Rattle.theory.specs.Logic.{if◌then◌else◌, unless◌answer◌then◌, ◌and◌}
+use Rattle.theory.specs.Logic.{when◌then◌else◌, unless◌answer◌then◌, ◌and◌}
 use Rattle.setups.specs.declared.Setup.{Setup}
 use Rattle.setups.specs.declared.ReadAnswer.{ReadAnswer}
 use Rattle.setups.specs.declared.ReadAnswer.TheVariants.{Done, Version2, Refused}
@@ -95,8 +95,8 @@ take_version2 l = unless is_version2 (members_in l) l answer refused_as Refused 
 
 -- the reader of version 1, which refuses version 2 by name, before all else; no bytes have no version
 unfoldable pub read_version1 : List ℕ → ReadOutcome
-read_version1 l = if eqb (version_in l) 2 then refused_as Version2 else take_version1 l
+read_version1 l = when eqb (version_in l) 2 then refused_as Version2 else take_version1 l
 
 -- the reader of both versions
 unfoldable pub read_setup : List ℕ → ReadOutcome
-read_setup l = if eqb (version_in l) 2 then take_version2 l else take_version1 l
+read_setup l = when eqb (version_in l) 2 then take_version2 l else take_version1 l

@@ -1,6 +1,6 @@
 -- A setup packed and written: 02, request 9. Assumes nothing.
 use Rattle.std.specs.Prelude.{◌≡◌, Bool, true, List, [], ◌∷◌, ◌++◌, map, ℕ, ◌-◌, ◌/◌, ◌≤◌, leb, eqb, length, get_or}
-use Rattle.theory.specs.Logic.{if◌then◌else◌, unless◌answer◌then◌}
+use Rattle.theory.specs.Logic.{when◌then◌else◌, unless◌answer◌then◌}
 use Rattle.theory.specs.Bytes.{put}
 use Rattle.setups.specs.declared.Front.{Front}
 use Rattle.setups.specs.Bits.{Field, field, widths, joined, packed}
@@ -31,7 +31,7 @@ are_equal queues = all (eqb (first_count queues)) queues
 -- equal counts are always written as version 1, others as version 2, of which the Q field is zero
 unfoldable pub fields_of : ℕ → List ℕ → ℕ → ℕ → List Field
 fields_of members queues gets sets =
-    if are_equal queues then head_fields 1 members (first_count queues - 1) gets sets
+    when are_equal queues then head_fields 1 members (first_count queues - 1) gets sets
     else head_fields 2 members 0 gets sets ++ count_fields queues
 
 -- then the features

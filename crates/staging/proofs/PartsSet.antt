@@ -7,7 +7,7 @@ use mathlib.Core.List.{List, []}
 use Prim.Native.Nat.{ℕ, ◌+◌, ◌^◌, ◌≤◌, ◌<◌}
 use lib.Dec.{ltb}
 use lib.ListN.{length}
-use Rattle.theory.specs.Logic.{if◌then◌else◌, unless◌answer◌then◌}
+use Rattle.theory.specs.Logic.{when◌then◌else◌, unless◌answer◌then◌}
 use Rattle.theory.proofs.Tests.{by_cases}
 use Rattle.frame.specs.Frame.{longest, given_at}
 use Rattle.protocol.specs.declared.Answer.{Answer}
@@ -29,7 +29,7 @@ use Rattle.host.proofs.Asked.{parts-given, set-target, set-parts-asked}
 
 -- what a change of member m comes to: its answer, and the card after it
 abbrev settled : List ℕ → ℕ → Changed → Answer × List ℕ
-settled c m x = (x.answer, if is_done x.answer then with_member c m x.member else c)
+settled c m x = (x.answer, when is_done x.answer then with_member c m x.member else c)
 
 unfoldable pub parts_set_of : List ℕ → ℕ → ℕ → List ℕ → Answer × List ℕ
 parts_set_of c m id list =
@@ -39,12 +39,12 @@ parts_set_of c m id list =
 
 module _ (c : List ℕ) (m : ℕ) (e : is_sound c ≡ true) (here : is_member c m ≡ true) (u : is_marked c m ≡ false) (room : ℕ) (h : head_size ≤ room) where
   -- a reply with no result fits
-  ends : (a : Answer) (next : List ℕ) → ended c room (effect a next []) ≡ (if is_done a then next else c, head_of a)
+  ends : (a : Answer) (next : List ℕ) → ended c room (effect a next []) ≡ (when is_done a then next else c, head_of a)
   ends a next = rw (final-empty a room h, reply-empty)
 
   pub respond-parts-set : (id : ℕ) → id < 256 ^ 4 → (list : List ℕ) → given_at + length list ≤ longest
       → respond c (set_parts m id list) room ≡ ((parts_set_of c m id list).1, head_of (parts_set_of c m id list).0)
-  unfolding ask_in perform parts_set_of if◌then◌else◌ unless◌answer◌then◌
+  unfolding ask_in perform parts_set_of when◌then◌else◌ unless◌answer◌then◌
   respond-parts-set id small list short =
       rw (
         respond-is c (set_parts m id list) room h e,

@@ -8,7 +8,7 @@ use native.Mathlib.Omega.{arith}
 use lib.Dec.{ltb}
 use lib.ListN.{length, take}
 use borrow.Author.Tests.{ltb-true, lt-ltb, le-ltb, not-true, not-false}
-use Rattle.theory.specs.Logic.{if◌then◌else◌, unless◌answer◌then◌}
+use Rattle.theory.specs.Logic.{when◌then◌else◌, unless◌answer◌then◌}
 use Rattle.theory.specs.Bytes.{bytes_at}
 use Rattle.theory.proofs.Tests.{by_cases}
 use Rattle.wire.specs.Le.{le, bytes, number}
@@ -80,8 +80,8 @@ module _ (c : List ℕ) (m : ℕ) (e : is_sound c ≡ true) (h : is_member c m �
   gone-as = refl
 
   settled-as : (t : Bool) (y : Member) → SoundIn c y → y.marked ≡ false → (t ≡ false → y ≡ member_in c m)
-      → without_held (if t then with_member c m y else c) m ≡ with_holding (with_member c m (with_held y 0)) m no_bytes
-  unfolding if◌then◌else◌
+      → without_held (when t then with_member c m y else c) m ≡ with_holding (with_member c m (with_held y 0)) m no_bytes
+  unfolding when◌then◌else◌
   settled-as t y f n g = by_cases t (λ u. rw u (gone_with y f n)) (λ u. rw (u, g u) gone-as)
 
   module _ (id : ℕ) (list : List ℕ) where

@@ -4,7 +4,7 @@ use mathlib.Core.Bool.{true, false}
 use mathlib.Core.List.{List, [], ◌∷◌}
 use Prim.Native.Nat.{ℕ}
 use lib.ListN.{replicate}
-use Rattle.theory.specs.Logic.{if◌then◌else◌, unless◌answer◌then◌, ◌and◌, ◌or◌, indicator}
+use Rattle.theory.specs.Logic.{when◌then◌else◌, unless◌answer◌then◌, ◌and◌, ◌or◌, indicator}
 use Rattle.theory.specs.Items.{items_from}
 use Rattle.wire.specs.Le.{le, number}
 use Rattle.parts.specs.List.{step_at, at_most, parts_from, whole}
@@ -16,7 +16,7 @@ use Rattle.stream.specs.Totals.{total, totals, figures_of}
 
 -- what computes where a proof says `unfolding model`
 unfoldable model : Unit {0}
-unfolding if◌then◌else◌ unless◌answer◌then◌ ◌and◌ ◌or◌ indicator items_from le number step_at at_most parts_from whole every repeated cause_in parts_of_type rows adds_in capture_then captures_in is_whole total totals figures_of
+unfolding when◌then◌else◌ unless◌answer◌then◌ ◌and◌ ◌or◌ indicator items_from le number step_at at_most parts_from whole every repeated cause_in parts_of_type rows adds_in capture_then captures_in is_whole total totals figures_of
 model = tt
 
 module _ (queues : ℕ) (features : List ℕ) where

@@ -8,7 +8,7 @@ use native.Mathlib.Omega.{arith}
 use borrow.Author.Tests.{ne_eqb, le-leb, lt-leb}
 use lib.ListN.{length, take, drop, replicate, take-append-drop, drop_of_length-le}
 use lib.Seq.{drop-drop}
-use Rattle.theory.specs.Logic.{if◌then◌else◌}
+use Rattle.theory.specs.Logic.{when◌then◌else◌}
 use Rattle.theory.specs.Bytes.{put}
 use Rattle.theory.proofs.Bytes.{length-bytes_at}
 use Rattle.tally.specs.Counts.{◌plus◌, Below}
@@ -83,7 +83,7 @@ module _ (p : Progress) (w : Bool) (e : w ≡ ended p) where
   finish-length r f = rw e at f
 
 pub starts : (r : Progress) → r ≡ awaiting (replicate row_count 0) → r ≡ started
-unfolding awaiting if◌then◌else◌
+unfolding awaiting when◌then◌else◌
 starts r e = e
 
 pub closes : (r : Progress) (x y : List ℕ) → r ≡ awaiting x → x ≡ y → r ≡ awaiting y
@@ -92,13 +92,13 @@ closes r x y e f = rw (← f) e
 -- n is the length that was read, x what it is in the definition
 module _ (q : ℕ) (features counts : List ℕ) (n x : ℕ) (e : n ≡ x) where
   pub opened-empty : (r : Progress) → r ≡ awaiting (counts plus adds_of q features []) → n ≡ 0 → r ≡ opened q features counts x
-  unfolding opened if◌then◌else◌
+  unfolding opened when◌then◌else◌
   opened-empty r f h = rw (← e, h) f
 
   pub opened-held : (n ≡ 0 → ⊥) → n ≤ longest → progress item.Capture 0 n counts ≡ opened q features counts x
-  unfolding opened if◌then◌else◌
+  unfolding opened when◌then◌else◌
   opened-held h k = rw (← e, ne_eqb n 0 h, le-leb n longest k)
 
   pub opened-long : (n ≡ 0 → ⊥) → longest < n → progress item.Skipped 0 n counts ≡ opened q features counts x
-  unfolding opened if◌then◌else◌
+  unfolding opened when◌then◌else◌
   opened-long h k = rw (← e, ne_eqb n 0 h, lt-leb n longest k)

@@ -9,7 +9,7 @@ use lib.Dec.{eqb, leb, ltb}
 use lib.ListN.{length, take, drop, length-append}
 use lib.Seq.{take_at, drop_at, take-add, take_all, drop-append-add}
 use borrow.Author.Tests.{lt-ltb, le-leb, lt-leb, eqb-true, eqb-false, leb-true, leb-false, ltb-true, ltb-false}
-use Rattle.theory.specs.Logic.{if◌then◌else◌, unless◌answer◌then◌}
+use Rattle.theory.specs.Logic.{when◌then◌else◌, unless◌answer◌then◌}
 use Rattle.theory.specs.Bytes.{put}
 use Rattle.theory.proofs.Bytes.{take-before, bytes_at-put}
 use Rattle.theory.proofs.Tests.{by_cases, if-cases}
@@ -26,7 +26,7 @@ use Rattle.stream.proofs.Totals.{one-counted, long-counted, counted-capture, cou
 
 pub capture-come : (n : ℕ) (c l : List ℕ) (rest : List ℕ → Captures) → length c ≡ n → n ≤ longest
     → capture_then n (c ++ l) rest ≡ capture c (rest l)
-unfolding capture_then unless◌answer◌then◌ if◌then◌else◌
+unfolding capture_then unless◌answer◌then◌ when◌then◌else◌
 capture-come n c l rest e h =
     let m : n ≤ length (c ++ l) = simp length-append (omega arith) in
     rw (le-leb n (length (c ++ l)) m, le-leb n longest h, take_at c l n e, drop_at c l n e)
@@ -38,7 +38,7 @@ long-come n c l rest e =
     rw (le-leb n (length (c ++ l)) m, drop_at c l n e)
 
 pub long-opened : (n : ℕ) (l : List ℕ) (rest : List ℕ → Captures) → leb n longest ≡ false → capture_then n l rest ≡ long_then n l rest
-unfolding capture_then long_then if◌then◌else◌
+unfolding capture_then long_then when◌then◌else◌
 long-opened n l rest e = rw e
 
 -- bytes of a long one
@@ -83,7 +83,7 @@ held_more have run b after e h =
 module _ (q : ℕ) (features counts : List ℕ) (w : Counted counts) where
   -- a capture has ended
   awaits : (b l : List ℕ) → figures_from q features (awaiting counts) b l ≡ with_rest q features counts (captures_in (most - read_of counts) l)
-  unfolding awaiting if◌then◌else◌ captures_in
+  unfolding awaiting when◌then◌else◌ captures_in
   awaits b l =
       by_cases (ltb (read_of counts) most) (λ e. rw e)
       (λ e.
@@ -120,7 +120,7 @@ module _ (q : ℕ) (features counts : List ℕ) (w : Counted counts) (h : read_o
   -- a length of n
   pub length-closed : (n : ℕ) (b l : List ℕ) → figures_from q features (opened q features counts n) b l
       ≡ with_rest q features counts (capture_then n l (captures_in (most - read_of counts - 1)))
-  unfolding opened if◌then◌else◌
+  unfolding opened when◌then◌else◌
   length-closed n b l =
       by_cases (eqb n 0)
       (λ e. let z : n ≡ 0 = eqb-true _ _ e in

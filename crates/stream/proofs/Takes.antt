@@ -11,7 +11,7 @@ use lib.ListN.{length, take, drop}
 use lib.Seq.{take-take, length-take-le}
 use borrow.Author.Tests.{ltb-true, ltb-false}
 use Rattle.theory.proofs.Tests.{by_cases}
-use Rattle.theory.specs.Logic.{if◌then◌else◌}
+use Rattle.theory.specs.Logic.{when◌then◌else◌}
 use Rattle.theory.specs.Bytes.{put}
 use Rattle.theory.proofs.Bytes.{length-put}
 use Rattle.wire.specs.Le.{le, number}
@@ -178,7 +178,7 @@ module _ (p : Progress) (b run : List ℕ) (w : Ready p b) (e : p.item ≡ item.
 module _ (p : Progress) (b run : List ℕ) (w : Ready p b) (z : Run p.left (length run) (length run)) where
   pub skip-took : (q : ℕ) (features : List ℕ) (r : Progress) → p.item ≡ item.Skipped → r ≡ skipped p (length run)
       → Took q features p b run r b
-  unfolding skipped if◌then◌else◌
+  unfolding skipped when◌then◌else◌
   skip-took q features r e f = by_cases (ltb (length run) p.left)
       (λ t.
       let h : length run < p.left = ltb-true _ _ t in

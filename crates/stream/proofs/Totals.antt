@@ -5,7 +5,7 @@ use mathlib.Core.List.{List, [], ◌∷◌, map}
 use Prim.Native.Nat.{ℕ, ◌+◌, ◌≤◌, ◌<◌, ◌^◌}
 use native.Mathlib.Omega.{arith}
 use lib.ListN.{length}
-use Rattle.theory.specs.Logic.{if◌then◌else◌}
+use Rattle.theory.specs.Logic.{when◌then◌else◌}
 use Rattle.tally.specs.Counts.{◌plus◌, Below}
 use Rattle.tally.specs.Rows.{Row, rows, longest, long_line, adds_in, adds_of, adds_long}
 use Rattle.tally.proofs.Plus.{length-plus, plus_assoc, plus-zeros, at-plus}
@@ -34,7 +34,7 @@ module _ (q : ℕ) (features : List ℕ) where
 
   -- no queue count matters to a long one
   long-adds : adds_in q long_line [] ≡ adds_long
-  unfolding adds_in rows if◌then◌else◌
+  unfolding adds_in rows when◌then◌else◌
   long-adds = refl
 
   totals-long : (cs : Captures) → totals q features (long cs) ≡ adds_in q long_line [] plus totals q features cs

@@ -1,6 +1,6 @@
 -- A stream of captures, behind its setup: 02, request 11. Assumes nothing.
 use Rattle.std.specs.Prelude.{Bool, true, false, List, ℕ, zero, suc, ltb, leb, length, take, drop}
-use Rattle.theory.specs.Logic.{if◌then◌else◌, unless◌answer◌then◌}
+use Rattle.theory.specs.Logic.{when◌then◌else◌, unless◌answer◌then◌}
 use Rattle.wire.specs.Le.{number}
 use Rattle.tally.specs.Rows.{longest}
 
@@ -23,7 +23,7 @@ most = 4294967295
 unfoldable pub capture_then : ℕ → List ℕ → (List ℕ → Captures) → Captures
 capture_then n l rest =
     unless leb n (length l) answer torn then
-    if leb n longest then capture (take n l) (rest (drop n l)) else long (rest (drop n l))
+    when leb n longest then capture (take n l) (rest (drop n l)) else long (rest (drop n l))
 
 -- a stream of which n captures at most are taken: it is torn after so many, whatever follows, also nothing
 unfoldable pub captures_in : ℕ → List ℕ → Captures

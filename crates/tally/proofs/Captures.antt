@@ -8,7 +8,7 @@ use mir.Syntax.{w64}
 use mir.Val.{Fits}
 use lib.Dec.{eqb}
 use lib.ListN.{length, get_or, set, replicate, length-append, length-replicate}
-use Rattle.theory.specs.Logic.{if◌then◌else◌, indicator}
+use Rattle.theory.specs.Logic.{when◌then◌else◌, indicator}
 use Rattle.theory.proofs.Tests.{by_cases, indicator-le}
 use Rattle.parts.specs.declared.ListForm.TheVariants.{Parts}
 use Rattle.parts.specs.List.{parts_of}
@@ -80,7 +80,7 @@ contents-few q c h = record {
 }
 
 accepted-adds : (q : ℕ) (c : List ℕ) → contents_add q c plus capture_adds 1 ≡ adds_in q 1 c
-unfolding contents_add capture_adds parts_add by_type in_line adds_in rows ◌plus◌ indicator if◌then◌else◌
+unfolding contents_add capture_adds parts_add by_type in_line adds_in rows ◌plus◌ indicator when◌then◌else◌
 accepted-adds q c = simp (zero-add, add-zero)
 
 module _ (a b : List ℕ) (q : ℕ) (c : List ℕ) (v : Below (2 ^ 62) a) (short : length c ≤ longest) (e : b ≡ a plus contents_add q c) where
@@ -90,7 +90,7 @@ module _ (a b : List ℕ) (q : ℕ) (c : List ℕ) (v : Below (2 ^ 62) a) (short
 -- ---- any capture ----
 
 refused-adds : (q : ℕ) (k : Cause) (c : List ℕ) → (cause_line k ≡ 1 → ⊥) → capture_adds (cause_line k) ≡ adds_in q (cause_line k) c
-unfolding capture_adds in_line adds_in rows ◌plus◌ indicator if◌then◌else◌
+unfolding capture_adds in_line adds_in rows ◌plus◌ indicator when◌then◌else◌
 refused-adds q Accepted c h = absurd (h refl)
 refused-adds q Cut c h = refl
 refused-adds q Unknown c h = refl
@@ -123,7 +123,7 @@ module _ (a : List ℕ) (q : ℕ) (features c : List ℕ) (k : Cause) (line : �
   refused-counted r g h = g ∙ rw (← told, e) (ap (a plus◌) (refused-adds q k c (λ z. h (e ∙ z))))
 
 pub long-counted : (a r : List ℕ) → r ≡ a plus capture_adds long_line → r ≡ a plus adds_long
-unfolding capture_adds in_line adds_in rows ◌plus◌ indicator if◌then◌else◌
+unfolding capture_adds in_line adds_in rows ◌plus◌ indicator when◌then◌else◌
 long-counted a r e = e
 
 pub room-more : (a : List ℕ) → Below (2 ^ 62) a → Below (2 ^ 63) a
@@ -137,8 +137,8 @@ unfolding adds_in rows ◌plus◌
 read_more [] q k c h = absurd (omega arith)
 read_more (x ∷ a) q k c h = refl
 
-over-accepted-few : (k n m : ℕ) → n ≤ m → (if eqb k 1 then n else 0) ≤ m
-unfolding if◌then◌else◌
+over-accepted-few : (k n m : ℕ) → n ≤ m → (when eqb k 1 then n else 0) ≤ m
+unfolding when◌then◌else◌
 over-accepted-few k n m h = by_cases (eqb k 1) (λ e. rw e h) (λ e. rw e (omega arith))
 
 pub adds-few : (q k : ℕ) (c : List ℕ) → length c ≤ longest → AtMost longest (adds_in q k c)
@@ -154,5 +154,5 @@ adds-few q k c h =
     one : (i : ℕ) {b : List ℕ} → AtMost longest b → AtMost longest (indicator (eqb k i) ∷ b)
     one i = more (let l = indicator-le (eqb k i) in omega arith)
 
-    part : (t : ℕ) {b : List ℕ} → AtMost longest b → AtMost longest ((if eqb k 1 then parts_of_type q t (parts_of Parts c) else 0) ∷ b)
+    part : (t : ℕ) {b : List ℕ} → AtMost longest b → AtMost longest ((when eqb k 1 then parts_of_type q t (parts_of Parts c) else 0) ∷ b)
     part t = more (over-accepted-few k (parts_of_type q t (parts_of Parts c)) longest (let l = parts-few q t c in omega arith))

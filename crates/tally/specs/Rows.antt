@@ -1,6 +1,6 @@
 -- The numbers of the sheet, and what a capture adds to each: 02, request 11. Assumes nothing.
 use Rattle.std.specs.Prelude.{List, [], ◌∷◌, map, ℕ, ◌+◌, eqb, length}
-use Rattle.theory.specs.Logic.{if◌then◌else◌, ◌and◌, indicator}
+use Rattle.theory.specs.Logic.{when◌then◌else◌, ◌and◌, indicator}
 use Rattle.inventory.specs.Inventory.{device_features, driver_features, pci_common, device_status, queue, queue_notify}
 use Rattle.parts.specs.declared.ListForm.TheVariants.{Parts}
 use Rattle.parts.specs.List.{PartList, end, cut, part, parts_of, longest_list}
@@ -46,7 +46,7 @@ captures i queues k c = indicator (eqb k i)
 
 -- over accepted captures: their parts of a type, and their bytes without the lengths before them
 abbrev over_accepted : ℕ → ℕ → ℕ
-over_accepted k n = if eqb k (cause_line Accepted) then n else 0
+over_accepted k n = when eqb k (cause_line Accepted) then n else 0
 
 abbrev parts : ℕ → ℕ → ℕ → List ℕ → ℕ
 parts t queues k c = over_accepted k (parts_of_type queues t (parts_of Parts c))

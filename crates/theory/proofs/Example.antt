@@ -7,7 +7,7 @@ use Prim.Native.Nat.{ℕ, ◌≤◌}
 use native.Mathlib.Omega.{arith}
 use lib.Dec.{eqb}
 use lib.ListN.{length}
-use Rattle.theory.specs.Logic.{if◌then◌else◌}
+use Rattle.theory.specs.Logic.{when◌then◌else◌}
 use Rattle.theory.specs.Machine.{replied, exposed, trace, run, seen, visible, Swappable}
 use Rattle.theory.proofs.Tests.{if-cases, by_cases}
 use Rattle.theory.proofs.Unwinding.{Masking, isolated-by-mask}
@@ -32,7 +32,7 @@ step : Cells → Call → Cells × ℕ
 step s (store_left n) = (cells n s.right s.locked, s.left)
 step s (store_right n) = (cells s.left n s.locked, s.right)
 step s lock = (cells s.left s.right 1, 0)
-step s reset_left = if eqb s.locked 0 then (cells 0 s.right s.locked, 0) else (s, 1)
+step s reset_left = when eqb s.locked 0 then (cells 0 s.right s.locked, 0) else (s, 1)
 
 Good : Cells → Type 0
 Good s = s.locked ≤ 1
@@ -68,7 +68,7 @@ hides-left s reset_left h = cc
 
 answers-left : (s : Cells) (c : Call) → names_left c ≡ false
     → ((step (clear_left s) c).1 ≡ (step s c).1) × (clear_left (step (clear_left s) c).0 ≡ clear_left (step s c).0)
-unfolding step names_left clear_left if◌then◌else◌
+unfolding step names_left clear_left when◌then◌else◌
 answers-left s (store_left n) h = (cc, refl)
 answers-left s (store_right n) h = (refl, refl)
 answers-left s lock h = (refl, refl)
@@ -79,7 +79,7 @@ unfolding names_left
 shown _ _ reset = refl
 
 wiped : (s : Cells) (c : Call) (x : ℕ) → Wipes c x → x ≡ (step s c).1 → step (clear_left s) c ≡ step s c
-unfolding step clear_left if◌then◌else◌
+unfolding step clear_left when◌then◌else◌
 wiped s _ _ reset e =
     by_cases (eqb s.locked 0) (λ q. rw q) (λ q. let z : ◌≡◌ {A = ℕ} 0 1 = rw q at e in absurd (omega arith))
 
@@ -109,14 +109,14 @@ ends-differ e = let z : ◌≡◌ {A = ℕ} 5 8 = ap (λ s. s.left) e in omega a
 sees-the-same : (t : List Call)
     → seen names_left (length run_a) (trace step (cells 1 2 0) (run_a ++ reset_left ∷ t))
     ≡ seen names_left (length run_b) (trace step (cells 4 2 0) (run_b ++ reset_left ∷ t))
-unfolding Good clear_left visible run step if◌then◌else◌ names_left run_a run_b
+unfolding Good clear_left visible run step when◌then◌else◌ names_left run_a run_b
 sees-the-same =
     isolated-by-mask left-masking (cells 1 2 0) (cells 4 2 0) (omega arith) (omega arith) refl run_a run_b refl reset_left reset
 
 -- and it does see: the visible reply, and after the reset everything
 sees-something : seen names_left (length run_a) (trace step (cells 1 2 0) (run_a ++ reset_left ∷ []))
     ≡ replied (store_right 7) 2 ∷ exposed reset_left 0 (cells 0 7 0) ∷ []
-unfolding seen trace step if◌then◌else◌ names_left run_a
+unfolding seen trace step when◌then◌else◌ names_left run_a
 sees-something = refl
 
 -- ---- the right cell hidden, and two calls that change places ----
@@ -139,7 +139,7 @@ hides-right s reset_left h = cc
 
 answers-right : (s : Cells) (c : Call) → names_right c ≡ false
     → ((step (clear_right s) c).1 ≡ (step s c).1) × (clear_right (step (clear_right s) c).0 ≡ clear_right (step s c).0)
-unfolding step names_right clear_right if◌then◌else◌
+unfolding step names_right clear_right when◌then◌else◌
 answers-right s (store_left n) h = (refl, refl)
 answers-right s (store_right n) h = (cc, refl)
 answers-right s lock h = (refl, refl)

@@ -7,7 +7,7 @@ use mathlib.Core.Bool.{Bool, true, false, not}
 use Prim.Native.Nat.{ℕ, ◌≤◌, ◌<◌}
 use borrow.Author.Tests.{le-leb, lt-leb, lt-ltb, le-ltb, eq-eqb, ne_eqb, not-true, not-false}
 use lib.Dec.{leb, ltb, eqb}
-use Rattle.theory.specs.Logic.{if◌then◌else◌, unless◌answer◌then◌, ◌and◌, ◌or◌, within}
+use Rattle.theory.specs.Logic.{when◌then◌else◌, unless◌answer◌then◌, ◌and◌, ◌or◌, within}
 use Rattle.theory.proofs.Tests.{and_i, or-i, false-and, and-false, true-or, or-true, true-and, false-or, inside, below, above}
 
 -- ---- one step of the definition ----
@@ -21,12 +21,12 @@ module _ {ℓ} {A : Type ℓ} (t : Bool) (a b x : A) where
   unfolding unless◌answer◌then◌
   pass e h = rw e h
 
-  pub choose-true : t ≡ true → x ≡ a → x ≡ if t then a else b
-  unfolding if◌then◌else◌
+  pub choose-true : t ≡ true → x ≡ a → x ≡ when t then a else b
+  unfolding when◌then◌else◌
   choose-true e h = rw e h
 
-  pub choose-false : t ≡ false → x ≡ b → x ≡ if t then a else b
-  unfolding if◌then◌else◌
+  pub choose-false : t ≡ false → x ≡ b → x ≡ when t then a else b
+  unfolding when◌then◌else◌
   choose-false e h = rw e h
 
 -- a result that is a conjunction or a disjunction

@@ -10,7 +10,7 @@ use lib.Dec.{eqb}
 use lib.ListN.{length, get_or, drop, drop_of_length-le}
 use lib.Seq.{drop-cons}
 use borrow.Author.Tests.{ltb-true, ltb-false, leb-true, leb-false, eqb-true, eqb-false, lt-ltb, le-ltb, le-leb, lt-leb, eq-eqb, ne_eqb}
-use Rattle.theory.specs.Logic.{if◌then◌else◌, unless◌answer◌then◌, ◌and◌, ◌or◌, within, indicator}
+use Rattle.theory.specs.Logic.{when◌then◌else◌, unless◌answer◌then◌, ◌and◌, ◌or◌, within, indicator}
 use Rattle.theory.specs.Bytes.{same}
 
 -- ---- cases ----
@@ -26,8 +26,8 @@ never e = let z : ◌≡◌ {A = ℕ} 0 1 = cc in absurd (omega arith)
 
 -- a fact about a choice follows from the fact about each of the two
 pub if-cases {ℓ κ} : {A : Type κ} (P : A → Type ℓ) (v : Bool) (x y : A)
-    → (v ≡ true → P x) → (v ≡ false → P y) → P (if v then x else y)
-unfolding if◌then◌else◌
+    → (v ≡ true → P x) → (v ≡ false → P y) → P (when v then x else y)
+unfolding when◌then◌else◌
 if-cases P true x y f g = f refl
 if-cases P false x y f g = g refl
 
@@ -45,8 +45,8 @@ unless-passed P true a rest n p = (refl, p)
 unless-passed P false a rest n p = absurd (n p)
 
 -- two choices that are the same
-pub if-same {ℓ} : {A : Type ℓ} (v : Bool) (x : A) → (if v then x else x) ≡ x
-unfolding if◌then◌else◌
+pub if-same {ℓ} : {A : Type ℓ} (v : Bool) (x : A) → (when v then x else x) ≡ x
+unfolding when◌then◌else◌
 if-same true x = refl
 if-same false x = refl
 

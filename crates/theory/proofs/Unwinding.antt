@@ -4,7 +4,7 @@ use mathlib.Core.Path.{◌≡◌, refl, ap, ap₂, sym, ◌∙◌}
 use mathlib.Core.Bool.{Bool, true, false}
 use mathlib.Core.List.{List, [], ◌∷◌, ◌++◌}
 use lib.ListN.{length}
-use Rattle.theory.specs.Logic.{if◌then◌else◌}
+use Rattle.theory.specs.Logic.{when◌then◌else◌}
 use Rattle.theory.specs.Machine.{replied, trace, run, seen, visible}
 use Rattle.theory.proofs.Tests.{by_cases}
 
@@ -68,7 +68,7 @@ module _ {State Call Reply : Type 0} {step : State → Call → State × Reply} 
   -- ---- a run against the run of its visible calls alone ----
 
   ends-alike : (p : List Call) (a b : State) → Alike Good mask a b → Alike Good mask (run step a p) (run step b (visible hidden p))
-  unfolding run visible if◌then◌else◌
+  unfolding run visible when◌then◌else◌
   ends-alike [] a b h = h
   ends-alike (c ∷ p) a b h =
       by_cases (hidden c)
@@ -79,7 +79,7 @@ module _ {State Call Reply : Type 0} {step : State → Call → State × Reply} 
   looks-visible : (r : Call) (t p : List Call) (a b : State) → Alike Good mask a b → wipes r (step (run step a p) r).1
       → seen hidden (length p) (trace step a (p ++ r ∷ t))
       ≡ seen hidden (length (visible hidden p)) (trace step b (visible hidden p ++ r ∷ t))
-  unfolding run trace seen visible if◌then◌else◌
+  unfolding run trace seen visible when◌then◌else◌
   looks-visible r t [] a b h w = rw (wiped-call a b r w h)
   looks-visible r t (c ∷ p) a b h w =
       by_cases (hidden c)

@@ -2,10 +2,10 @@
 -- about one finds its arguments. Assumes nothing.
 use Rattle.std.specs.Prelude.{Bool, true, false, ℕ, leb}
 
-infixr 10 if◌then◌else◌
-unfoldable pub if◌then◌else◌ {ℓ} : {A : Type ℓ} → Bool → A → A → A
-if true then a else b = a
-if false then a else b = b
+infixr 10 when◌then◌else◌
+unfoldable pub when◌then◌else◌ {ℓ} : {A : Type ℓ} → Bool → A → A → A
+when true then a else b = a
+when false then a else b = b
 
 -- a step of a table of refusals: where the test fails this is the answer, else the steps below decide
 infixr 10 unless◌answer◌then◌

@@ -1,7 +1,7 @@
 -- A machine that takes calls one by one, a run of it, what an observer sees of the run, and when two neighbouring calls
 -- can change places. Nothing here knows what the machine is. Assumes nothing.
 use Rattle.std.specs.Prelude.{◌≡◌, Bool, List, [], ◌∷◌, ◌++◌, ℕ, zero, suc, length}
-use Rattle.theory.specs.Logic.{if◌then◌else◌}
+use Rattle.theory.specs.Logic.{when◌then◌else◌}
 
 -- one call of a run, its reply, and the state that it left
 pub record Event (State Call Reply : Type 0) : Type 0 where
@@ -37,13 +37,13 @@ module _ {State Call Reply : Type 0} where
   seen hidden n [] = []
   seen hidden zero (e ∷ es) = exposed e.call e.reply e.after ∷ seen hidden zero es
   seen hidden (suc n) (e ∷ es) =
-      if hidden e.call then seen hidden n es else
+      when hidden e.call then seen hidden n es else
       replied e.call e.reply ∷ seen hidden n es
 
 -- the calls with the hidden ones struck out
 unfoldable pub visible : {Call : Type 0} → (Call → Bool) → List Call → List Call
 visible hidden [] = []
-visible hidden (c ∷ cs) = if hidden c then visible hidden cs else c ∷ visible hidden cs
+visible hidden (c ∷ cs) = when hidden c then visible hidden cs else c ∷ visible hidden cs
 
 -- ---- neighbours that change places ----
 

@@ -8,7 +8,7 @@ use native.Mathlib.Omega.{arith}
 use borrow.Author.Tests.{lt-ltb, ltb-true, eq-eqb, eqb-true, eqb-false}
 use lib.Dec.{ltb, eqb}
 use lib.ListN.{length}
-use Rattle.theory.specs.Logic.{if◌then◌else◌, unless◌answer◌then◌, ◌and◌}
+use Rattle.theory.specs.Logic.{when◌then◌else◌, unless◌answer◌then◌, ◌and◌}
 use Rattle.theory.specs.Bytes.{bytes_at, put}
 use Rattle.theory.proofs.Tests.{by_cases, if-cases, unless-cases, both, and_i}
 use Rattle.theory.proofs.Bytes.{length-put, bytes_at-before}
@@ -35,7 +35,7 @@ module _ (q t s : ℕ) (x v : List ℕ) where
   stored-cases P none some = cases (place_of q t s) refl
     where
       cases : (p : Place) → place_of q t s ≡ p
-          → P (on_place p (λ i. if ltb 0 i and eqb (length x) (row_at i).size then put (offset_of i) x v else v) v)
+          → P (on_place p (λ i. when ltb 0 i and eqb (length x) (row_at i).size then put (offset_of i) x v else v) v)
       cases (At i) e =
           if-cases P (ltb 0 i and eqb (length x) (row_at i).size) (put (offset_of i) x v) v
           (λ h. let b = both _ _ h in some i e (ltb-true 0 i b.0) (eqb-true _ _ b.1))
@@ -43,7 +43,7 @@ module _ (q t s : ℕ) (x v : List ℕ) where
       cases Absent e = none
 
   pub stored_at : (i : ℕ) → place_of q t s ≡ At i → 0 < i → length x ≡ (row_at i).size → stored q t s x v ≡ put (offset_of i) x v
-  unfolding stored if◌then◌else◌
+  unfolding stored when◌then◌else◌
   stored_at i e h l = rw (e, and_i _ _ (lt-ltb 0 i h) (eq-eqb _ _ l))
 
   pub stored-length : length (stored q t s x v) ≡ length v

@@ -1,6 +1,6 @@
 -- What a card store sets, SPEC 7.5, and what an accepted list sets, SPEC 5.7. Assumes nothing.
 use Rattle.std.specs.Prelude.{List, ℕ, ltb, eqb, length}
-use Rattle.theory.specs.Logic.{if◌then◌else◌, unless◌answer◌then◌, ◌and◌}
+use Rattle.theory.specs.Logic.{when◌then◌else◌, unless◌answer◌then◌, ◌and◌}
 use Rattle.theory.specs.Bytes.{put}
 use Rattle.protocol.specs.declared.EventAnswer.{EventAnswer}
 use Rattle.protocol.specs.declared.EventAnswer.TheVariants.{Done, NoPart, WrongLength, BadQueueSize}
@@ -23,7 +23,7 @@ storable queues t s value =
 unfoldable pub stored : ℕ → ℕ → ℕ → List ℕ → List ℕ → List ℕ
 stored queues t s value values =
     on_place (place_of queues t s)
-    (λ i. if ltb features_row i and eqb (length value) (row_at i).size then put (offset_of i) value values else values)
+    (λ i. when ltb features_row i and eqb (length value) (row_at i).size then put (offset_of i) value values else values)
     values
 
 -- the values after a list, part by part; what is unknown is skipped
