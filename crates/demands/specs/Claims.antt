@@ -148,12 +148,12 @@ Isolation =
 -- cards, after r and after every later call. Example: ../proofs/LoadsExample.antt
 abbrev pub LoadsIsolated : Type 0
 LoadsIsolated =
-    (c₁ c₂ : List ℕ) → is_sound c₁ ≡ true → is_sound c₂ ≡ true
-    → (m : ℕ) → is_member c₁ m ≡ true → DifferAtMost m c₁ c₂
-    → is_marked c₁ m ≡ is_marked c₂ m → (member_in c₁ m).queues ≡ (member_in c₂ m).queues
+    (d₁ d₂ : List ℕ) → is_sound d₁ ≡ true → is_sound d₂ ≡ true
+    → (m : ℕ) → is_member d₁ m ≡ true → DifferAtMost m d₁ d₂
+    → is_marked d₁ m ≡ is_marked d₂ m → (member_in d₁ m).queues ≡ (member_in d₂ m).queues
     → (p₁ p₂ : List Call) → visible (names m) p₁ ≡ visible (names m) p₂
-    → (r : Call) → Resets m r (step (run step c₁ p₁) r).1 → (t : List Call)
-    → ReadAlike (run step c₁ (p₁ ++ r ∷ t)) (run step c₂ (p₂ ++ r ∷ t))
+    → (r : Call) → Resets m r (step (run step d₁ p₁) r).1 → (t : List Call)
+    → ReadAlike (run step d₁ (p₁ ++ r ∷ t)) (run step d₂ (p₂ ++ r ∷ t))
 
 -- Integrity, SPEC 9.4, beside isolation, on any card: what a call leaves alone. Examples: names-member, uses-list,
 -- sets-parts
