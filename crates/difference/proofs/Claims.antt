@@ -28,12 +28,12 @@ use Rattle.difference.proofs.Verdicts.{Passes, passes, found-there, found-outsid
 
 -- ---- the part of a row ----
 
-known_at : (q t s i : ℕ) → place_of q t s ≡ At i → known q t s ≡ true
+pub known_at : (q t s i : ℕ) → place_of q t s ≡ At i → known q t s ≡ true
 unfolding known
 known_at q t s i e = rw e
 
 -- a known part is that of a row
-by_row {ℓ} : {P : Type ℓ} (q t s : ℕ) → known q t s ≡ true → ((i : ℕ) → place_of q t s ≡ At i → P) → P
+pub by_row {ℓ} : {P : Type ℓ} (q t s : ℕ) → known q t s ≡ true → ((i : ℕ) → place_of q t s ≡ At i → P) → P
 unfolding known
 by_row {P = P} q t s k f = cases (place_of q t s) refl k
   where
@@ -71,7 +71,7 @@ module _ (q : ℕ) (features full later : List ℕ) (t s : ℕ) (few : q < 5) wh
   refused-name n = ap (λ l. (lookup_told l).0) (verdict-refused verdict Refused (place_in full later t (selector_of t s)) n)
 
   -- what is found is found in a pair, and known
-  found-passes : (lookup_told (lookup_of q features full later t s)).0 ≡ 0 → Passes q features full later (known q t (selector_of t s)) true
+  pub found-passes : (lookup_told (lookup_of q features full later t s)).0 ≡ 0 → Passes q features full later (known q t (selector_of t s)) true
   found-passes e =
       by_cases (eqb (code_of verdict) 0)
       (λ z. passes q features full later (known q t (selector_of t s)) true few (eqb-true _ _ z))

@@ -22,7 +22,7 @@ use Rattle.difference.specs.Under.{lookup_under}
 use Rattle.difference.specs.Claims.{Pair}
 
 -- what computes where a proof says `unfolding model`
-unfoldable model : Unit {0}
+unfoldable pub model : Unit {0}
 unfolding when◌then◌else◌ unless◌answer◌then◌ ◌and◌ ◌or◌ indicator put same items_from le bytes number rows row_at present offset_of selector_of
     is_row seek place_of power_below ring_size queue_allowed value_allowed header_of header_at step_at at_most parts_from whole among known known_or_skipped length_right size_right features_same every
     repeated cause_in part_at asks part_item parts_written span_from place_in has_row has_rows verdict_of on_verdict lookup_of lookup_told made_part made_item
@@ -32,14 +32,14 @@ model = tt
 abbrev zeros : ℕ → List ℕ
 zeros n = replicate n 0
 
-abbrev features : List ℕ
+abbrev pub features : List ℕ
 features = zeros 16
 
-abbrev full : List ℕ
+abbrev pub full : List ℕ
 full = capture_of 1 (zeros 205)
 
 -- device status 15; a part of type 0x5ff with the optional bit
-abbrev later : List ℕ
+abbrev pub later : List ℕ
 later =
     3 ∷ 1 ∷ 0 ∷ 0 ∷ 0xff ∷ 0 ∷ 0 ∷ 0 ∷ 0 ∷ 0 ∷ 0 ∷ 0xff ∷ 1 ∷ 0 ∷ 0 ∷ 0 ∷ 15
     ∷ 0xff ∷ 5 ∷ 1 ∷ (zeros 9 ++ (2 ∷ 0 ∷ 0 ∷ 0 ∷ 8 ∷ 9 ∷ []))

@@ -5,5 +5,7 @@ pub mod Writing
 pub mod Made
 pub mod Verdicts
 pub mod Claims
+pub mod Calls
 pub mod Example
+pub mod CallExample
 pub mod Under

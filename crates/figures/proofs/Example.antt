@@ -15,7 +15,7 @@ use Rattle.figures.proofs.Taking.{setup-more, setup-whole, open-refused}
 use Rattle.figures.proofs.HoweverCut.{however-cut}
 use Rattle.figures.proofs.Sheets.{model, second}
 
-abbrev buffer : List ℕ
+abbrev pub buffer : List ℕ
 buffer = replicate longest 0
 
 -- five bytes of a setup

@@ -3,3 +3,10 @@ pub mod AddsUp
 pub mod HoweverCut
 pub mod Sheets
 pub mod Example
+pub mod Encoding
+pub mod Numbers
+pub mod SheetOfCaptures
+pub mod SheetTexts
+pub mod EncodingExample
+pub mod CutExample
+pub mod Exact

@@ -62,7 +62,7 @@ taken_as Version2 s l h = absurd (omega arith)
 taken_as Refused s l h = absurd (omega arith)
 
 -- x is a setup, l what follows it
-sheet-behind : (x l : List ℕ) → length x ≡ setup_size → sheet_of (x ++ l) ≡ sheet_under (read_version1 x) l
+pub sheet-behind : (x l : List ℕ) → length x ≡ setup_size → sheet_of (x ++ l) ≡ sheet_under (read_version1 x) l
 unfolding sheet_of
 sheet-behind x l e = rw (take_at x l setup_size e, drop_at x l setup_size e)
 

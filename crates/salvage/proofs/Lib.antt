@@ -13,3 +13,9 @@ pub mod Claims
 pub mod Refusals
 pub mod Under
 pub mod Example
+pub mod Copies
+pub mod StopsOnly
+pub mod JustTheInventory
+pub mod DoneExactly
+pub mod Exact
+pub mod ExactExample
