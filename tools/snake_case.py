@@ -17,6 +17,8 @@ CAMEL = re.compile(r"(?<![A-Za-z0-9_'])[a-z][a-z0-9]*(?:[A-Z][A-Za-z0-9]*)+(?![A
 WORD = re.compile(r"(?<![A-Za-z0-9_'])[A-Za-z_][A-Za-z0-9_']*")
 # the library's name in the names of laws
 LIBRARY = {"getD": "get_or"}
+# texts of programs stay as they are
+QUOTED = re.compile(r'b?"(?:[^"\\\n]|\\.)*"')
 # laws that a definition would meet: they keep the dash that they had
 LAWS = "count_fits first_count held_bytes in_use is_member marked_refused no_member not_written numbers_of offset_at read_back refused_as result_fits round_trip row_count same_end".split()
 LAW = re.compile(r"(?<![\w.'-])(?:" + "|".join(LAWS) + r")(?![\w.'-])")
@@ -24,6 +26,16 @@ LAW = re.compile(r"(?<![\w.'-])(?:" + "|".join(LAWS) + r")(?![\w.'-])")
 
 def snake(name):
     return LIBRARY.get(name) or re.sub(r"[A-Z]", lambda m: "_" + m[0].lower(), name)
+
+
+def turned(text, names, kept):
+    if kept is None:
+        return CAMEL.sub(lambda m: snake(m[0]) if m[0] in names else m[0], text)
+    out, at = [], 0
+    for m in kept.finditer(text):
+        out += [turned(text[at : m.start()], names, None), m[0]]
+        at = m.end()
+    return "".join(out) + turned(text[at:], names, None)
 
 
 def below(folder, endings):
@@ -56,7 +68,7 @@ def main(arguments):
             text = f.read()
         if path.endswith(".antt") and os.sep + "proofs" + os.sep in path:
             text = "\n".join(l if l.lstrip().startswith("--") else LAW.sub(lambda m: m[0].replace("_", "-"), l) for l in text.split("\n"))
-        new = CAMEL.sub(lambda m: snake(m[0]) if m[0] in names else m[0], text)
+        new = turned(text, names, QUOTED if path.endswith(".rt") else None)
         with open(path, encoding="utf-8") as f:
             old = f.read()
         if new != old:

@@ -40,11 +40,16 @@ use Rattle.demands.proofs.QueueCounts.{count-examples-hold}
 use Rattle.host.proofs.Examples.{requests-built, replies-read}
 use Rattle.setups.proofs.Claims as packed
 use Rattle.difference.proofs.Claims as difference
+use Rattle.difference.proofs.Calls.{call_claims}
 use Rattle.salvage.proofs.Claims as salvage
+use Rattle.salvage.proofs.Exact.{exact_claims}
 use Rattle.setups.proofs.Examples.{setups-written, setups-read, members-asked}
 use Rattle.figures.proofs.HoweverCut.{however-cut}
 use Rattle.figures.proofs.AddsUp.{adds-up}
+use Rattle.figures.proofs.Exact.{exact-numbers}
 use Rattle.figures.proofs.Sheets.{sheets}
+use Rattle.figures.proofs.SheetTexts.{sheet_texts}
+use Rattle.figures.proofs.SheetOfCaptures.{sheet-of-captures}
 use Rattle.staging.proofs.SetsParts.{finish-is-parts-set}
 use Rattle.staging.proofs.Cut.{holds-joined, cut-anywhere}
 use Rattle.demands.proofs.Loads.{answered-exactly, refused-unwritten, load-is-lent, load_stored, load_set}
@@ -100,9 +105,11 @@ claims = record {
   restore_examples = restore-examples-hold;
   members_known = members-known;
   merged_lists = difference.claims;
+  lists_called = call_claims;
   merged_sets = merged-sets;
   found_captured = found-captured;
   salvaged_lists = salvage.claims;
+  salvaged_exactly = exact_claims;
   salvaged_accepted = salvaged-accepted;
   packed_setups = packed.claims;
   setups_written = setups-written;
@@ -120,6 +127,9 @@ claims = record {
   however_cut = however-cut;
   adds_up = adds-up;
   sheets = sheets;
+  exact_numbers = exact-numbers;
+  sheet_texts = sheet_texts;
+  sheet_of_captures = sheet-of-captures;
   commutation = commutation;
   commands_commute = commands-commute;
   answered_exactly = answered-exactly;

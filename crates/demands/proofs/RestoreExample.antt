@@ -4,10 +4,10 @@ use mathlib.Core.Path.{◌≡◌, refl}
 use mathlib.Core.Logic.{◌≢◌}
 use mathlib.Core.Bool.{true, false}
 use mathlib.Core.List.{List, [], ◌∷◌, ◌++◌}
-use Prim.Native.Nat.{ℕ, ◌+◌, ◌≤◌}
+use Prim.Native.Nat.{ℕ, ◌+◌, ◌*◌, ◌≤◌}
 use native.Mathlib.Omega.{arith}
 use lib.ListN.{length, get_or, take, drop, replicate}
-use Rattle.theory.specs.Machine.{run}
+use Rattle.theory.specs.Machine.{replies, run}
 use Rattle.member.specs.Record.{values_at, holding_size}
 use Rattle.card.specs.Layout.{record_at, is_member, is_marked}
 use Rattle.card.specs.Sound.{is_sound}
@@ -15,9 +15,9 @@ use Rattle.staging.specs.Staging.{held_in, is_open, held_bytes, begin_of}
 use Rattle.staging.specs.Claims.{SetsParts, joined, fed, restored}
 use Rattle.staging.proofs.SetsParts.{finish-is-parts-set}
 use Rattle.staging.proofs.Cut.{holds-joined, cut-anywhere}
-use Rattle.demands.specs.Calls.{hand_back, wipe, card_reset, restore_begin, restore_feed, restore_finish, refused, step}
+use Rattle.demands.specs.Calls.{hand_back, wipe, card_reset, restore_begin, restore_feed, restore_finish, restore_drop, refused, step}
 use Rattle.demands.specs.Examples.{example_card, set_mode, objects_live, status_part}
-use Rattle.demands.specs.Restores.{restore_examples, RestoreExamplesHold}
+use Rattle.demands.specs.Restores.{answers, restore_examples, RestoreExamplesHold}
 use Rattle.demands.proofs.Model.{model}
 
 -- member 1 has get object 0 and set object 1 and is stopped
@@ -125,6 +125,22 @@ done-wipe = refl
 done-reset : refused (step begun (card_reset 0)).1 ≡ false
 unfolding example
 done-reset = refl
+
+-- ---- every answer, in one sequence ----
+
+all-answers : replies step target
+    (restore_begin 3 ∷ restore_feed 1 (replicate 1025 0) ∷ restore_finish 1 9 ∷ restore_drop 1
+    ∷ restore_begin 1 ∷ restore_begin 1 ∷ restore_feed 1 (replicate 1024 0) ∷ restore_feed 1 [] ∷ restore_finish 1 1
+    ∷ restore_begin 1 ∷ restore_feed 1 (replicate 1025 0) ∷ restore_drop 1
+    ∷ restore_begin 1 ∷ restore_drop 1
+    ∷ restore_begin 1 ∷ restore_finish 1 9 ∷ restore_begin 1 ∷ restore_finish 1 1 ∷ [])
+    ≡ answers 22 5 ∷ answers 6 1 ∷ answers 6 1 ∷ answers 6 1
+    ∷ answers 0 0 ∷ answers 17 1 ∷ answers 0 0 ∷ answers 0 0 ∷ answers 22 3
+    ∷ answers 0 0 ∷ answers 22 1 ∷ answers 6 1
+    ∷ answers 0 0 ∷ answers 0 0
+    ∷ answers 0 0 ∷ answers 22 3 ∷ answers 0 0 ∷ answers 0 0 ∷ []
+unfolding example
+all-answers = refl
 
 -- ---- the worked examples ----
 

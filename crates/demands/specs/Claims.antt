@@ -17,8 +17,13 @@ use Rattle.host.specs.Examples.{RequestsBuilt, RepliesRead}
 use Rattle.staging.specs.Staging.{drop_of}
 use Rattle.staging.specs.Claims.{FinishIsPartsSet, HoldsJoined, CutAnywhere}
 use Rattle.difference.specs.Claims.{Claims as MergedLists}
+use Rattle.difference.specs.Calls.{CallClaims}
 use Rattle.salvage.specs.Claims.{Claims as SalvagedLists}
+use Rattle.salvage.specs.Exact.{ExactClaims}
 use Rattle.figures.specs.Claims.{HoweverCut, AddsUp, Sheets}
+use Rattle.figures.specs.Encoding.{SheetOfCaptures}
+use Rattle.figures.specs.Numbers.{ExactNumbers}
+use Rattle.figures.specs.SheetTexts.{SheetTexts}
 use Rattle.demands.specs.Calls.{Call, command, hand_back, wipe, card_reset, card_store, restore_begin, restore_feed, restore_finish, restore_drop, message, Reply, written, answered, responded, refused, step, names, Resets}
 use Rattle.demands.specs.Exports.{ExportsStep}
 use Rattle.demands.specs.Fresh.{SetupsDone, ResetsDone}
@@ -250,12 +255,14 @@ pub record Claims : Type 1 where
   -- looked up in them. difference/specs/Claims.antt, on a member's values, and Lists.antt, on commands, with the examples
   -- difference/proofs/Example.antt and ../proofs/ListsExample.antt
   pub merged_lists : MergedLists
+  pub lists_called : CallClaims
   pub merged_sets : MergedSets
   pub found_captured : FoundCaptured
   -- REQUEST 8, salvage of a torn capture: when it is done, what is written, kept, filled, dropped and left over, and that a
   -- stopped member takes it. salvage/specs/Claims.antt and Lists.antt, with the examples salvage/proofs/Example.antt and
   -- ../proofs/ListsExample.antt
   pub salvaged_lists : SalvagedLists
+  pub salvaged_exactly : ExactClaims
   pub salvaged_accepted : SalvagedAccepted
   -- REQUEST 9, setups that outlive a release: what is written and what is read, by numbers alone; what is written reads back the
   -- same, and is written back; a refusal writes nothing, what is read is in range. setups/specs/Claims.antt, with the example
@@ -280,6 +287,11 @@ pub record Claims : Type 1 where
   pub however_cut : HoweverCut
   pub adds_up : AddsUp
   pub sheets : Sheets
+  -- numbers are exact, sheets stand as text, and a sheet is that of the captures that are joined in the stream: Numbers.antt,
+  -- SheetTexts.antt and Encoding.antt of figures/specs, with the example figures/proofs/EncodingExample.antt
+  pub exact_numbers : ExactNumbers
+  pub sheet_texts : SheetTexts
+  pub sheet_of_captures : SheetOfCaptures
   -- REQUEST 12, commands from two hosts: Commutation.antt, with the example ../proofs/CommutationExample.antt
   pub commutation : Commutation
   pub commands_commute : CommandsCommute
