@@ -9,7 +9,7 @@ use Rattle.theory.proofs.Bytes.{bytes_at-put}
 use Rattle.reply.specs.Reply.{written as written_of}
 use Rattle.admin.specs.Command.{respond, delivered, command_of}
 use Rattle.message.specs.Message.{answer_of, delivered as responded_of, message_of}
-use Rattle.demands.specs.Calls.{Reply, written, responded, step}
+use Rattle.demands.specs.Calls.{written, responded, step}
 use Rattle.demands.specs.Exports.{ExportsStep}
 use Rattle.demands.proofs.Demand1.{delivers}
 use Rattle.demands.proofs.Messages.{responded as responds}

@@ -2,25 +2,21 @@
 -- Assumes nothing.
 use mathlib.Core.Path.{◌≡◌, refl, ap, sym, ◌∙◌}
 use mathlib.Core.Bool.{Bool, true, false, not}
-use mathlib.Core.List.{List, [], ◌++◌}
-use Prim.Native.Nat.{ℕ, ◌+◌, ◌^◌, ◌≤◌, ◌<◌}
+use mathlib.Core.List.{List}
+use Prim.Native.Nat.{ℕ, ◌≤◌, ◌<◌}
 use native.Mathlib.Omega.{arith}
-use borrow.Author.Tests.{leb-true, ltb-true, eqb-true, eq-eqb, ne_eqb, lt-ltb}
+use borrow.Author.Tests.{ltb-true, eqb-true, eq-eqb, ne_eqb, lt-ltb}
 use lib.Dec.{leb, ltb, eqb}
-use lib.ListN.{length, get_or, take, length-append}
-use lib.Seq.{take_at, drop_at}
+use lib.ListN.{length, get_or, length-append}
 use Rattle.theory.specs.Logic.{when◌then◌else◌, unless◌answer◌then◌, ◌and◌}
-use Rattle.theory.specs.Bytes.{bytes_at}
 use Rattle.theory.proofs.Tests.{by_cases, both, never, unless-cases, within-high}
-use Rattle.theory.proofs.Bytes.{length-put, bytes_at-bytes_at}
-use Rattle.wire.specs.Le.{le, bytes}
-use Rattle.wire.proofs.Le.{length-bytes, le_bytes}
+use Rattle.wire.specs.Le.{bytes}
 use Rattle.protocol.specs.declared.Answer.TheVariants as answer
 use Rattle.protocol.specs.declared.EventAnswer.{EventAnswer}
 use Rattle.protocol.specs.declared.EventAnswer.TheVariants as event
 use Rattle.protocol.specs.declared.EventAnswer.TheVariants.{Done, NotSound, NoMember, NoPart, WrongLength, BadQueueSize}
 use Rattle.protocol.specs.Answers.{event_number, is_event_done}
-use Rattle.inventory.specs.Inventory.{row_at, row_count, offset_of, values_size, value_of, selector_of, place_of, on_place}
+use Rattle.inventory.specs.Inventory.{row_at, value_of, selector_of, place_of, on_place}
 use Rattle.inventory.specs.declared.Place.{Place}
 use Rattle.inventory.specs.declared.Place.TheVariants.{At, Absent}
 use Rattle.inventory.specs.Queue.{value_allowed}
@@ -30,36 +26,34 @@ use Rattle.parts.specs.declared.ListForm.TheVariants.{Parts}
 use Rattle.parts.specs.List.{parts_of, value_or, longest_list}
 use Rattle.rules.specs.Rules.{cause_of, is_accepted}
 use Rattle.rules.proofs.Accepted.{accepts}
-use Rattle.values.specs.Apply.{storable, stored, applied}
+use Rattle.values.specs.Apply.{storable, applied}
 use Rattle.values.proofs.Kept.{stored_at, stored-length}
 use Rattle.restore.proofs.Applied.{applied-at}
 use Rattle.member.specs.declared.Member.{Member}
-use Rattle.member.specs.Member.{features_in, fresh_of, with_part, with_values}
-use Rattle.member.proofs.Record.{Shaped, fresh-shaped, shaped-values}
+use Rattle.member.specs.Member.{features_in, with_part}
+use Rattle.member.proofs.Record.{Shaped, shaped-values}
 use Rattle.setups.specs.Setup.{features_size}
 use Rattle.setups.specs.Writing.{packed_setup, placed, written}
 use Rattle.setups.proofs.Claims.{claims}
-use Rattle.card.specs.Layout.{counts_of, configuration_size, setup_of, is_member, member_in, with_member, is_marked, configuration_in, generation_in, no_configuration, with_fresh}
+use Rattle.card.specs.Layout.{counts_of, configuration_size, setup_of, is_member, member_in, with_member}
 use Rattle.card.specs.Sound.{is_sound}
 use Rattle.card.proofs.MemberLaws.{setup-with-member, member-same}
-use Rattle.card.proofs.RecordLaws.{setup-with-record, member-with-record}
 use Rattle.card.proofs.HeaderLaws.{features-long}
 use Rattle.card.proofs.CountLaws.{counts-numbers}
-use Rattle.card.proofs.SoundLaws.{Sound, sound-of, sound-long, sound-has, sound-member-in}
-use Rattle.events.specs.Events.{member_answer, if_done, on_member, store, store_in, wipe as wipe_of}
-use Rattle.events.proofs.Cases.{on-sound, on-unsound}
+use Rattle.card.proofs.SoundLaws.{sound-of, sound-long, sound-has, sound-member-in}
+use Rattle.events.specs.Events.{member_answer, if_done, on_member, store, store_in}
 use Rattle.reply.specs.Reply.{head_of}
-use Rattle.loads.specs.Loads.{if_answered, part_of, load_in, load, lent, Numbers, member_told, configuration_for, configuration_told, setup_of_card}
+use Rattle.loads.specs.Loads.{if_answered, part_of, load_in, load, lent, member_told, configuration_for, configuration_told, setup_of_card}
 use Rattle.loads.proofs.PartLaws.{load-cases}
 use Rattle.staging.proofs.PartsSet.{parts_set_of, respond-parts-set}
-use Rattle.demands.specs.Calls.{Reply, answered, card_store, wipe, step}
+use Rattle.demands.specs.Calls.{card_store, step}
 use Rattle.demands.specs.Lists.{Settable, set_list}
 use Rattle.demands.specs.Loads.{loadable, packed_of, AnsweredExactly, RefusedUnwritten, LoadIsLent, LoadStored, LoadSet}
 use Rattle.protocol.specs.declared.ObjectKind.TheVariants.{Set}
 use Rattle.changes.specs.Changes.{set_parts_of}
 use Rattle.demands.proofs.Sound.{stays-sound}
 use Rattle.demands.proofs.Isolation.{number_of}
-use Rattle.demands.proofs.Setting.{Reached, settable, valid, small, unmarked, member, set_is, member-after, card_set, member_set, settable-after}
+use Rattle.demands.proofs.Setting.{settable, valid, small, unmarked, set_is, member-after, card_set, member_set, settable-after}
 
 -- ---- a call by its cases ----
 

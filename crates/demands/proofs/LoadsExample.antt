@@ -1,32 +1,27 @@
 -- The hypotheses of the claims of the calls that only read can be met: a card with a stored status, a list that is set, a wipe, a
 -- setup of two queue counts, and two cards that differ in a member. Assumes nothing.
-use mathlib.Core.Path.{◌≡◌, refl, sym, ◌∙◌}
+use mathlib.Core.Path.{◌≡◌, refl}
 use mathlib.Core.Bool.{true}
 use mathlib.Core.List.{List, [], ◌∷◌, ◌++◌}
-use Prim.Native.Nat.{ℕ, ◌+◌, ◌≤◌, ◌<◌, ◌^◌}
+use Prim.Native.Nat.{ℕ, ◌+◌, ◌≤◌}
 use native.Mathlib.Omega.{arith}
 use lib.ListN.{length, take, drop, replicate}
 use Rattle.theory.specs.Bytes.{same}
-use Rattle.theory.specs.Machine.{run, visible}
+use Rattle.theory.specs.Machine.{run}
 use Rattle.theory.proofs.Tests.{same_true}
 use Rattle.protocol.specs.declared.Answer.TheVariants as answer
 use Rattle.protocol.specs.declared.EventAnswer.TheVariants.{Done}
-use Rattle.protocol.specs.declared.Mode.TheVariants.{Stopped}
-use Rattle.protocol.specs.declared.ObjectKind.TheVariants.{Set}
 use Rattle.protocol.specs.Answers.{is_event_done}
-use Rattle.protocol.specs.Opcodes.{bit}
 use Rattle.inventory.specs.Inventory.{selector_of}
 use Rattle.parts.specs.declared.ListForm.TheVariants.{Parts}
 use Rattle.parts.specs.List.{parts_of, value_or, longest_list}
-use Rattle.objects.specs.declared.Found.TheVariants.{Live}
-use Rattle.member.specs.Objects.{lookup_of}
 use Rattle.setups.specs.Bits.{widths, joined, big_endian, packed}
 use Rattle.setups.specs.Writing.{count_fields, are_equal, fields_of, packed_setup, placed, written}
-use Rattle.card.specs.Layout.{card_size, record_size, record_at, in_use_of, is_member, member_in, is_marked}
+use Rattle.card.specs.Layout.{card_size, record_size, record_at, is_member, member_in, is_marked}
 use Rattle.card.specs.Sound.{is_sound}
 use Rattle.reply.specs.Reply.{head_of}
 use Rattle.loads.specs.Loads.{if_answered, part_of, load_in, load, lent, state_of, live_of, summary_of, member_told, configuration_for, configuration_told, setup_of_card}
-use Rattle.demands.specs.Calls.{Call, hand_back, wipe, card_store, answered, step, names, of_wipe}
+use Rattle.demands.specs.Calls.{Call, hand_back, wipe, card_store, answered, step, of_wipe}
 use Rattle.demands.specs.Claims.{DifferAtMost}
 use Rattle.demands.specs.Examples.{example_card, all_used, create, set_mode, header, header_bytes}
 use Rattle.demands.specs.Lists.{Settable, set_list}

@@ -1,7 +1,7 @@
 -- CALLS FOR THE CARD'S OWN FIRMWARE: what they tell of a wiped member, a card's setup that is set up anew, and demand 3. Assumes
 -- nothing.
 use mathlib.Core.Path.{◌≡◌, refl, ap, sym, ◌∙◌}
-use mathlib.Core.Bool.{Bool, true, false}
+use mathlib.Core.Bool.{Bool, true}
 use mathlib.Core.List.{List, [], ◌∷◌, ◌++◌}
 use Prim.Native.Nat.{ℕ, zero, ◌+◌, ◌^◌, ◌≤◌, ◌<◌}
 use native.Mathlib.Nat.{add-zero}
@@ -12,7 +12,7 @@ use lib.Seq.{take_at, drop_at, take_all}
 use Rattle.theory.specs.Logic.{when◌then◌else◌, unless◌answer◌then◌, ◌and◌, indicator}
 use Rattle.theory.specs.Bytes.{bytes_at}
 use Rattle.theory.specs.Machine.{Observation, replied, exposed, trace, run, seen}
-use Rattle.theory.proofs.Tests.{by_cases, within_low}
+use Rattle.theory.proofs.Tests.{by_cases}
 use Rattle.theory.proofs.Bytes.{bytes_at-bytes_at}
 use Rattle.wire.specs.Le.{le, bytes}
 use Rattle.wire.proofs.Le.{length-bytes, le_bytes}
@@ -24,18 +24,17 @@ use Rattle.member.specs.declared.Member.{Member}
 use Rattle.member.specs.Record.{holding_size}
 use Rattle.member.specs.Member.{fresh_of}
 use Rattle.member.proofs.Record.{Shaped, fresh-shaped}
-use Rattle.setups.specs.Setup.{features_size, in_numbers}
+use Rattle.setups.specs.Setup.{features_size}
 use Rattle.setups.specs.Writing.{written}
-use Rattle.card.specs.declared.Setup.{Setup}
-use Rattle.card.specs.Layout.{configuration_at, configuration_size, generation_at, generation_size, holding_at, card_size, setup_of, is_member, record_at, HasRecord, record_bytes, with_record_bytes, member_in, with_member, is_marked, counts_of, configuration_in, generation_in, with_configuration, no_configuration, with_holding, with_fresh, with_record, fresh_card}
+use Rattle.card.specs.Layout.{configuration_at, configuration_size, generation_at, generation_size, holding_at, card_size, setup_of, is_member, record_at, HasRecord, record_bytes, member_in, with_member, is_marked, counts_of, configuration_in, generation_in, with_configuration, no_configuration, with_holding, with_fresh, with_record, fresh_card}
 use Rattle.card.specs.Sound.{is_sound}
-use Rattle.card.proofs.RecordBytesLaws.{bytes_same, bytes-before, length-with-bytes}
+use Rattle.card.proofs.RecordBytesLaws.{bytes_same, bytes-before}
 use Rattle.card.proofs.MemberLaws.{length-with-member}
 use Rattle.card.proofs.RecordLaws.{no-configuration-long, setup-with-record, member-with-record, record-in-three}
 use Rattle.card.proofs.HeaderLaws.{features-long}
 use Rattle.card.proofs.CountLaws.{counts-numbers}
 use Rattle.card.proofs.SoundLaws.{sound-of, sound-long, sound-has}
-use Rattle.events.specs.Events.{setup_with, set_up, set_up_from, member_answer, if_done, on_member, wipe as wipe_of, reset_card}
+use Rattle.events.specs.Events.{set_up, set_up_from, member_answer, if_done, on_member, wipe as wipe_of, reset_card}
 use Rattle.loads.specs.Loads.{load, lent, state_of, live_of, summary_of, numbers_of, member_told, configuration_for, configuration_told, setup_of_card}
 use Rattle.demands.specs.Calls.{wipe, step, names}
 use Rattle.demands.specs.Claims.{LoadsIsolated}

@@ -2,14 +2,13 @@
 use mathlib.Core.Path.{◌≡◌, refl, ap, sym, ◌∙◌}
 use mathlib.Core.Bool.{true, false}
 use mathlib.Core.List.{List}
-use Prim.Native.Nat.{ℕ, ◌+◌, ◌-◌, ◌≤◌}
+use Prim.Native.Nat.{ℕ, ◌+◌, ◌≤◌}
 use native.Mathlib.Omega.{arith}
 use lib.ListN.{length}
 use borrow.Author.Tests.{leb-true, ltb-false}
 use Rattle.theory.specs.Logic.{unless◌answer◌then◌}
-use Rattle.theory.proofs.Tests.{by_cases, unless-cases, within_low}
+use Rattle.theory.proofs.Tests.{by_cases, unless-cases}
 use Rattle.wire.specs.Le.{le}
-use Rattle.protocol.specs.declared.Answer.TheVariants.{Marked, NotLive}
 use Rattle.member.specs.declared.Member.{Member}
 use Rattle.member.specs.Record.{member_size, holding_size, member_bytes}
 use Rattle.member.specs.Member.{with_held}

@@ -1,15 +1,14 @@
 -- Lists of parts behind other bytes, and lists whose parts differ in their flags alone. Assumes nothing.
-use mathlib.Core.Path.{◌≡◌, refl, ap, sym, ◌∙◌}
+use mathlib.Core.Path.{◌≡◌, refl, sym, ◌∙◌}
 use mathlib.Core.Bool.{Bool, true, false}
-use mathlib.Core.List.{List, ◌++◌, append_assoc}
-use Prim.Native.Nat.{ℕ, zero, suc, ◌+◌, ◌-◌, ◌≤◌, ◌<◌}
+use mathlib.Core.List.{List, ◌++◌}
+use Prim.Native.Nat.{ℕ, zero, suc, ◌+◌, ◌-◌, ◌≤◌}
 use native.Mathlib.Omega.{arith}
-use lib.Dec.{leb, ltb, eqb}
-use lib.ListN.{length, get_or, take, drop, length-append}
+use lib.Dec.{ltb}
+use lib.ListN.{length, get_or, length-append}
 use lib.Seq.{drop-append-add}
 use borrow.Author.Tests.{lt-ltb, le-ltb}
-use Rattle.theory.specs.Logic.{unless◌answer◌then◌, ◌and◌, ◌or◌}
-use Rattle.theory.specs.Bytes.{bytes_at}
+use Rattle.theory.specs.Logic.{unless◌answer◌then◌}
 use Rattle.theory.proofs.Tests.{by_cases, tests}
 use Rattle.wire.specs.Le.{number}
 use Rattle.wire.proofs.Le.{number-byte}
@@ -20,7 +19,7 @@ use Rattle.parts.specs.declared.Step.{Step}
 use Rattle.parts.specs.declared.Step.TheVariants as step
 use Rattle.parts.specs.List.{value_size, header_at, step_at, Part, PartList, end, cut, part, part_with, part_in, on_step, parts_from, parts_of, whole, among}
 use Rattle.parts.proofs.Walk.{step_end, step_part, parts-step, parts-end}
-use Rattle.rules.specs.Rules.{known, every, repeated}
+use Rattle.rules.specs.Rules.{every, repeated}
 use Rattle.values.specs.Apply.{applied}
 
 -- ---- a list behind other bytes ----

@@ -14,7 +14,6 @@ use Rattle.wire.specs.Le.{le, number}
 use Rattle.wire.proofs.Le.{number-byte, number-before}
 use Rattle.frame.specs.Frame.{opcode_of}
 use Rattle.admin.specs.Command.{respond}
-use Rattle.demands.specs.Statuses.{names_object, has_kind, needs_get}
 use Rattle.demands.specs.Reserved.{is_reserved, ReservedIgnored}
 use Rattle.demands.specs.Unread.{is_unread}
 use Rattle.demands.proofs.Unread.{unread-ignored}

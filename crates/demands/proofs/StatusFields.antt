@@ -6,7 +6,7 @@ use mathlib.Core.List.{List}
 use Prim.Native.Nat.{ℕ}
 use lib.Dec.{leb}
 use lib.ListN.{length, get_or}
-use Rattle.theory.specs.Logic.{◌and◌, ◌or◌, within}
+use Rattle.theory.specs.Logic.{◌and◌, within}
 use Rattle.theory.proofs.Tests.{true-and, and-true, false-and, and-false, true-or, false-or, or-false, not-and}
 use Rattle.wire.specs.Le.{le}
 use Rattle.protocol.specs.Opcodes.{supported_only}

@@ -1,7 +1,7 @@
 -- THE ROUND TRIP, where the capture is accepted and where it is captured again apart: a live set object is all that acceptance
 -- asks of the target's objects; a get object, parts get in use and a long enough buffer are asked where the target is captured.
 -- RoundTrip.antt follows from it. Assumes nothing.
-use Rattle.std.specs.Prelude.{◌≡◌, true, List, ℕ, ◌+◌, ◌≤◌, length, take, drop}
+use Rattle.std.specs.Prelude.{◌≡◌, true, List, ℕ, ◌+◌, ◌≤◌, length, take}
 use Rattle.protocol.specs.declared.Answer.TheVariants.{Done}
 use Rattle.protocol.specs.declared.Mode.TheVariants.{Stopped}
 use Rattle.protocol.specs.declared.ObjectKind.TheVariants.{Get, Set}
@@ -12,7 +12,6 @@ use Rattle.member.specs.Objects.{lookup_of}
 use Rattle.card.specs.Layout.{setup_of, in_use_of, is_member, member_in}
 use Rattle.card.specs.Sound.{is_sound}
 use Rattle.reply.specs.Reply.{head_of}
-use Rattle.admin.specs.Command.{respond}
 use Rattle.demands.specs.RoundTrip.{capture, restore}
 
 -- Member m of a sound card c is captured through a live get object i, and parts get, 0x0f, is in use there. Member k of a sound

@@ -2,9 +2,8 @@
 -- The hypotheses are met in ../proofs/LoadsExample.antt. Assumes nothing.
 use Rattle.std.specs.Prelude.{◌≡◌, Bool, true, false, not, List, [], ◌∷◌, ◌++◌, ℕ, ◌^◌, ◌≤◌, ◌<◌, leb, eqb, length, take, replicate}
 use Rattle.theory.specs.Logic.{◌and◌}
-use Rattle.theory.specs.Machine.{run, visible}
+use Rattle.theory.specs.Machine.{run}
 use Rattle.protocol.specs.declared.Answer.TheVariants as answer
-use Rattle.protocol.specs.declared.EventAnswer.{EventAnswer}
 use Rattle.protocol.specs.declared.EventAnswer.TheVariants.{Done}
 use Rattle.protocol.specs.Answers.{is_event_done}
 use Rattle.inventory.specs.Inventory.{row_at, selector_of, place_of, on_place}
@@ -12,12 +11,12 @@ use Rattle.parts.specs.declared.ListForm.TheVariants.{Parts}
 use Rattle.parts.specs.List.{parts_of, value_or, longest_list}
 use Rattle.member.specs.Member.{fresh_of}
 use Rattle.setups.specs.Writing.{packed_setup}
-use Rattle.card.specs.Layout.{card_size, configuration_size, setup_of, is_member, member_in, counts_of, is_marked, no_configuration}
+use Rattle.card.specs.Layout.{card_size, configuration_size, setup_of, is_member, member_in, counts_of, no_configuration}
 use Rattle.card.specs.Sound.{is_sound}
 use Rattle.events.specs.Events.{set_up_from}
 use Rattle.reply.specs.Reply.{head_of}
 use Rattle.loads.specs.Loads.{numbered_of, load_in, load, lent, Numbers, member_told, configuration_told, setup_of_card}
-use Rattle.demands.specs.Calls.{Call, hand_back, wipe, card_reset, card_store, restore_begin, restore_feed, message, answered, step, names, Resets}
+use Rattle.demands.specs.Calls.{Call, hand_back, wipe, card_reset, card_store, restore_begin, restore_feed, message, answered, step}
 use Rattle.demands.specs.Examples.{example_card}
 use Rattle.demands.specs.Lists.{Settable, set_list}
 use Rattle.demands.specs.Messages.{write_to, four_bytes}

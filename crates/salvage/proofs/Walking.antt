@@ -1,6 +1,6 @@
 -- The loop over a damaged list: the parts that are left, taken after what was, give what the whole list gives. Assumes nothing.
 use mathlib.Core.Path.{◌≡◌, refl, sym, ◌∙◌}
-use mathlib.Core.List.{List, [], ◌∷◌}
+use mathlib.Core.List.{List}
 use Prim.Native.Nat.{ℕ, ◌+◌, ◌-◌, ◌≤◌}
 use native.Mathlib.Nat.{add-sub_cancel_left, zero-add, add-zero}
 use native.Mathlib.Omega.{arith}

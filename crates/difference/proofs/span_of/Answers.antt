@@ -1,5 +1,4 @@
 use mathlib.Core.Path.{refl, sym}
-use Prim.Native.Nat.{◌-◌}
 use Rattle.parts.proofs.Turns.{walk}
 use Rattle.difference.proofs.Places.{span-stop, span-here, span-on}
 use Rattle.difference.proofs.span_of.Goals as goal

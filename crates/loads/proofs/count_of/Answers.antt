@@ -1,4 +1,3 @@
-use Prim.Native.Nat.{◌-◌}
 use borrow.Author.Rules.{rules}
 use Rattle.objects.proofs.Counts.{counted}
 use Rattle.loads.proofs.SummaryLaws.{more-low, more-fits, count-more}

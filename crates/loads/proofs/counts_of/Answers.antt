@@ -1,4 +1,3 @@
-use Prim.Native.Nat.{◌-◌}
 use borrow.Author.Rules.{rules}
 use Rattle.loads.proofs.CallLaws.{bytes-lent}
 use Rattle.loads.proofs.SetupLaws.{counts_start, counts-has, counts-on, counts_end}

@@ -1,4 +1,3 @@
-use Prim.Native.Nat.{◌-◌}
 use Rattle.parts.proofs.Turns.{walk}
 use Rattle.salvage.proofs.Walking.{walking_start, walking-room, walking-end, walking_on}
 use Rattle.salvage.proofs.read_parts.Goals as goal

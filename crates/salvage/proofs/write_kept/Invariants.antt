@@ -1,7 +1,7 @@
 -- The invariant: the bytes left, put where the next goes, give the whole.
 use Prim.Native.Nat.{◌-◌}
 use Rattle.theory.proofs.Items.{Written}
-use Rattle.inventory.specs.Inventory.{rows, row_count}
+use Rattle.inventory.specs.Inventory.{row_count}
 use Rattle.salvage.specs.Walk.{flag_item}
 use Rattle.salvage.proofs.write_kept.Given as goal
 

@@ -1,4 +1,3 @@
-use Prim.Native.Nat.{◌-◌}
 use borrow.Author.Rules.{rules}
 use Rattle.stream.proofs.Feeding.{along-start, run_fits, along-on, along-end}
 use Rattle.stream.proofs.feed.Goals as goal

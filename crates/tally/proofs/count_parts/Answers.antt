@@ -1,4 +1,3 @@
-use Prim.Native.Nat.{◌-◌}
 use Rattle.parts.proofs.Turns.{walk}
 use Rattle.tally.proofs.Walk.{counting-start, counting-room, counting-on, counting-end}
 use Rattle.tally.proofs.count_parts.Goals as goal
