@@ -38,8 +38,8 @@ kit_tools() {
 }
 
 # Checks crates/kajurnat_c over the libraries that rt has left in out/, as `rt lib` does, and builds the archive with the tools
-# of a folder: the kit's, or others in their place. Each word after these goes to rattle.
-build_library() { # TOOLCHAIN ARCHIVE WORD..
+# of a folder: the kit's, or others in their place.
+build_library() { # TOOLCHAIN ARCHIVE
     local kit words=() name
     kit=$(kit_folder)
     for name in core std; do words+=(--extern "$name=$kit/rlibs/$name.rlib"); done
@@ -49,7 +49,7 @@ build_library() { # TOOLCHAIN ARCHIVE WORD..
     for name in $(scripts/crates kajurnat); do words+=(-L "dependency=$PWD/crates/$name/out/rlib"); done
     (cd crates/kajurnat_c && "$kit/bin/rattle" build --crate-name kajurnat_c src/lib.rt --crate-type staticlib --cpu x86-64 \
         "${words[@]}" -L "dependency=$kit/rlibs" --antt-project "$kit/rattle/logic/antt-project.json" \
-        --logic-built "$kit/logic_built" --toolchain "$1" -o "$2" "${@:3}" 2>&1)
+        --logic-built "$kit/logic_built" --incremental out/incremental --toolchain "$1" -o "$2" 2>&1)
 }
 
 kit_objdump() { # ARGUMENT...
