@@ -27,7 +27,8 @@ fn main() {
     } else if !archive.is_file() {
         let built = match target() {
             Some(target) => format!(
-                "build it with `make lib TARGET={target}` at the root of the repository, or "
+                "build it with `make lib TARGET={target}` at the root of the repository \
+                 (`rt staticlib kajurnat` is gone), or "
             ),
             None => "".into(),
         };

@@ -1,8 +1,6 @@
 //! A card in memory that it owns or is lent.
 
-use crate::answer::{Answer, AnswerError};
 use crate::event::EventError;
-use crate::member::{Member, ObjectId};
 use crate::message::NoResponse;
 use crate::part::PartType;
 use crate::raw;
@@ -23,24 +21,24 @@ use core::fmt;
 /// [`Restore`] says of the holding place.
 ///
 /// ```
-/// use kajurnat::{Card, Member, PartType, Setup};
+/// use kajurnat::{Card, PartType, Setup};
 ///
 /// const SETUP: Setup = Setup::alike(1, 2, 1, 1, [0; 16]);
 ///
 /// // A card that owns its memory.
 /// let mut card = Card::new(&SETUP)?;
-/// card.store(Member(1), PartType::VQ_NOTIFY_CFG, 1, &[7; 8])?;
+/// card.store(1, PartType::VQ_NOTIFY_CFG, 1, &[7; 8])?;
 ///
 /// // A card that is lent an array, for as long as `lent` is used.
 /// let mut memory = [0; SETUP.card_bytes()];
 /// let mut lent = Card::new_in(&SETUP, &mut memory)?;
-/// lent.store(Member(1), PartType::VQ_NOTIFY_CFG, 1, &[7; 8])?;
+/// lent.store(1, PartType::VQ_NOTIFY_CFG, 1, &[7; 8])?;
 /// assert_eq!(lent, card);
 ///
 /// // The bytes are the whole card. They may be kept, and taken up again.
 /// let mut again = Card::from_bytes(&mut memory)?;
-/// again.hand_back(Member(1))?;
-/// again.wipe(Member(1), 0)?;
+/// again.hand_back(1)?;
+/// again.wipe(1, 0)?;
 /// assert_eq!(again, Card::new(&SETUP)?);
 /// # Ok::<(), Box<dyn std::error::Error>>(())
 /// ```
@@ -141,14 +139,14 @@ impl<B: AsMut<[u8]>> Card<B> {
         }
     }
 
-    /// Carries out one command and gives its answer.
+    /// Carries out one command and gives its result.
     ///
     /// ```
-    /// # use kajurnat::{Card, Opcodes, Request, Setup};
+    /// # use kajurnat::{Card, Opcode, Request, Setup};
     /// # let setup = Setup::alike(1, 1, 1, 1, [0; 16]);
     /// # let mut card = Card::new(&setup)?;
     /// let mask = card.send(Request::list_query())?;
-    /// assert_eq!(mask, Opcodes::SUPPORTED);
+    /// assert_eq!(mask, Opcode::SUPPORTED.to_le_bytes());
     /// # Ok::<(), Box<dyn std::error::Error>>(())
     /// ```
     ///
@@ -156,15 +154,13 @@ impl<B: AsMut<[u8]>> Card<B> {
     ///
     /// [`Refusal`] if the card refuses the command. The card is then
     /// unchanged.
-    pub fn send<A: Answer>(&mut self, request: impl Borrow<Request<A>>) -> Result<A, Refusal> {
+    pub fn send(&mut self, request: impl Borrow<Request>) -> Result<Vec<u8>, Refusal> {
         let request = request.borrow();
         let mut buffer = [0; Reply::MAX];
         let reply = self.command(request, &mut buffer);
         let reply = reply.expect("the buffer has room for every reply");
-        request.answer(reply).map_err(|error| match error {
-            AnswerError::Refused(refusal) => refusal,
-            other => panic!("a sound card answers the command sent: {other}"),
-        })
+        let reply = request.read(reply).expect("a sound card answers the command sent");
+        reply.result().map(<[u8]>::to_vec)
     }
 
     /// Carries out one command that came as bytes, a [`Request`] or any
@@ -217,16 +213,15 @@ impl<B: AsMut<[u8]>> Card<B> {
     /// anywhere.
     ///
     /// ```
-    /// # use kajurnat::{Card, Kind, Member, ObjectId, Opcodes, Request, Setup};
+    /// # use kajurnat::{Card, Kind, Opcode, Request, Setup};
     /// # let setup = Setup::alike(1, 1, 1, 1, [0; 16]);
     /// # let mut card = Card::new(&setup)?;
-    /// # let (member, get, set) = (Member(1), ObjectId(0), ObjectId(1));
-    /// # card.send(Request::list_use(Opcodes::SUPPORTED))?;
-    /// # card.send(Request::create(member, get, Kind::Get))?;
-    /// # card.send(Request::create(member, set, Kind::Set))?;
-    /// # card.send(Request::stop(member))?;
-    /// let parts = card.send(Request::capture(member, get))?;
-    /// card.restore(member, set, parts.as_bytes().chunks(5))?;
+    /// # card.send(Request::list_use(Opcode::SUPPORTED))?;
+    /// # card.send(Request::create(1, 0, Kind::Get))?;
+    /// # card.send(Request::create(1, 1, Kind::Set))?;
+    /// # card.send(Request::stop(1))?;
+    /// let parts = card.send(Request::capture(1, 0))?;
+    /// card.restore(1, 1, parts.chunks(5))?;
     /// # Ok::<(), Box<dyn std::error::Error>>(())
     /// ```
     ///
@@ -235,7 +230,7 @@ impl<B: AsMut<[u8]>> Card<B> {
     /// [`Refusal`] as that of [`Card::begin_restore`], [`Restore::feed`] or
     /// [`Restore::finish`]. Nothing is then set, and no holding place is left
     /// open but one that was.
-    pub fn restore<I>(&mut self, member: Member, id: ObjectId, fragments: I) -> Result<(), Refusal>
+    pub fn restore<I>(&mut self, member: u64, id: u32, fragments: I) -> Result<(), Refusal>
     where
         I: IntoIterator,
         I::Item: AsRef<[u8]>,
@@ -260,7 +255,7 @@ impl<B: AsMut<[u8]>> Card<B> {
     /// [`Qualifier::INVALID_MEMBER`]: crate::Qualifier::INVALID_MEMBER
     /// [`Status::EAGAIN`]: crate::Status::EAGAIN
     /// [`Status::EEXIST`]: crate::Status::EEXIST
-    pub fn begin_restore(&mut self, member: Member) -> Result<Restore<'_, B>, Refusal> {
+    pub fn begin_restore(&mut self, member: u64) -> Result<Restore<'_, B>, Refusal> {
         Restore::begin(self, member)
     }
 
@@ -275,7 +270,7 @@ impl<B: AsMut<[u8]>> Card<B> {
     /// [`Qualifier::INVALID_MEMBER`]: crate::Qualifier::INVALID_MEMBER
     /// [`Status::EAGAIN`]: crate::Status::EAGAIN
     /// [`Status::ENXIO`]: crate::Status::ENXIO
-    pub fn take_up_restore(&mut self, member: Member) -> Result<Restore<'_, B>, Refusal> {
+    pub fn take_up_restore(&mut self, member: u64) -> Result<Restore<'_, B>, Refusal> {
         Restore::take_up(self, member)
     }
 
@@ -297,8 +292,8 @@ impl<B: AsMut<[u8]>> Card<B> {
     /// [`EventError::WrongMark`].
     ///
     /// [`Status::EAGAIN`]: crate::Status::EAGAIN
-    pub fn hand_back(&mut self, member: Member) -> Result<(), EventError> {
-        EventError::from_answer(raw::hand_back(self.memory.as_mut(), member.0))
+    pub fn hand_back(&mut self, member: u64) -> Result<(), EventError> {
+        EventError::from_answer(raw::hand_back(self.memory.as_mut(), member))
     }
 
     /// The second half: makes a member that is marked fresh, with its queue
@@ -309,8 +304,8 @@ impl<B: AsMut<[u8]>> Card<B> {
     ///
     /// The first that applies of [`EventError::NoSuchMember`] and
     /// [`EventError::WrongMark`].
-    pub fn wipe(&mut self, member: Member, generation: u32) -> Result<(), EventError> {
-        EventError::from_answer(raw::wipe(self.memory.as_mut(), member.0, generation))
+    pub fn wipe(&mut self, member: u64, generation: u32) -> Result<(), EventError> {
+        EventError::from_answer(raw::wipe(self.memory.as_mut(), member, generation))
     }
 
     /// Makes the whole card fresh, marked members too; the setup stays. The
@@ -331,12 +326,12 @@ impl<B: AsMut<[u8]>> Card<B> {
     /// [`EventError::BadQueueSize`].
     pub fn store(
         &mut self,
-        member: Member,
+        member: u64,
         part_type: PartType,
         selector: u64,
         value: &[u8],
     ) -> Result<(), EventError> {
-        let answer = raw::store(self.memory.as_mut(), member.0, part_type.0, selector, value);
+        let answer = raw::store(self.memory.as_mut(), member, part_type.0, selector, value);
         EventError::from_answer(answer)
     }
 }

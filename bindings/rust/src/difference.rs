@@ -1,11 +1,10 @@
 //! A full capture and a later list of what changed.
 
-use crate::list::PartList;
-use crate::member::Member;
 use crate::part::{capture_bytes, PartType};
 use crate::raw;
 use crate::setup::Setup;
 use alloc::vec;
+use alloc::vec::Vec;
 use core::fmt;
 
 /// A full capture of a member and a later list of what changed, under the setup
@@ -15,33 +14,30 @@ use core::fmt;
 /// lives as long as they do.
 ///
 /// ```
-/// use kajurnat::{
-///     Card, Difference, HeaderList, Kind, Member, ObjectId, Opcodes, PartType, Request, Setup,
-/// };
+/// use kajurnat::{Card, Difference, Kind, Opcode, PartType, Request, Setup};
 ///
 /// let setup = Setup::alike(1, 1, 1, 1, [0; 16]);
 /// let mut card = Card::new(&setup)?;
-/// let (member, get) = (Member(1), ObjectId(0));
-/// card.send(Request::list_use(Opcodes::SUPPORTED))?;
-/// card.send(Request::create(member, get, Kind::Get))?;
-/// let full = card.send(Request::capture(member, get))?;
+/// card.send(Request::list_use(Opcode::SUPPORTED))?;
+/// card.send(Request::create(1, 0, Kind::Get))?;
+/// let full = card.send(Request::capture(1, 0))?;
 ///
-/// // Later the device status is another.
-/// card.store(member, PartType::DEVICE_STATUS, 0, &[0x0f])?;
-/// let mut changed = HeaderList::new();
-/// changed.push(PartType::DEVICE_STATUS, 0);
-/// let later = card.send(Request::get(member, get, &changed)?)?;
+/// // Later the device status is another: header and value.
+/// card.store(1, PartType::DEVICE_STATUS, 0, &[0x0f])?;
+/// let mut status = [0; 16];
+/// status[..2].copy_from_slice(&PartType::DEVICE_STATUS.0.to_le_bytes());
+/// let later = card.send(Request::get(1, 0, &status)?)?;
 ///
 /// let packed = setup.to_bytes()?;
-/// let night = Difference::new(&packed, member, full.as_bytes(), later.as_bytes());
+/// let night = Difference::new(&packed, 1, &full, &later);
 /// assert_eq!(night.find(PartType::DEVICE_STATUS, 0)?, [0x0f]);
-/// assert_eq!(night.merge()?, card.send(Request::capture(member, get))?);
+/// assert_eq!(night.merge()?, card.send(Request::capture(1, 0))?);
 /// # Ok::<(), Box<dyn std::error::Error>>(())
 /// ```
-#[derive(Clone, Copy)]
+#[derive(Clone, Copy, Debug)]
 pub struct Difference<'s, 'l> {
     setup: &'s [u8],
-    member: Member,
+    member: u64,
     full: &'l [u8],
     later: &'l [u8],
 }
@@ -50,7 +46,7 @@ impl<'s, 'l> Difference<'s, 'l> {
     /// The pair of these lists. `setup` is the packed setup of the card, of
     /// either version, and `member` says whose parts they are.
     #[must_use]
-    pub const fn new(setup: &'s [u8], member: Member, full: &'l [u8], later: &'l [u8]) -> Self {
+    pub const fn new(setup: &'s [u8], member: u64, full: &'l [u8], later: &'l [u8]) -> Self {
         Self { setup, member, full, later }
     }
 
@@ -64,7 +60,7 @@ impl<'s, 'l> Difference<'s, 'l> {
         let (mut list, mut at, mut len) = (0, 0, 0);
         let answer = raw::difference_find(
             self.setup,
-            self.member.0,
+            self.member,
             self.full,
             self.later,
             part_type.0,
@@ -85,11 +81,11 @@ impl<'s, 'l> Difference<'s, 'l> {
     /// # Errors
     ///
     /// [`DifferenceError`], the first that applies.
-    pub fn merge(&self) -> Result<PartList, DifferenceError> {
+    pub fn merge(&self) -> Result<Vec<u8>, DifferenceError> {
         let mut merged = vec![0; capture_bytes(*Setup::QUEUES.end())];
         let length = self.merge_into(&mut merged)?.len();
         merged.truncate(length);
-        Ok(PartList::from_bytes(merged).expect("a list that is made has whole parts"))
+        Ok(merged)
     }
 
     /// The same list at the start of a buffer. The bytes of the buffer past it
@@ -102,7 +98,7 @@ impl<'s, 'l> Difference<'s, 'l> {
         let mut written = 0;
         let answer = raw::difference_merge(
             self.setup,
-            self.member.0,
+            self.member,
             self.full,
             self.later,
             buffer,
@@ -110,18 +106,6 @@ impl<'s, 'l> Difference<'s, 'l> {
         );
         DifferenceError::from_answer(answer)?;
         Ok(&buffer[..written as usize])
-    }
-}
-
-impl fmt::Debug for Difference<'_, '_> {
-    /// The member and the lengths: the lists may hold addresses of guest
-    /// memory.
-    fn fmt(&self, f: &mut fmt::Formatter<'_>) -> fmt::Result {
-        f.debug_struct("Difference")
-            .field("member", &self.member)
-            .field("full", &self.full.len())
-            .field("later", &self.later.len())
-            .finish_non_exhaustive()
     }
 }
 

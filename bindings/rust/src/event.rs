@@ -1,17 +1,16 @@
-//! The answers to card events, hand backs, wipes and card stores, and to what
-//! only reads the card.
+//! The answers to card events: hand backs, wipes and card stores.
 
 use core::fmt;
 
-/// Why a hand back, a wipe, a card store or a read of the card was refused. The
-/// card is then unchanged.
+/// Why a hand back, a wipe or a card store was refused. The card is then
+/// unchanged.
 #[derive(Clone, Copy, Debug, PartialEq, Eq)]
 #[non_exhaustive]
 pub enum EventError {
     /// The member is not 1 to the number of members.
     NoSuchMember,
-    /// The member has no part of this type and selector; or it is to be stored
-    /// and is the device features, which are not set.
+    /// The member has no part of this type and selector, or it is the device
+    /// features, which are not set.
     NoSuchPart,
     /// The part's value has another length.
     WrongLength,
@@ -42,7 +41,7 @@ impl fmt::Display for EventError {
     fn fmt(&self, f: &mut fmt::Formatter<'_>) -> fmt::Result {
         f.write_str(match self {
             Self::NoSuchMember => "the card has no such member",
-            Self::NoSuchPart => "the member has no such part",
+            Self::NoSuchPart => "the member has no such part to store",
             Self::WrongLength => "the part's value has another length",
             Self::BadQueueSize => "the queue has a size that no ring has",
             Self::WrongMark => "the member is marked already, or is to be wiped and is not marked",

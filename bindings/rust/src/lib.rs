@@ -9,38 +9,30 @@
 //! the proof.
 //!
 //! ```
-//! use kajurnat::{
-//!     Card, Kind, Member, ObjectId, Opcodes, PartType, Qualifier, Request, Setup,
-//! };
+//! use kajurnat::{Card, Kind, Opcode, PartType, Qualifier, Request, Setup};
 //!
 //! // Two members with one queue each, and room for one get and one set object.
 //! let setup = Setup::alike(2, 1, 1, 1, [0; 16]);
 //! let mut card = Card::new(&setup)?;
 //!
-//! let (first, second) = (Member(1), Member(2));
-//! let (get, set) = (ObjectId(0), ObjectId(1));
-//!
 //! // Put every command in use.
-//! card.send(Request::list_use(Opcodes::SUPPORTED))?;
+//! card.send(Request::list_use(Opcode::SUPPORTED))?;
 //!
 //! // The data path of member 1 sets the device status.
-//! card.store(first, PartType::DEVICE_STATUS, 0, &[0x0f])?;
+//! card.store(1, PartType::DEVICE_STATUS, 0, &[0x0f])?;
 //!
 //! // Stop member 1 and capture it.
-//! card.send(Request::create(first, get, Kind::Get))?;
-//! card.send(Request::stop(first))?;
-//! let parts = card.send(Request::capture(first, get))?;
-//! for part in parts.iter() {
-//!     println!("{}: {} bytes", part.part_type, part.value.len());
-//! }
+//! card.send(Request::create(1, 0, Kind::Get))?;
+//! card.send(Request::stop(1))?;
+//! let parts = card.send(Request::capture(1, 0))?;
 //!
 //! // Set what was captured in member 2.
-//! card.send(Request::create(second, set, Kind::Set))?;
-//! card.send(Request::stop(second))?;
-//! card.send(Request::set(second, set, &parts)?)?;
+//! card.send(Request::create(2, 1, Kind::Set))?;
+//! card.send(Request::stop(2))?;
+//! card.send(Request::set(2, 1, &parts)?)?;
 //!
 //! // There is no member 3; the refusal says so.
-//! let refusal = card.send(Request::stop(Member(3))).unwrap_err();
+//! let refusal = card.send(Request::stop(3)).unwrap_err();
 //! assert_eq!(refusal.qualifier, Qualifier::INVALID_MEMBER);
 //! assert_eq!(
 //!     refusal.to_string(),
@@ -49,8 +41,8 @@
 //!
 //! // The data path lets go of member 1, and its next guest finds nothing of the
 //! // last one.
-//! card.hand_back(first)?;
-//! card.wipe(first, 0)?;
+//! card.hand_back(1)?;
+//! card.wipe(1, 0)?;
 //! # Ok::<(), Box<dyn std::error::Error>>(())
 //! ```
 //!
@@ -84,13 +76,10 @@ extern crate alloc;
 #[cfg(feature = "std")]
 extern crate std;
 
-mod answer;
 mod card;
 mod difference;
 mod event;
-mod list;
 mod load;
-mod member;
 mod message;
 mod number;
 mod part;
@@ -102,18 +91,15 @@ mod salvage;
 mod setup;
 mod status;
 
-pub use answer::{Answer, AnswerError, CaptureSize, PartCount};
 pub use card::{Card, NotSound};
 pub use difference::{Difference, DifferenceError};
 pub use event::EventError;
-pub use list::{parts, CutList, Header, HeaderList, Part, PartList, Parts};
-pub use load::{Configuration, MemberStatus, State};
-pub use member::{Member, ObjectId};
+pub use load::{Configuration, LoadError, Member, State};
 pub use message::{BadResponse, Message, MessageId, MessageTooLong, NoResponse, Response};
 pub use part::{capture_bytes, part_count, PartType};
 pub use raw::version;
 pub use reply::{BadReply, Refusal, Reply, ReplyTooShort};
-pub use request::{Kind, Opcode, Opcodes, Request, RequestTooLong};
+pub use request::{Kind, Metadata, Opcode, Request, RequestTooLong};
 pub use restore::Restore;
 pub use salvage::{Dropped, SalvageRefused, Salvaged};
 pub use setup::{BadSetup, Setup, SetupError};

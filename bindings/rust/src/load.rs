@@ -1,7 +1,8 @@
 //! What the card's own firmware reads of it: a part, a member, its
 //! configuration. Nothing here changes the card.
 
-use crate::{raw, Card, EventError, Member, PartType};
+use crate::{raw, Card, PartType};
+use core::fmt;
 
 /// The state of a member.
 #[derive(Clone, Copy, Debug, PartialEq, Eq)]
@@ -17,7 +18,7 @@ pub enum State {
 /// A member, as its card sees it.
 #[derive(Clone, Copy, Debug, PartialEq, Eq)]
 #[non_exhaustive]
-pub struct MemberStatus {
+pub struct Member {
     /// Whether it runs.
     pub state: State,
     /// How many queues it has.
@@ -45,31 +46,31 @@ impl<B: AsRef<[u8]>> Card<B> {
     /// [`Card::store`]; device features, which no store sets, are loaded too.
     ///
     /// ```
-    /// use kajurnat::{Card, Member, PartType, Setup};
+    /// use kajurnat::{Card, PartType, Setup};
     ///
     /// let mut card = Card::new(&Setup::alike(1, 1, 1, 1, [0; 16]))?;
-    /// card.store(Member(1), PartType::DEVICE_STATUS, 0, &[0x0f])?;
+    /// card.store(1, PartType::DEVICE_STATUS, 0, &[0x0f])?;
     ///
     /// let mut status = [0];
-    /// card.load(Member(1), PartType::DEVICE_STATUS, 0, &mut status)?;
+    /// card.load(1, PartType::DEVICE_STATUS, 0, &mut status)?;
     /// assert_eq!(status, [0x0f]);
     /// # Ok::<(), Box<dyn std::error::Error>>(())
     /// ```
     ///
     /// # Errors
     ///
-    /// The first that applies of [`EventError::NoSuchMember`],
-    /// [`EventError::NoSuchPart`] and [`EventError::WrongLength`]; nothing is
+    /// The first that applies of [`LoadError::NoSuchMember`],
+    /// [`LoadError::NoSuchPart`] and [`LoadError::WrongLength`]; nothing is
     /// then written.
     pub fn load(
         &self,
-        member: Member,
+        member: u64,
         part_type: PartType,
         selector: u64,
         value: &mut [u8],
-    ) -> Result<(), EventError> {
-        let answer = raw::load(self.as_bytes(), member.0, part_type.0, selector, value);
-        EventError::from_answer(answer)
+    ) -> Result<(), LoadError> {
+        let answer = raw::load(self.as_bytes(), member, part_type.0, selector, value);
+        LoadError::from_answer(answer)
     }
 
     /// The state of a member, its queue count, its live objects, and what its
@@ -77,37 +78,75 @@ impl<B: AsRef<[u8]>> Card<B> {
     ///
     /// # Errors
     ///
-    /// [`EventError::NoSuchMember`].
-    pub fn member(&self, member: Member) -> Result<MemberStatus, EventError> {
+    /// [`LoadError::NoSuchMember`].
+    pub fn member(&self, member: u64) -> Result<Member, LoadError> {
         let (mut state, mut queues, mut gets, mut sets, mut held) = (0, 0, 0, 0, 0);
         let answer = raw::member(
             self.as_bytes(),
-            member.0,
+            member,
             &mut state,
             &mut queues,
             &mut gets,
             &mut sets,
             &mut held,
         );
-        EventError::from_answer(answer)?;
+        LoadError::from_answer(answer)?;
         let state = match state {
             0 => State::Running,
             1 => State::Stopped,
             _ => State::Marked,
         };
-        Ok(MemberStatus { state, queues, gets, sets, held: held.checked_sub(1) })
+        Ok(Member { state, queues, gets, sets, held: held.checked_sub(1) })
     }
 
     /// The configuration of a member and its generation.
     ///
     /// # Errors
     ///
-    /// [`EventError::NoSuchMember`].
-    pub fn configuration(&self, member: Member) -> Result<Configuration, EventError> {
+    /// [`LoadError::NoSuchMember`].
+    pub fn configuration(&self, member: u64) -> Result<Configuration, LoadError> {
         let mut bytes = [0; 12];
         let mut generation = 0;
-        let answer = raw::configuration(self.as_bytes(), member.0, &mut bytes, &mut generation);
-        EventError::from_answer(answer)?;
+        let answer = raw::configuration(self.as_bytes(), member, &mut bytes, &mut generation);
+        LoadError::from_answer(answer)?;
         Ok(Configuration { bytes, generation })
     }
 }
+
+/// Why a part, a member or its configuration was not told. Nothing is then
+/// written.
+#[derive(Clone, Copy, Debug, PartialEq, Eq)]
+#[non_exhaustive]
+pub enum LoadError {
+    /// The member is not 1 to the number of members.
+    NoSuchMember,
+    /// The member has no part of this type and selector.
+    NoSuchPart,
+    /// The part's value has another length than the buffer.
+    WrongLength,
+}
+
+impl LoadError {
+    /// Reads the archive's answer to a call that only reads a sound card.
+    fn from_answer(answer: u8) -> Result<(), Self> {
+        match answer {
+            0 => Ok(()),
+            1 => Err(Self::NoSuchMember),
+            2 => Err(Self::NoSuchPart),
+            3 => Err(Self::WrongLength),
+            other => panic!("the archive answered {other} to a read of a sound card"),
+        }
+    }
+}
+
+impl fmt::Display for LoadError {
+    fn fmt(&self, f: &mut fmt::Formatter<'_>) -> fmt::Result {
+        f.write_str(match self {
+            Self::NoSuchMember => "the card has no such member",
+            Self::NoSuchPart => "the member has no such part",
+            Self::WrongLength => "the part's value has another length than the buffer",
+        })
+    }
+}
+
+impl core::error::Error for LoadError {}

@@ -25,9 +25,8 @@ pub use lists::{difference_find, difference_merge, salvage};
 pub use loads::{configuration, load, member, setup_of};
 pub use setup::{setup, setup_from, setup_read, setup_read_v1, setup_write};
 
-/// The version of a card's bytes, which is not the library's. It is raised
-/// whenever they change their meaning: bytes that were kept are a card for the
-/// same version only.
+/// The version of a card's bytes. It is raised whenever they change their
+/// meaning: bytes that were kept are a card for the same version only.
 #[must_use]
 pub fn version() -> u32 {
     // SAFETY: the call is lent no memory.

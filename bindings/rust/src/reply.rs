@@ -15,9 +15,9 @@ use core::fmt;
 /// sent is still there.
 ///
 /// ```
-/// use kajurnat::{Member, Qualifier, Request, Status};
+/// use kajurnat::{Qualifier, Request, Status};
 ///
-/// let reply = Request::stop(Member(1)).read(&[99, 0, 5, 0, 0, 0, 0, 0])?;
+/// let reply = Request::stop(1).read(&[99, 0, 5, 0, 0, 0, 0, 0])?;
 /// assert_eq!(reply.status(), Status::EINVAL);
 /// assert_eq!(reply.sent_status(), Status(99));
 /// assert_eq!(reply.qualifier(), Qualifier::INVALID_MEMBER);

@@ -1,15 +1,11 @@
 //! Building a request.
 
-use crate::answer::{Answer, AnswerError, CaptureSize, PartCount};
-use crate::list::{Header, PartList};
-use crate::member::{Member, ObjectId};
 use crate::number::wire_number;
 use crate::raw;
 use crate::reply::{BadReply, Reply};
 use alloc::vec;
 use alloc::vec::Vec;
 use core::fmt;
-use core::marker::PhantomData;
 
 wire_number! {
     /// The command that a request asks for.
@@ -36,37 +32,10 @@ wire_number! {
     DEV_MODE_SET = 0x11,
 }
 
-/// A set of opcodes, as a mask: bit n stands for opcode n.
-#[derive(Clone, Copy, PartialEq, Eq, Hash)]
-pub struct Opcodes(
-    /// The mask on the wire.
-    pub u64,
-);
-
-impl Opcodes {
-    /// The ten opcodes that a card supports. This is the answer to
-    /// [`Request::list_query`].
-    pub const SUPPORTED: Self = Self(0x3fc03);
-
-    /// Whether an opcode is in the set.
-    #[must_use]
-    pub const fn contains(self, opcode: Opcode) -> bool {
-        opcode.0 < 64 && self.0 >> opcode.0 & 1 == 1
-    }
-
-    /// Those that are in both sets.
-    #[must_use]
-    pub const fn and(self, other: Self) -> Self {
-        Self(self.0 & other.0)
-    }
-}
-
-impl fmt::Debug for Opcodes {
-    /// The opcodes of the set.
-    fn fmt(&self, f: &mut fmt::Formatter<'_>) -> fmt::Result {
-        let members = (0..64).map(Opcode).filter(|opcode| self.contains(*opcode));
-        f.debug_set().entries(members).finish()
-    }
+impl Opcode {
+    /// The mask of the ten opcodes that a card supports: bit n stands for
+    /// opcode n. This is the result of [`Request::list_query`].
+    pub const SUPPORTED: u64 = 0x3fc03;
 }
 
 /// What a resource object is for.
@@ -79,10 +48,18 @@ pub enum Kind {
     Set = 1,
 }
 
-/// What a metadata request asks for.
-const SIZE: u8 = 0;
-const COUNT: u8 = 1;
-const LIST: u8 = 2;
+/// What [`Request::metadata`] asks for.
+#[derive(Clone, Copy, Debug, PartialEq, Eq, Hash)]
+#[repr(u8)]
+pub enum Metadata {
+    /// The size of all parts with their headers: a number in 4 bytes, and 4
+    /// zero bytes.
+    Size = 0,
+    /// The count of parts, so.
+    Count = 1,
+    /// The count of parts, so, and then the header of each.
+    List = 2,
+}
 
 /// Which parts a parts get is for.
 const SELECTED: u8 = 0;
@@ -92,42 +69,35 @@ const ALL: u8 = 1;
 const RESUME: u8 = 0;
 const STOP: u8 = 1;
 
-/// A request: one command with its fields, built by the archive. `A` is the
-/// type of its answer.
+/// A request: one command with its fields, built by the archive.
 ///
-/// Fields go in as they are given. A sound card takes a request as that command
-/// with those fields if the command is in use, its member is the card's and not
-/// marked, the fields are in the range of the setup, and headers that are asked
-/// for are whole, which is proved of the archive; whether they are, and whether
-/// a list of parts is good, the card says in its reply.
+/// Fields go in as they are given. A card takes a request as that command with
+/// those fields if they are in the range of its setup, which is proved of the
+/// archive; whether they are, and whether a list of parts is good, the card
+/// says in its reply. Members are numbered from 1.
 ///
 /// A host hands [`Request::as_bytes`] to a card, wherever that is, and reads
-/// the bytes that come back with [`Request::answer`], or with [`Request::read`]
-/// for status and qualifier:
+/// the bytes that come back with [`Request::read`]:
 ///
 /// ```
-/// use kajurnat::{Member, Opcode, Opcodes, Request, Status};
+/// use kajurnat::{Opcode, Request, Status};
 ///
-/// let stop = Request::stop(Member(2));
+/// let stop = Request::stop(2);
 /// assert_eq!(stop.opcode(), Opcode::DEV_MODE_SET);
 /// assert_eq!(stop.as_bytes().len(), 25);
 ///
 /// let reply = stop.read(&[22, 0, 5, 0, 0, 0, 0, 0])?;
 /// assert_eq!(reply.status(), Status::EINVAL);
-///
-/// let mask = Request::list_query().answer(&[0, 0, 0, 0, 0, 0, 0, 0, 3, 0, 0, 0, 0, 0, 0, 0])?;
-/// assert_eq!(mask, Opcodes(3));
-/// # Ok::<(), kajurnat::AnswerError>(())
+/// # Ok::<(), kajurnat::BadReply>(())
 /// ```
 ///
 /// A card in this process does both with [`Card::send`](crate::Card::send).
 #[derive(Clone, PartialEq, Eq)]
-pub struct Request<A = Vec<u8>> {
+pub struct Request {
     opcode: Opcode,
     /// What a metadata request asks for; its reply is read by it.
     what: u8,
     bytes: Vec<u8>,
-    answer: PhantomData<A>,
 }
 
 impl Request {
@@ -138,130 +108,99 @@ impl Request {
     /// No request without its list is longer.
     const FIXED_MAX: usize = 48;
 
-    /// Asks which commands the card supports.
+    /// Asks which commands the card supports. The result is a mask of 8 bytes:
+    /// bit n stands for opcode n.
     #[must_use]
-    pub fn list_query() -> Request<Opcodes> {
-        Request::fixed(Opcode::LIST_QUERY, raw::request_list_query)
+    pub fn list_query() -> Self {
+        Self::fixed(Opcode::LIST_QUERY, raw::request_list_query)
     }
 
-    /// Puts these commands in use, and no others.
+    /// Puts the commands of the mask in use, and no others: bit n stands for
+    /// opcode n.
     #[must_use]
-    pub fn list_use(opcodes: Opcodes) -> Request<()> {
-        Request::fixed(Opcode::LIST_USE, |bytes| raw::request_list_use(bytes, opcodes.0))
+    pub fn list_use(mask: u64) -> Self {
+        Self::fixed(Opcode::LIST_USE, |bytes| raw::request_list_use(bytes, mask))
     }
 
     /// Creates a resource object.
     #[must_use]
-    pub fn create(member: Member, id: ObjectId, kind: Kind) -> Request<()> {
-        Request::fixed(Opcode::RESOURCE_OBJ_CREATE, |bytes| {
-            raw::request_create(bytes, member.0, id.0, kind as u8)
+    pub fn create(member: u64, id: u32, kind: Kind) -> Self {
+        Self::fixed(Opcode::RESOURCE_OBJ_CREATE, |bytes| {
+            raw::request_create(bytes, member, id, kind as u8)
         })
     }
 
     /// Gives a resource object another kind.
     #[must_use]
-    pub fn modify(member: Member, id: ObjectId, kind: Kind) -> Request<()> {
-        Request::fixed(Opcode::RESOURCE_OBJ_MODIFY, |bytes| {
-            raw::request_modify(bytes, member.0, id.0, kind as u8)
+    pub fn modify(member: u64, id: u32, kind: Kind) -> Self {
+        Self::fixed(Opcode::RESOURCE_OBJ_MODIFY, |bytes| {
+            raw::request_modify(bytes, member, id, kind as u8)
         })
     }
 
-    /// Asks for the kind of a resource object.
+    /// Asks for the kind of a resource object. The result is the kind and 7
+    /// zero bytes.
     #[must_use]
-    pub fn query(member: Member, id: ObjectId) -> Request<Kind> {
-        Request::fixed(Opcode::RESOURCE_OBJ_QUERY, |bytes| {
-            raw::request_query(bytes, member.0, id.0)
-        })
+    pub fn query(member: u64, id: u32) -> Self {
+        Self::fixed(Opcode::RESOURCE_OBJ_QUERY, |bytes| raw::request_query(bytes, member, id))
     }
 
     /// Ends a resource object.
     #[must_use]
-    pub fn destroy(member: Member, id: ObjectId) -> Request<()> {
-        Request::fixed(Opcode::RESOURCE_OBJ_DESTROY, |bytes| {
-            raw::request_destroy(bytes, member.0, id.0)
-        })
+    pub fn destroy(member: u64, id: u32) -> Self {
+        Self::fixed(Opcode::RESOURCE_OBJ_DESTROY, |bytes| raw::request_destroy(bytes, member, id))
     }
 
-    /// Asks for the length of a full capture of a member, through a get object.
+    /// Asks about all parts of a member, through a get object.
     #[must_use]
-    pub fn capture_size(member: Member, id: ObjectId) -> Request<CaptureSize> {
-        Request::metadata(member, id, SIZE)
+    pub fn metadata(member: u64, id: u32, what: Metadata) -> Self {
+        let what = what as u8;
+        let request = Self::fixed(Opcode::DEV_PARTS_METADATA_GET, |bytes| {
+            raw::request_metadata(bytes, member, id, what)
+        });
+        Self { what, ..request }
     }
 
-    /// Asks how many parts a member has, through a get object.
+    /// Captures all parts of a member, through a get object. The result is
+    /// each part in order, a header and its value.
     #[must_use]
-    pub fn part_count(member: Member, id: ObjectId) -> Request<PartCount> {
-        Request::metadata(member, id, COUNT)
+    pub fn capture(member: u64, id: u32) -> Self {
+        Self::fixed(Opcode::DEV_PARTS_GET, |bytes| raw::request_get(bytes, member, id, ALL, &[]))
     }
 
-    /// Asks for the header of each part of a member, through a get object.
-    #[must_use]
-    pub fn part_headers(member: Member, id: ObjectId) -> Request<Vec<Header>> {
-        Request::metadata(member, id, LIST)
-    }
-
-    /// Captures all parts of a member, through a get object.
-    #[must_use]
-    pub fn capture(member: Member, id: ObjectId) -> Request<PartList> {
-        Request::fixed(Opcode::DEV_PARTS_GET, |bytes| {
-            raw::request_get(bytes, member.0, id.0, ALL, &[])
-        })
-    }
-
-    /// Captures the parts that the headers name, a
-    /// [`HeaderList`](crate::HeaderList) or its bytes, through a get object.
+    /// Captures the parts that the headers name, through a get object.
     ///
     /// # Errors
     ///
     /// [`RequestTooLong`] if the headers are over 4,056 bytes.
-    pub fn get(
-        member: Member,
-        id: ObjectId,
-        headers: impl AsRef<[u8]>,
-    ) -> Result<Request<PartList>, RequestTooLong> {
-        let headers = headers.as_ref();
-        Request::with_list(Opcode::DEV_PARTS_GET, headers, |bytes| {
-            raw::request_get(bytes, member.0, id.0, SELECTED, headers)
+    pub fn get(member: u64, id: u32, headers: &[u8]) -> Result<Self, RequestTooLong> {
+        Self::with_list(Opcode::DEV_PARTS_GET, headers, |bytes| {
+            raw::request_get(bytes, member, id, SELECTED, headers)
         })
     }
 
-    /// Sets parts of a stopped member, a [`PartList`] or its bytes, through a set
-    /// object: all of the list or none.
+    /// Sets parts of a stopped member, through a set object: all of the list
+    /// or none.
     ///
     /// # Errors
     ///
     /// [`RequestTooLong`] if the list is over 4,064 bytes.
-    pub fn set(
-        member: Member,
-        id: ObjectId,
-        list: impl AsRef<[u8]>,
-    ) -> Result<Request<()>, RequestTooLong> {
-        let list = list.as_ref();
-        Request::with_list(Opcode::DEV_PARTS_SET, list, |bytes| {
-            raw::request_set(bytes, member.0, id.0, list)
+    pub fn set(member: u64, id: u32, list: &[u8]) -> Result<Self, RequestTooLong> {
+        Self::with_list(Opcode::DEV_PARTS_SET, list, |bytes| {
+            raw::request_set(bytes, member, id, list)
         })
     }
 
     /// Stops a member.
     #[must_use]
-    pub fn stop(member: Member) -> Request<()> {
-        Request::fixed(Opcode::DEV_MODE_SET, |bytes| raw::request_mode(bytes, member.0, STOP))
+    pub fn stop(member: u64) -> Self {
+        Self::fixed(Opcode::DEV_MODE_SET, |bytes| raw::request_mode(bytes, member, STOP))
     }
 
     /// Resumes a member.
     #[must_use]
-    pub fn resume(member: Member) -> Request<()> {
-        Request::fixed(Opcode::DEV_MODE_SET, |bytes| raw::request_mode(bytes, member.0, RESUME))
-    }
-}
-
-impl<A> Request<A> {
-    /// A request about all parts of a member.
-    fn metadata(member: Member, id: ObjectId, what: u8) -> Self {
-        let request = Self::fixed(Opcode::DEV_PARTS_METADATA_GET, |bytes| {
-            raw::request_metadata(bytes, member.0, id.0, what)
-        });
-        Self { what, ..request }
+    pub fn resume(member: u64) -> Self {
+        Self::fixed(Opcode::DEV_MODE_SET, |bytes| raw::request_mode(bytes, member, RESUME))
     }
 
     /// A request without a list.
@@ -275,22 +214,15 @@ impl<A> Request<A> {
         list: &[u8],
         build: impl FnOnce(&mut [u8]) -> usize,
     ) -> Result<Self, RequestTooLong> {
-        let room = list.len().saturating_add(Request::FIXED_MAX).min(Request::MAX);
+        let room = list.len().saturating_add(Self::FIXED_MAX).min(Self::MAX);
         let mut bytes = vec![0; room];
         match build(&mut bytes) {
             0 => Err(RequestTooLong { list: list.len() }),
             length => {
                 bytes.truncate(length);
-                Ok(Self { opcode, what: 0, bytes, answer: PhantomData })
+                Ok(Self { opcode, what: 0, bytes })
             }
         }
-    }
-
-    /// The same request, its answer as the bytes of the result.
-    #[must_use]
-    pub fn untyped(self) -> Request {
-        let Self { opcode, what, bytes, .. } = self;
-        Request { opcode, what, bytes, answer: PhantomData }
     }
 
     /// The command.
@@ -316,26 +248,13 @@ impl<A> Request<A> {
     }
 }
 
-impl<A: Answer> Request<A> {
-    /// Reads the bytes of a whole reply, and gives what the command gave.
-    ///
-    /// # Errors
-    ///
-    /// [`AnswerError`] if the bytes cannot be the answer, if the command was not
-    /// carried out, or if the result says something that is not known.
-    pub fn answer(&self, reply: &[u8]) -> Result<A, AnswerError> {
-        let result = self.read(reply)?.result()?;
-        A::from_result(result).ok_or(AnswerError::Unknown)
-    }
-}
-
-impl<A> AsRef<[u8]> for Request<A> {
+impl AsRef<[u8]> for Request {
     fn as_ref(&self) -> &[u8] {
         &self.bytes
     }
 }
 
-impl<A> fmt::Debug for Request<A> {
+impl fmt::Debug for Request {
     /// The opcode and the length: the data may hold addresses of guest
     /// memory.
     fn fmt(&self, f: &mut fmt::Formatter<'_>) -> fmt::Result {
@@ -374,7 +293,7 @@ mod tests {
 
     #[test]
     fn the_data_is_not_shown() {
-        let request = Request::set(Member(1), ObjectId(0), [0xde, 0xad]).unwrap();
+        let request = Request::set(1, 0, &[0xde, 0xad]).unwrap();
         assert_eq!(
             format!("{request:?}"),
             "Request { opcode: Opcode(0x10 (DEV_PARTS_SET)), length: 34, .. }"
@@ -383,7 +302,7 @@ mod tests {
 
     #[test]
     fn a_list_that_is_too_long_is_named() {
-        let error = Request::set(Member(1), ObjectId(0), [0; 4065]).unwrap_err();
+        let error = Request::set(1, 0, &[0; 4065]).unwrap_err();
         assert_eq!(error, RequestTooLong { list: 4065 });
         assert_eq!(
             error.to_string(),
@@ -396,11 +315,7 @@ mod tests {
         let named = (0..64)
             .filter(|&opcode| Opcode(opcode).name().is_some())
             .fold(0, |mask, opcode| mask | 1_u64 << opcode);
-        assert_eq!(Opcodes(named), Opcodes::SUPPORTED);
-        assert!(
-            Opcodes::SUPPORTED.contains(Opcode(0x11)) && !Opcodes(u64::MAX).contains(Opcode(64))
-        );
-        assert_eq!(format!("{:?}", Opcodes(2)), "{Opcode(0x01 (LIST_USE))}");
+        assert_eq!(named, Opcode::SUPPORTED);
         assert_eq!(format!("{}", Opcode(0x0a)), "0x0a (RESOURCE_OBJ_CREATE)");
     }
 }

@@ -1,7 +1,6 @@
 //! Restoring a member from a list that comes in fragments.
 
 use crate::card::Card;
-use crate::member::{Member, ObjectId};
 use crate::raw;
 use crate::reply::Refusal;
 use crate::status::{Qualifier, Status};
@@ -17,20 +16,20 @@ use core::mem;
 /// too, drops the holding place:
 ///
 /// ```
-/// # use kajurnat::{Card, Kind, Member, ObjectId, Opcodes, PartType, Request, Setup};
+/// # use kajurnat::{Card, Kind, Opcode, PartType, Request, Setup};
 /// # let setup = Setup::alike(2, 1, 1, 1, [0; 16]);
 /// # let mut card = Card::new(&setup)?;
-/// # card.send(Request::list_use(Opcodes::SUPPORTED))?;
-/// # card.send(Request::create(Member(1), ObjectId(0), Kind::Get))?;
-/// # card.send(Request::create(Member(2), ObjectId(1), Kind::Set))?;
-/// # card.send(Request::stop(Member(2)))?;
-/// # let parts = card.send(Request::capture(Member(1), ObjectId(0)))?;
-/// # let connection = parts.as_bytes().chunks(7);
-/// let mut restore = card.begin_restore(Member(2))?;
+/// # card.send(Request::list_use(Opcode::SUPPORTED))?;
+/// # card.send(Request::create(1, 0, Kind::Get))?;
+/// # card.send(Request::create(2, 1, Kind::Set))?;
+/// # card.send(Request::stop(2))?;
+/// # let parts = card.send(Request::capture(1, 0))?;
+/// # let connection = parts.chunks(7);
+/// let mut restore = card.begin_restore(2)?;
 /// for fragment in connection {
 ///     restore.feed(fragment)?;
 /// }
-/// restore.finish(ObjectId(1))?;
+/// restore.finish(1)?;
 /// # Ok::<(), Box<dyn std::error::Error>>(())
 /// ```
 ///
@@ -41,7 +40,7 @@ use core::mem;
 /// touches its holding place.
 pub struct Restore<'c, B: AsMut<[u8]> = Vec<u8>> {
     card: &'c mut Card<B>,
-    member: Member,
+    member: u64,
 }
 
 impl Restore<'_> {
@@ -51,15 +50,15 @@ impl Restore<'_> {
 
 impl<'c, B: AsMut<[u8]>> Restore<'c, B> {
     /// Opens the holding place of a member.
-    pub(crate) fn begin(card: &'c mut Card<B>, member: Member) -> Result<Self, Refusal> {
-        read(raw::restore_begin(card.bytes_mut(), member.0))?;
+    pub(crate) fn begin(card: &'c mut Card<B>, member: u64) -> Result<Self, Refusal> {
+        read(raw::restore_begin(card.bytes_mut(), member))?;
         Ok(Self { card, member })
     }
 
     /// Takes up a holding place that is open: a feed of no bytes changes none,
     /// and is refused if there is none.
-    pub(crate) fn take_up(card: &'c mut Card<B>, member: Member) -> Result<Self, Refusal> {
-        read(raw::restore_feed(card.bytes_mut(), member.0, &[]))?;
+    pub(crate) fn take_up(card: &'c mut Card<B>, member: u64) -> Result<Self, Refusal> {
+        read(raw::restore_feed(card.bytes_mut(), member, &[]))?;
         Ok(Self { card, member })
     }
 
@@ -72,7 +71,7 @@ impl<'c, B: AsMut<[u8]>> Restore<'c, B> {
     /// after that is refused with [`Status::ENXIO`]. With [`Status::EAGAIN`] if
     /// the member was handed back meanwhile.
     pub fn feed(&mut self, fragment: &[u8]) -> Result<(), Refusal> {
-        read(raw::restore_feed(self.card.bytes_mut(), self.member.0, fragment))
+        read(raw::restore_feed(self.card.bytes_mut(), self.member, fragment))
     }
 
     /// Sets the parts of the list that was fed, through the set object of this
@@ -83,8 +82,8 @@ impl<'c, B: AsMut<[u8]>> Restore<'c, B> {
     /// [`Refusal`] as that of [`Request::set`](crate::Request::set) with the
     /// whole list, or with [`Status::ENXIO`] if the holding place is gone. The
     /// member's parts are then unchanged.
-    pub fn finish(self, id: ObjectId) -> Result<(), Refusal> {
-        let answer = raw::restore_finish(self.card.bytes_mut(), self.member.0, id.0);
+    pub fn finish(self, id: u32) -> Result<(), Refusal> {
+        let answer = raw::restore_finish(self.card.bytes_mut(), self.member, id);
         // Nothing is left to drop.
         mem::forget(self);
         read(answer)
@@ -98,7 +97,7 @@ impl<'c, B: AsMut<[u8]>> Restore<'c, B> {
 
     /// The member that is restored.
     #[must_use]
-    pub const fn member(&self) -> Member {
+    pub const fn member(&self) -> u64 {
         self.member
     }
 
@@ -112,7 +111,7 @@ impl<'c, B: AsMut<[u8]>> Restore<'c, B> {
 impl<B: AsMut<[u8]>> Drop for Restore<'_, B> {
     /// Drops the holding place, if it is still open.
     fn drop(&mut self) {
-        let _ = raw::restore_drop(self.card.bytes_mut(), self.member.0);
+        let _ = raw::restore_drop(self.card.bytes_mut(), self.member);
     }
 }
 

@@ -1,7 +1,5 @@
 //! Salvage of a torn capture.
 
-use crate::list::{Part, PartList};
-use crate::member::Member;
 use crate::part::{capture_bytes, part_count};
 use crate::raw;
 use crate::setup::Setup;
@@ -12,26 +10,25 @@ use core::fmt;
 /// became of its parts.
 ///
 /// ```
-/// use kajurnat::{Member, PartList, PartType, Salvaged, Setup};
+/// use kajurnat::{Salvaged, Setup};
 ///
 /// let setup = Setup::alike(1, 1, 1, 1, [0; 16]).to_bytes()?;
 ///
-/// // Device status, and then a part that is torn in its header.
-/// let mut list = PartList::new();
-/// list.push(PartType::DEVICE_STATUS, 0, &[0x0f]).push(PartType::VQ_CFG, 0, &[0; 32]);
+/// // Device status, and then a header that is torn.
+/// let mut damaged = vec![0x03, 0x01, 0, 0, 0, 0, 0, 0, 0, 0, 0, 0, 1, 0, 0, 0, 0x0f];
+/// damaged.extend([0x04, 0x01, 0]);
 ///
-/// let salvaged = Salvaged::new(&setup, Member(1), &list.as_bytes()[..20])?;
-/// for (part, kept) in salvaged.parts() {
-///     assert_eq!(kept, part.part_type == PartType::DEVICE_STATUS);
-/// }
+/// let salvaged = Salvaged::new(&setup, 1, &damaged)?;
+/// assert_eq!(salvaged.list.len(), 229);
+/// assert_eq!(salvaged.kept.iter().filter(|kept| **kept).count(), 1);
 /// assert_eq!((salvaged.dropped.total(), salvaged.left), (0, 3));
 /// # Ok::<(), Box<dyn std::error::Error>>(())
 /// ```
-#[derive(Clone, PartialEq, Eq)]
+#[derive(Clone, Debug, PartialEq, Eq)]
 pub struct Salvaged {
     /// Each part of the member once, in the order and with the headers of a
     /// capture.
-    pub list: PartList,
+    pub list: Vec<u8>,
     /// For each part of the list, in its order, whether it was kept; else it was
     /// filled with the fresh value.
     pub kept: Vec<bool>,
@@ -51,17 +48,17 @@ pub struct Dropped {
     /// Copies of parts that were kept.
     pub copies: u32,
     /// Parts with a value of another length.
-    pub wrong_length: u32,
+    pub wrongly_sized: u32,
     /// Parts with a value that is not allowed: a queue size that no ring has, or
     /// other device features than the setup's.
-    pub wrong_value: u32,
+    pub wrongly_valued: u32,
 }
 
 impl Dropped {
     /// How many there were in all.
     #[must_use]
     pub const fn total(&self) -> u32 {
-        self.unknown + self.copies + self.wrong_length + self.wrong_value
+        self.unknown + self.copies + self.wrongly_sized + self.wrongly_valued
     }
 }
 
@@ -76,39 +73,19 @@ impl Salvaged {
     ///
     /// [`SalvageRefused`] if the packed setup is bad or has no such member, or the
     /// list is over [`Salvaged::DAMAGED_MAX`] bytes.
-    pub fn new(setup: &[u8], member: Member, damaged: &[u8]) -> Result<Self, SalvageRefused> {
+    pub fn new(setup: &[u8], member: u64, damaged: &[u8]) -> Result<Self, SalvageRefused> {
         const QUEUES_MAX: u8 = *Setup::QUEUES.end();
         let mut list = [0; capture_bytes(QUEUES_MAX)];
         let mut kept = [0; part_count(QUEUES_MAX)];
         let (mut dropped, mut left) = ([0; 4], 0);
         let written =
-            raw::salvage(setup, member.0, damaged, &mut list, &mut kept, &mut dropped, &mut left);
-        if written == 0 {
-            return Err(SalvageRefused);
-        }
-        let list = PartList::from_bytes(list[..written].to_vec());
-        let list = list.expect("a list that is salvaged has whole parts");
-        // A byte of `kept` is written for each part of the list.
-        let kept = kept.iter().take(list.iter().count()).map(|kept| *kept == 1).collect();
-        let [unknown, copies, wrong_length, wrong_value] = dropped;
-        let dropped = Dropped { unknown, copies, wrong_length, wrong_value };
-        Ok(Self { list, kept, dropped, left })
-    }
-
-    /// Each part of the list, and whether it was kept.
-    pub fn parts(&self) -> impl Iterator<Item = (Part<'_>, bool)> + Clone {
-        self.list.iter().zip(self.kept.iter().copied())
-    }
-}
-
-impl fmt::Debug for Salvaged {
-    /// The report: the list may hold addresses of guest memory.
-    fn fmt(&self, f: &mut fmt::Formatter<'_>) -> fmt::Result {
-        f.debug_struct("Salvaged")
-            .field("kept", &self.kept)
-            .field("dropped", &self.dropped)
-            .field("left", &self.left)
-            .finish_non_exhaustive()
+            raw::salvage(setup, member, damaged, &mut list, &mut kept, &mut dropped, &mut left);
+        let [unknown, copies, wrongly_sized, wrongly_valued] = dropped;
+        let dropped = Dropped { unknown, copies, wrongly_sized, wrongly_valued };
+        let queues = Setup::QUEUES.into_iter().find(|queues| capture_bytes(*queues) == written);
+        let queues = queues.ok_or(SalvageRefused)?;
+        let kept = kept[..part_count(queues)].iter().map(|kept| *kept == 1).collect();
+        Ok(Self { list: list[..written].to_vec(), kept, dropped, left })
     }
 }
 

@@ -1,6 +1,5 @@
 //! The setup of a card.
 
-use crate::member::Member;
 use crate::raw;
 use alloc::vec;
 use alloc::vec::Vec;
@@ -161,7 +160,7 @@ pub enum SetupError {
     /// The queue count of a member is not in [`Setup::QUEUES`].
     Queues {
         /// The first such member.
-        member: Member,
+        member: u8,
         /// Its queue count.
         queues: u8,
     },
@@ -181,11 +180,11 @@ pub enum SetupError {
 impl SetupError {
     /// Why the archive refuses this setup in memory of this length.
     pub(crate) fn cause(setup: &Setup, memory: usize) -> Self {
-        let bad_queues = |(_, queues): &(u64, &u8)| !Setup::QUEUES.contains(queues);
+        let bad_queues = |(_, queues): &(u8, &u8)| !Setup::QUEUES.contains(queues);
         if !Setup::MEMBERS.contains(&setup.members) {
             Self::Members(setup.members)
         } else if let Some((member, queues)) = (1..).zip(setup.counts()).find(bad_queues) {
-            Self::Queues { member: Member(member), queues: *queues }
+            Self::Queues { member, queues: *queues }
         } else if !Setup::OBJECTS.contains(&setup.gets) {
             Self::Gets(setup.gets)
         } else if !Setup::OBJECTS.contains(&setup.sets) {
@@ -202,7 +201,7 @@ impl fmt::Display for SetupError {
             Self::Members(number) => (number, "members", Setup::MEMBERS),
             Self::Queues { member, queues } => {
                 let (least, most) = Setup::QUEUES.into_inner();
-                return write!(f, "{queues} queues of {member}: it has {least} to {most}");
+                return write!(f, "{queues} queues of member {member}: it has {least} to {most}");
             }
             Self::Gets(number) => (number, "get objects", Setup::OBJECTS),
             Self::Sets(number) => (number, "set objects", Setup::OBJECTS),
@@ -246,7 +245,7 @@ mod tests {
     #[test]
     fn an_error_says_what_would_do() {
         assert_eq!(SetupError::Members(17).to_string(), "17 members: a setup has 1 to 16");
-        let error = SetupError::Queues { member: Member(3), queues: 5 };
+        let error = SetupError::Queues { member: 3, queues: 5 };
         assert_eq!(error.to_string(), "5 queues of member 3: it has 1 to 4");
         let error = SetupError::Length { memory: 100, card: 1293 };
         assert_eq!(error.to_string(), "100 bytes of memory: a card of this setup has 1293");

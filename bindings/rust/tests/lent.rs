@@ -3,20 +3,20 @@
 mod common;
 
 use common::{capture, fresh_card, make_ready, ready_card, restore, stop, GET, QUEUE, SETUP};
-use kajurnat::{Card, Member, NotSound, PartType, Reply, Request, Setup, SetupError};
+use kajurnat::{Card, NotSound, PartType, Reply, Request, Setup, SetupError};
 use std::error::Error;
 
 /// Every call that changes a card, on a fresh one.
 fn use_card<B: AsMut<[u8]>>(card: &mut Card<B>) -> Result<(), Box<dyn Error>> {
     make_ready(card)?;
-    card.store(Member(1), PartType::VQ_CFG, 0, &QUEUE)?;
-    stop(card, Member(1))?;
-    stop(card, Member(2))?;
-    let parts = capture(card, Member(1))?;
-    restore(card, Member(2), &parts)?;
-    card.hand_back(Member(1))?;
-    card.wipe(Member(1), 0)?;
-    card.command(Request::capture(Member(2), GET), &mut [0; Reply::MAX])?;
+    card.store(1, PartType::VQ_CFG, 0, &QUEUE)?;
+    stop(card, 1)?;
+    stop(card, 2)?;
+    let parts = capture(card, 1)?;
+    restore(card, 2, &parts)?;
+    card.hand_back(1)?;
+    card.wipe(1, 0)?;
+    card.command(Request::capture(2, GET), &mut [0; Reply::MAX])?;
     Ok(())
 }
 
@@ -87,7 +87,7 @@ fn a_refused_setup_leaves_zeros() {
     let setup = Setup { queues: [5; 16], ..SETUP };
     let mut memory = ready_card().into_bytes();
     let error = Card::new_in(&setup, &mut memory[..]).unwrap_err();
-    assert_eq!(error, SetupError::Queues { member: Member(1), queues: 5 });
+    assert_eq!(error, SetupError::Queues { member: 1, queues: 5 });
     assert!(memory.iter().all(|&byte| byte == 0));
 }
 

@@ -1,8 +1,7 @@
 //! What the card's own firmware reads.
 
 use kajurnat::{
-    raw, Card, Configuration, EventError, Kind, Member, Message, ObjectId, Opcodes, PartType,
-    Request, Setup, State,
+    raw, Card, Configuration, Kind, LoadError, Message, Opcode, PartType, Request, Setup, State,
 };
 
 /// Two members, of one and of two queues.
@@ -17,18 +16,18 @@ fn a_load_gives_what_was_stored_in_every_state() {
     let mut card = Card::new(&setup()).unwrap();
     let mut queue = [0xaa; 32];
     queue[..2].copy_from_slice(&[64, 0]);
-    card.store(Member(2), PartType::VQ_CFG, 1, &queue).unwrap();
+    card.store(2, PartType::VQ_CFG, 1, &queue).unwrap();
     let loaded = |card: &Card| {
         let mut value = [0; 32];
-        card.load(Member(2), PartType::VQ_CFG, 1, &mut value).map(|()| value)
+        card.load(2, PartType::VQ_CFG, 1, &mut value).map(|()| value)
     };
     assert_eq!(loaded(&card), Ok(queue));
-    card.send(Request::list_use(Opcodes::SUPPORTED)).unwrap();
-    card.send(Request::stop(Member(2))).unwrap();
+    card.send(Request::list_use(Opcode::SUPPORTED)).unwrap();
+    card.send(Request::stop(2)).unwrap();
     assert_eq!(loaded(&card), Ok(queue));
-    card.hand_back(Member(2)).unwrap();
+    card.hand_back(2).unwrap();
     assert_eq!(loaded(&card), Ok(queue));
-    card.wipe(Member(2), 0).unwrap();
+    card.wipe(2, 0).unwrap();
     assert_eq!(loaded(&card), Ok([0; 32]));
 }
 
@@ -39,41 +38,41 @@ fn a_refused_load_writes_nothing() {
     let mut refused = |member, part_type, selector| {
         card.load(member, part_type, selector, &mut value).unwrap_err()
     };
-    assert_eq!(refused(Member(3), PartType(0x106), 0), EventError::NoSuchMember);
-    assert_eq!(refused(Member(1), PartType(0x106), 0), EventError::NoSuchPart);
-    assert_eq!(refused(Member(1), PartType::VQ_CFG, 1), EventError::NoSuchPart);
-    assert_eq!(refused(Member(2), PartType::VQ_CFG, 1), EventError::WrongLength);
+    assert_eq!(refused(3, PartType(0x106), 0), LoadError::NoSuchMember);
+    assert_eq!(refused(1, PartType(0x106), 0), LoadError::NoSuchPart);
+    assert_eq!(refused(1, PartType::VQ_CFG, 1), LoadError::NoSuchPart);
+    assert_eq!(refused(2, PartType::VQ_CFG, 1), LoadError::WrongLength);
     assert_eq!(value, [0xee; 31]);
     assert_eq!(raw::load(&[], 1, 0x103, 0, &mut value), 9);
     let mut features = [0; 16];
-    card.load(Member(1), PartType::DEV_FEATURES, 0, &mut features).unwrap();
+    card.load(1, PartType::DEV_FEATURES, 0, &mut features).unwrap();
     assert_eq!(features, [3; 16]);
 }
 
 #[test]
 fn a_member_is_told_in_numbers() {
     let mut card = Card::new(&setup()).unwrap();
-    let fresh = card.member(Member(2)).unwrap();
+    let fresh = card.member(2).unwrap();
     assert_eq!((fresh.state, fresh.queues), (State::Running, 2));
     assert_eq!((fresh.gets, fresh.sets, fresh.held), (0, 0, None));
-    card.send(Request::list_use(Opcodes::SUPPORTED)).unwrap();
-    card.send(Request::create(Member(2), ObjectId(0), Kind::Get)).unwrap();
-    card.send(Request::stop(Member(2))).unwrap();
-    let stopped = card.member(Member(2)).unwrap();
+    card.send(Request::list_use(Opcode::SUPPORTED)).unwrap();
+    card.send(Request::create(2, 0, Kind::Get)).unwrap();
+    card.send(Request::stop(2)).unwrap();
+    let stopped = card.member(2).unwrap();
     assert_eq!((stopped.state, stopped.gets, stopped.sets), (State::Stopped, 1, 0));
-    card.hand_back(Member(2)).unwrap();
-    let marked = card.member(Member(2)).unwrap();
+    card.hand_back(2).unwrap();
+    let marked = card.member(2).unwrap();
     assert_eq!((marked.state, marked.gets), (State::Marked, 0));
-    assert_eq!(card.member(Member(0)), Err(EventError::NoSuchMember));
+    assert_eq!(card.member(0), Err(LoadError::NoSuchMember));
 }
 
 #[test]
 fn bytes_held_are_told() {
     let mut bytes = Card::new(&setup()).unwrap().into_bytes();
     assert_eq!(raw::restore_begin(&mut bytes, 1), 0);
-    assert_eq!(Card::from_bytes(&bytes[..]).unwrap().member(Member(1)).unwrap().held, Some(0));
+    assert_eq!(Card::from_bytes(&bytes[..]).unwrap().member(1).unwrap().held, Some(0));
     assert_eq!(raw::restore_feed(&mut bytes, 1, &[1, 2, 3]), 0);
-    assert_eq!(Card::from_bytes(&bytes[..]).unwrap().member(Member(1)).unwrap().held, Some(3));
+    assert_eq!(Card::from_bytes(&bytes[..]).unwrap().member(1).unwrap().held, Some(3));
 }
 
 #[test]
@@ -84,8 +83,8 @@ fn a_configuration_is_told_as_a_message_wrote_it() {
     card.message(message, &mut [0; 32]).unwrap();
     let mut bytes = [0; 12];
     bytes[4..8].fill(7);
-    assert_eq!(card.configuration(Member(2)), Ok(Configuration { bytes, generation: 10 }));
-    assert_eq!(card.configuration(Member(3)), Err(EventError::NoSuchMember));
+    assert_eq!(card.configuration(2), Ok(Configuration { bytes, generation: 10 }));
+    assert_eq!(card.configuration(3), Err(LoadError::NoSuchMember));
 }
 
 #[test]

@@ -3,7 +3,7 @@
 mod common;
 
 use common::fresh_card;
-use kajurnat::{BadResponse, Card, Member, Message, MessageTooLong, NoResponse, Response};
+use kajurnat::{BadResponse, Card, Message, MessageTooLong, NoResponse, Response};
 
 /// The bytes read or written, and the generation.
 fn hear(card: &mut Card, message: &Message) -> (Vec<u8>, u32) {
@@ -32,9 +32,9 @@ fn a_reset_gives_the_generation_to_start_from() {
     let mut card = fresh_card();
     let read = Message::get_config(1, 0, 1);
     hear(&mut card, &Message::set_config(1, 0, 0, &[9]).unwrap());
-    card.hand_back(Member(2)).unwrap();
+    card.hand_back(2).unwrap();
     assert_eq!(card.message(&read, &mut [0; Response::MAX]), Err(NoResponse));
-    card.wipe(Member(2), u32::MAX).unwrap();
+    card.wipe(2, u32::MAX).unwrap();
     assert_eq!(hear(&mut card, &read), (vec![0], u32::MAX));
     let write = Message::set_config(1, u32::MAX, 0, &[9]).unwrap();
     assert_eq!(hear(&mut card, &write), (vec![9], 0));

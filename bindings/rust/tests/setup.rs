@@ -1,8 +1,6 @@
 //! Setups as bytes, and members that differ in their queues.
 
-use kajurnat::{
-    BadSetup, Card, Kind, Member, ObjectId, Opcodes, PartCount, Request, Setup, SetupError,
-};
+use kajurnat::{BadSetup, Card, Kind, Metadata, Opcode, Request, Setup, SetupError};
 
 /// Three members with 4, 1 and 2 queues.
 fn differing() -> Setup {
@@ -27,13 +25,11 @@ fn a_card_tells_the_setup_it_was_made_with() {
 #[test]
 fn each_member_has_the_parts_of_its_queues() {
     let mut card = Card::new(&differing()).unwrap();
-    card.send(Request::list_use(Opcodes::SUPPORTED)).unwrap();
-    let get = ObjectId(0);
+    card.send(Request::list_use(Opcode::SUPPORTED)).unwrap();
     for (member, queues) in [(1, 4), (2, 1), (3, 2)] {
-        let member = Member(member);
-        card.send(Request::create(member, get, Kind::Get)).unwrap();
-        let count = card.send(Request::part_count(member, get)).unwrap();
-        assert_eq!(count, PartCount(7 + 2 * queues));
+        card.send(Request::create(member, 0, Kind::Get)).unwrap();
+        let count = card.send(Request::metadata(member, 0, Metadata::Count)).unwrap();
+        assert_eq!(count[0], 7 + 2 * queues);
     }
 }
 
@@ -76,8 +72,8 @@ fn a_number_out_of_range_is_named() {
     for (setup, error) in [
         (Setup { members: 0, ..setup }, SetupError::Members(0)),
         (Setup { members: 200, ..setup }, SetupError::Members(200)),
-        (no_queues, SetupError::Queues { member: Member(3), queues: 0 }),
-        (Setup { members: 4, ..setup }, SetupError::Queues { member: Member(4), queues: 0 }),
+        (no_queues, SetupError::Queues { member: 3, queues: 0 }),
+        (Setup { members: 4, ..setup }, SetupError::Queues { member: 4, queues: 0 }),
         (Setup { gets: 9, ..setup }, SetupError::Gets(9)),
         (Setup { sets: 9, ..setup }, SetupError::Sets(9)),
     ] {

@@ -30,5 +30,5 @@ fn only_linking_needs_the_archive() {
     let output = cargo(&["build"]);
     let errors = String::from_utf8_lossy(&output.stderr);
     assert!(!output.status.success());
-    assert!(errors.contains("make lib TARGET="), "{errors}");
+    assert!(errors.contains("rt staticlib kajurnat"), "{errors}");
 }

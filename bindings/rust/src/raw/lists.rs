@@ -83,9 +83,9 @@ pub fn difference_merge(
 /// under a packed setup of either version and for one member of it. Returns its
 /// length.
 ///
-/// `kept` has a byte for each part of the list, in order: 1 kept, 0 filled with
+/// `kept` has a byte for each part of the member, in order: 1 kept, 0 filled with
 /// the fresh value. `dropped` has the number of parts dropped for each of four
-/// causes: unknown, a copy, a wrong length, a wrong value. `left` is the number of
+/// causes: unknown, a copy, wrongly sized, wrongly valued. `left` is the number of
 /// bytes left over, from the start of the header it stopped at. The bytes and
 /// counts past these keep their values.
 ///

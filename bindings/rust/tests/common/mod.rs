@@ -3,11 +3,11 @@
 // No test sends all of them.
 #![allow(dead_code)]
 
-use kajurnat::{Card, Kind, Member, ObjectId, Opcodes, PartList, Refusal, Request, Setup};
+use kajurnat::{Card, Kind, Opcode, Refusal, Request, Setup};
 
 /// The ids of the objects of a member.
-pub const GET: ObjectId = ObjectId(0);
-pub const SET: ObjectId = ObjectId(1);
+pub const GET: u32 = 0;
+pub const SET: u32 = 1;
 
 /// Two members, one queue, one get and one set object, no device features.
 pub const SETUP: Setup = Setup::alike(2, 1, 1, 1, [0; 16]);
@@ -34,29 +34,29 @@ pub fn ready_card() -> Card {
 
 pub fn make_ready<B: AsMut<[u8]>>(card: &mut Card<B>) -> Result<(), Refusal> {
     use_all(card)?;
-    for member in [Member(1), Member(2)] {
+    for member in 1..=2 {
         card.send(Request::create(member, GET, Kind::Get))?;
         card.send(Request::create(member, SET, Kind::Set))?;
     }
     Ok(())
 }
 
-pub fn use_all<B: AsMut<[u8]>>(card: &mut Card<B>) -> Result<(), Refusal> {
-    card.send(Request::list_use(Opcodes::SUPPORTED))
+pub fn use_all<B: AsMut<[u8]>>(card: &mut Card<B>) -> Result<Vec<u8>, Refusal> {
+    card.send(Request::list_use(Opcode::SUPPORTED))
 }
 
-pub fn stop<B: AsMut<[u8]>>(card: &mut Card<B>, member: Member) -> Result<(), Refusal> {
+pub fn stop<B: AsMut<[u8]>>(card: &mut Card<B>, member: u64) -> Result<Vec<u8>, Refusal> {
     card.send(Request::stop(member))
 }
 
-pub fn capture<B: AsMut<[u8]>>(card: &mut Card<B>, member: Member) -> Result<PartList, Refusal> {
+pub fn capture<B: AsMut<[u8]>>(card: &mut Card<B>, member: u64) -> Result<Vec<u8>, Refusal> {
     card.send(Request::capture(member, GET))
 }
 
 pub fn restore<B: AsMut<[u8]>>(
     card: &mut Card<B>,
-    member: Member,
-    parts: impl AsRef<[u8]>,
-) -> Result<(), Refusal> {
+    member: u64,
+    parts: &[u8],
+) -> Result<Vec<u8>, Refusal> {
     card.send(Request::set(member, SET, parts).expect("the parts are not too long"))
 }

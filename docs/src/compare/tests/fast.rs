@@ -43,14 +43,14 @@ impl Device for Fast {
             }
             Call::Finish { member, id } => exported::restore_finish(card, *member, *id) as usize,
             Call::Drop(member) => exported::restore_drop(card, *member) as usize,
-            // What only reads has no fast form: the plain card of these bytes answers.
-            Call::Load(_) => Plain::from_bytes(card).hear(call, reply.bytes_mut()),
-            // Nor have the host's half and setups as bytes.
+            // The host's half and setups as bytes have no fast form.
             Call::Build { .. }
             | Call::Read { .. }
             | Call::WriteSetup { .. }
             | Call::ReadSetup { .. }
             | Call::Lists(_) => Plain::default().hear(call, reply.bytes_mut()),
+            // Nor has what only reads: the plain card of these bytes answers.
+            Call::Load(_) => Plain::from_bytes(card).hear(call, reply.bytes_mut()),
         }
     }
 

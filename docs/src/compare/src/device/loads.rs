@@ -56,10 +56,7 @@ fn numbers_into(buffer: &mut [u8], tell: impl FnOnce(&mut Summary) -> u8) -> usi
 }
 
 /// Tells a configuration in a buffer that has the generation first.
-fn configuration_into(
-    buffer: &mut [u8],
-    tell: impl FnOnce(&mut [u8], &mut u32) -> u8,
-) -> usize {
+fn configuration_into(buffer: &mut [u8], tell: impl FnOnce(&mut [u8], &mut u32) -> u8) -> usize {
     let (number, bytes) = buffer.split_at_mut(GENERATION);
     let mut generation = u32_at(number, 0);
     let answer = tell(bytes, &mut generation);
