@@ -183,8 +183,7 @@ pub fn found_in(slot: Slot) -> Found
     }
 }
 
-// Clears one record of a lent slice and keeps all others. The borrow checker covers no slice of structs, so the proofs of
-// this function and the next are walks by hand.
+// Clears one record of a lent slice and keeps all others.
 fn clear(objects: &mut [ObjectRecord], i: usize)
     requires { i < length objects.old }
     ensures { objects.new ≡ set objects.old i free }
