@@ -1,5 +1,5 @@
-// The functions that kajurnat_c exports for C: SPEC 1.2. A card is a buffer that the caller lends; each function is one call, and its contract is one
-// equation: what it answers and leaves is what a definition gives of what it was lent.
+// The functions that kajurnat_c exports for C: SPEC 1.2. A card is a buffer that the caller lends; each function is one call,
+// and its contract is one equation: what it answers and leaves is what a definition gives of what it was lent.
 #![tactic(auto)]
 
 ghost use Rattle.std.specs.Prelude.{◌≡◌, []};
