@@ -1,33 +1,22 @@
 -- A test of every number of a list, and the loop that makes it. Assumes nothing.
-use mathlib.Core.Path.{◌≡◌, refl, sym, ◌∙◌}
-use mathlib.Core.Bool.{Bool, true, false}
+use mathlib.Core.Path.{◌≡◌, refl, ap, ◌∙◌}
+use mathlib.Core.Bool.{Bool, true}
 use mathlib.Core.List.{List, [], ◌∷◌}
-use Prim.Native.Nat.{ℕ, zero, suc, ◌+◌, ◌-◌, ◌≤◌, ◌<◌}
-use native.Mathlib.Numerals.{add-one}
+use Prim.Native.Nat.{ℕ, zero, suc, ◌-◌, ◌≤◌, ◌<◌}
 use native.Mathlib.Omega.{arith}
 use borrow.Author.Tests.{eqb-true, leb-true}
-use lib.ListN.{length, get_or, drop, drop_of_length-le}
-use lib.Seq.{drop-cons}
+use lib.ListN.{length, get_or}
 use Rattle.theory.specs.Logic.{◌and◌}
-use Rattle.theory.proofs.Tests.{true-and, false-and, both, and_i, within_low, within-high}
+use Rattle.theory.proofs.Tests.{and-bits, both, and_i, within_low, within-high}
+use Rattle.std.specs.List.{list_all}
 use Rattle.setups.specs.Setup.{most_members, in_ranges, all, is_count, in_numbers}
 use Rattle.setups.specs.Writing.{InNumbers}
 
--- the numbers before i passed, and the rest decides
-module _ (f : ℕ → Bool) (l : List ℕ) (i : ℕ) (w : all f l ≡ all f (drop i l)) where
-  all-step : i < length l → all f l ≡ f (get_or l i 0) and all f (drop (i + 1) l)
-  unfolding all
-  all-step h = w ∙ rw (drop-cons l i 0 h, add-one)
-
-  pub all-stop : i < length l → f (get_or l i 0) ≡ false → false ≡ all f l
-  all-stop h e = sym (all-step h ∙ rw e (false-and _))
-
-  pub all-on : i < length l → f (get_or l i 0) ≡ true → all f l ≡ all f (drop (i + 1) l)
-  all-on h e = all-step h ∙ rw e (true-and _)
-
-  pub all_end : length l ≤ i → true ≡ all f l
-  unfolding all
-  all_end h = sym (w ∙ rw (drop_of_length-le l h))
+-- the library's `all` of a list
+pub list-all : (f : ℕ → Bool) (l : List ℕ) → list_all f l ≡ all f l
+unfolding all
+list-all f [] = refl
+list-all f (x ∷ l) = and-bits (f x) (list_all f l) ∙ ap (λ b. f x and b) (list-all f l)
 
 -- each of them passes
 pub all-at : (f : ℕ → Bool) (l : List ℕ) (i : ℕ) → all f l ≡ true → i < length l → f (get_or l i 0) ≡ true

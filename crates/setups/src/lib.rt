@@ -79,17 +79,9 @@ pub fn in_ranges(members: u64, gets: u64, sets: u64) -> bool
 fn are_within(low: u8, high: u8, numbers: &[u8]) -> bool
     ensures { result ≡ all (within low high) numbers.now }
 {
-    let mut i = 0;
-    while i < numbers.len() {
-        if numbers[i] < low {
-            return false;
-        }
-        if high < numbers[i] {
-            return false;
-        }
-        i += 1;
-    }
-    true
+    numbers
+        .iter()
+        .all(|number| low <= *number && *number <= high)
 }
 
 // These ranges, and one queue count of 1 to 4 for each member.

@@ -24,13 +24,11 @@ pub fn bits(s: &[u8], at: usize, n: usize) -> u8
     requires { (n ≤ 8) × (at < 256) }
     ensures { (result ≡ bits_at at n s.now) × (result < 2 ^ n) }
 {
-    let mut r: u8 = 0;
-    let mut i = 0;
-    while i < n {
-        r = 2 * r + bit(s, at + i);
-        i += 1;
+    let mut number = 0;
+    for i in 0..n {
+        number = 2 * number + bit(s, at + i);
     }
-    r
+    number
 }
 
 // n queue counts from a position on, so many bits apart.
@@ -40,11 +38,9 @@ fn counts(s: &[u8], from: usize, step: usize, n: usize) -> [u8; MOST_MEMBERS]
 {
     let mut counts = [0u8; MOST_MEMBERS];
     let mut at = from;
-    let mut i = 0;
-    while i < n {
+    for i in 0..n {
         counts[i] = bits(s, at, 2) + 1;
         at += step;
-        i += 1;
     }
     counts
 }

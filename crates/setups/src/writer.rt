@@ -29,13 +29,11 @@ fn with_counts(x: u64, queues: &[u8]) -> u64
     requires { (x < 2 ^ 24) × (length queues.now ≤ 16) × (all is_count queues.now ≡ true) }
     ensures { (result ≡ joined x (map count_field queues.now)) × (result < 2 ^ 56) }
 {
-    let mut r = x;
-    let mut i = 0;
-    while i < queues.len() {
-        r = r * 4 + less_one(queues[i]);
-        i += 1;
+    let mut number = x;
+    for count in queues {
+        number = number * 4 + less_one(*count);
     }
-    r
+    number
 }
 
 // Zero bits behind the counts of n members, to a whole byte.
@@ -71,11 +69,9 @@ pub fn write_number(out: &mut [u8], n: usize, x: u64)
     requires { n ≤ length out.old }
     ensures { out.new ≡ put 0 (big_endian n x) out.old }
 {
-    let mut v = x;
-    let mut i = n;
-    while 0 < i {
-        i -= 1;
-        out[i] = (v % 256) as u8;
-        v /= 256;
+    let mut rest = x;
+    for i in (0..n).rev() {
+        out[i] = (rest % 256) as u8;
+        rest /= 256;
     }
 }

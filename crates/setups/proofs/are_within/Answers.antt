@@ -1,16 +1,13 @@
-use borrow.Author.Rules.{rules}
+use Rattle.std.proofs.Common.{rules, ◌∙◌}
+use Rattle.std.proofs.lemmas.Iterator.{YieldsList-from_slice}
+use Rattle.std.proofs.lemmas.Iterator.Search.{all_from_yields_List}
+use Rattle.theory.specs.Logic.{within}
 use Rattle.theory.proofs.Tests.{inside, below, above}
-use Rattle.setups.proofs.Ranges.{all-stop, all-on, all_end}
+use Rattle.setups.proofs.Ranges.{list-all}
 use Rattle.setups.proofs.are_within.Goals as goal
 
-pub returns-then-numbers-i : goal.returns-then-numbers-i
-returns-then-numbers-i c = search (rules, all-stop, below)
-
-pub returns-then-high-numbers : goal.returns-then-high-numbers
-returns-then-high-numbers c = search (rules, all-stop, above)
-
-pub loop-i-preserved : goal.loop-i-preserved
-loop-i-preserved c = search (rules, all-on, inside)
-
 pub returns : goal.returns
-returns c = search (rules, all_end)
+returns c =
+    let numbers = c.args.numbers.now in
+    all_from_yields_List (within c.args.low c.args.high) _ _ _ c.all.ensures.ran (YieldsList-from_slice numbers c.iter.ensures.rest) (λ x b q k. (search rules, search (rules, inside, below, above)))
+    ∙ list-all (within c.args.low c.args.high) numbers

@@ -5,11 +5,11 @@ use Rattle.setups.proofs.reader.bits.Goals as goal
 pub loop-i-init : goal.loop-i-init
 loop-i-init c = search (rules, bits-start)
 
-pub overflow_mul-r : goal.overflow_mul-r
-overflow_mul-r c = search (rules, bits-twice)
+pub overflow_mul-number : goal.overflow_mul-number
+overflow_mul-number c = search (rules, bits-twice)
 
-pub overflow_add-r : goal.overflow_add-r
-overflow_add-r c = search (rules, bits-more)
+pub overflow_add-number : goal.overflow_add-number
+overflow_add-number c = search (rules, bits-more)
 
 pub loop-i-preserved : goal.loop-i-preserved
 loop-i-preserved c = search (rules, bits-on)

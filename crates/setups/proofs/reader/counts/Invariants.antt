@@ -8,8 +8,5 @@ use Rattle.setups.specs.Reading.{counts_from}
 use Rattle.setups.proofs.reader.counts.Given as goal
 
 abbrev pub invariant-loop-i : goal.invariant-loop-i
-invariant-loop-i l = (l.i ≤ l.n) × (l.at ≤ l.from + 2 * l.i) × (length l.counts ≡ 16)
+invariant-loop-i l = (l.at ≤ l.from + 2 * l.i) × (length l.counts ≡ 16)
     × (sixteen (counts_from l.s l.from l.step l.n) ≡ put l.i (counts_from l.s l.at l.step (l.n - l.i)) l.counts)
-
-abbrev pub decreases-loop-i : goal.decreases-loop-i
-decreases-loop-i l = l.n - l.i

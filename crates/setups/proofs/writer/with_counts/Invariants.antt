@@ -1,11 +1,6 @@
--- The invariant: the fields before i are in r.
-use Prim.Native.Nat.{◌-◌}
-use lib.ListN.{length}
+-- The invariant: the fields of the counts before this one are in the number.
 use Rattle.setups.proofs.Writing.{Joining}
 use Rattle.setups.proofs.writer.with_counts.Given as goal
 
-abbrev pub invariant-loop-i : goal.invariant-loop-i
-invariant-loop-i l = Joining l.x l.queues l.r l.i
-
-abbrev pub decreases-loop-i : goal.decreases-loop-i
-decreases-loop-i l = length l.queues - l.i
+abbrev pub invariant-loop-count : goal.invariant-loop-count
+invariant-loop-count l = Joining l.x l.queues l.number l.count-index
