@@ -16,11 +16,8 @@ use Rattle.parts.specs.declared.ListForm.TheVariants.{Parts}
 use Rattle.parts.specs.List.{parts_of}
 use Rattle.rules.specs.Rules.{cause_of, is_accepted}
 use Rattle.values.specs.Apply.{applied}
-use Rattle.objects.specs.declared.Slot.{Slot}
-use Rattle.objects.specs.declared.Slot.TheVariants.{Free}
-use Rattle.objects.specs.declared.Found.{Found}
-use Rattle.objects.specs.declared.Found.TheVariants.{Live, Nothing}
-use Rattle.objects.specs.Objects.{slot_for, on_found}
+use Rattle.std.specs.Prelude.{Option, Some, None}
+use Rattle.objects.specs.Objects.{on_found}
 use Rattle.member.specs.declared.Member.{Member}
 use Rattle.member.specs.Objects.{lookup_of, with_object, room_in}
 use Rattle.member.specs.Member.{features_in, with_mode, with_values}
@@ -38,9 +35,9 @@ put-below : (ids : ℕ) {op : ChangeOp} {id : ℕ} → IdBelow ids op → Puts o
 put-below ids h creates = h
 put-below ids h modifies = h
 
-found-cases : {A : Type 0} (P : A → Type 0) (x : Found) (f : ObjectKind → A) (a : A) → ((k : ObjectKind) → P (f k)) → P a → P (on_found x f a)
-found-cases P (Live k) f a h n = h k
-found-cases P Nothing f a h n = n
+found-cases : {A : Type 0} (P : A → Type 0) (x : Option ObjectKind) (f : ObjectKind → A) (a : A) → ((k : ObjectKind) → P (f k)) → P a → P (on_found x f a)
+found-cases P (Some k) f a h n = h k
+found-cases P None f a h n = n
 
 -- what holds of a refusal and of each thing that can be done holds of every change
 module _ (gets sets : ℕ) (m : Member) (P : Changed → Type 0) (refused : (a : Answer) → is_done a ≡ false → P (refuse m a)) where
@@ -49,16 +46,16 @@ module _ (gets sets : ℕ) (m : Member) (P : Changed → Type 0) (refused : (a :
   if-room n f = unless-cases P _ _ _ (λ t. refused _ refl) f
 
   pub change-cases : (list : List ℕ) (op : ChangeOp)
-      → ((id : ℕ) (slot : Slot) → Puts op id → room_in gets sets (with_object m id slot) ≡ true → P (done (with_object m id slot)))
-      → ((id : ℕ) → P (done (with_object m id Free)))
+      → ((id : ℕ) (slot : Option ObjectKind) → Puts op id → room_in gets sets (with_object m id slot) ≡ true → P (done (with_object m id slot)))
+      → ((id : ℕ) → P (done (with_object m id None)))
       → ((mode : Mode) → P (done (with_mode m mode)))
       → (is_accepted (cause_of m.queues (features_in m) list) ≡ true → P (done (with_values m (applied m.queues (parts_of Parts list) m.values))))
       → P (change_of gets sets list op m)
   unfolding create_of modify_of destroy_of set_parts_of
   change-cases list (Create id kind) put free mode set =
-      found-cases P (lookup_of m id) _ _ (λ k. refused _ refl) (if-room _ (put id (slot_for kind) creates))
+      found-cases P (lookup_of m id) _ _ (λ k. refused _ refl) (if-room _ (put id (Some kind) creates))
   change-cases list (Modify id kind) put free mode set =
-      found-cases P (lookup_of m id) _ _ (λ k. if-room _ (put id (slot_for kind) modifies)) (refused _ refl)
+      found-cases P (lookup_of m id) _ _ (λ k. if-room _ (put id (Some kind) modifies)) (refused _ refl)
   change-cases list (Destroy id) put free mode set = found-cases P (lookup_of m id) _ _ (λ k. free id) (refused _ refl)
   change-cases list (SetParts id) put free mode set =
       found-cases P (lookup_of m id) _ _

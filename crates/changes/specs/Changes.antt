@@ -1,5 +1,5 @@
 -- The commands that change a member, SPEC 4.4, 4.5, 4.7, 4.10 and 4.11: steps 8 to 10 of SPEC 6.1. Assumes nothing.
-use Rattle.std.specs.Prelude.{List, ℕ}
+use Rattle.std.specs.Prelude.{List, ℕ, None, Some}
 use Rattle.theory.specs.Logic.{unless◌answer◌then◌}
 use Rattle.protocol.specs.declared.Answer.{Answer}
 use Rattle.protocol.specs.declared.Answer.TheVariants.{Done, Exists, NotLive, NoRoom, WrongKind, Running, BadList}
@@ -11,8 +11,7 @@ use Rattle.parts.specs.declared.ListForm.TheVariants.{Parts}
 use Rattle.parts.specs.List.{parts_of}
 use Rattle.rules.specs.Rules.{cause_of, is_accepted}
 use Rattle.values.specs.Apply.{applied}
-use Rattle.objects.specs.declared.Slot.TheVariants.{Free}
-use Rattle.objects.specs.Objects.{slot_for, on_found}
+use Rattle.objects.specs.Objects.{on_found}
 use Rattle.member.specs.declared.Member.{Member}
 use Rattle.member.specs.Objects.{lookup_of, with_object, room_in}
 use Rattle.member.specs.Member.{features_in, with_mode, with_values}
@@ -33,18 +32,18 @@ unfoldable pub create_of : ℕ → ℕ → ℕ → ObjectKind → Member → Cha
 create_of gets sets id kind m =
     on_found (lookup_of m id)
     (λ k. refuse m Exists)
-    (limited gets sets m (with_object m id (slot_for kind)))
+    (limited gets sets m (with_object m id (Some kind)))
 
 -- step 8b, here and below: the id is live
 unfoldable pub modify_of : ℕ → ℕ → ℕ → ObjectKind → Member → Changed
 modify_of gets sets id kind m =
     on_found (lookup_of m id)
-    (λ k. limited gets sets m (with_object m id (slot_for kind)))
+    (λ k. limited gets sets m (with_object m id (Some kind)))
     (refuse m NotLive)
 
 -- the object is gone: its id can be created again, and no longer counts against G or S
 unfoldable pub destroy_of : ℕ → Member → Changed
-destroy_of id m = on_found (lookup_of m id) (λ k. done (with_object m id Free)) (refuse m NotLive)
+destroy_of id m = on_found (lookup_of m id) (λ k. done (with_object m id None)) (refuse m NotLive)
 
 -- parts set needs a live set object, a stopped member and a list that is good for its queue count (02, request 9), and sets all
 -- parts of the list or none

@@ -8,7 +8,6 @@ ghost use Rattle.changes.specs.Changes.{limited, create_of, modify_of, destroy_o
 ghost use Rattle.changes.specs.Changes.{refuse as refused, done as accepted};
 
 use member::{FEATURES_SIZE, Member};
-use objects::Found;
 use protocol::{Answer, ChangeOp, Mode, ObjectKind};
 
 // The outcome of an operation that changes the member: refused, it is the member as it was.
@@ -46,27 +45,27 @@ fn if_room(m: Member, n: Member, gets: u8, sets: u8) -> Changed
 fn create(m: Member, id: usize, kind: ObjectKind, gets: u8, sets: u8) -> Changed
     ensures { result ≡ create_of gets sets id kind m }
 {
-    let Found::Nothing = m.lookup(id) else {
+    let None = m.lookup(id) else {
         return refuse(m, Answer::Exists);
     };
-    let n = m.with_object(id, objects::slot_for(kind));
+    let n = m.with_object(id, Some(kind));
     if_room(m, n, gets, sets)
 }
 
 fn modify(m: Member, id: usize, kind: ObjectKind, gets: u8, sets: u8) -> Changed
     ensures { result ≡ modify_of gets sets id kind m }
 {
-    let Found::Live(_) = m.lookup(id) else {
+    let Some(_) = m.lookup(id) else {
         return refuse(m, Answer::NotLive);
     };
-    let n = m.with_object(id, objects::slot_for(kind));
+    let n = m.with_object(id, Some(kind));
     if_room(m, n, gets, sets)
 }
 
 fn destroy(m: Member, id: usize) -> Changed
     ensures { result ≡ destroy_of id m }
 {
-    let Found::Live(_) = m.lookup(id) else {
+    let Some(_) = m.lookup(id) else {
         return refuse(m, Answer::NotLive);
     };
     done(m.without_object(id))
@@ -94,7 +93,7 @@ fn accepts(m: Member, list: &[u8]) -> bool
 fn set_parts(m: Member, id: usize, list: &[u8]) -> Changed
     ensures { result ≡ set_parts_of id list.now m }
 {
-    let Found::Live(kind) = m.lookup(id) else {
+    let Some(kind) = m.lookup(id) else {
         return refuse(m, Answer::NotLive);
     };
     let ObjectKind::Set = kind else {

@@ -18,7 +18,7 @@ use Rattle.rules.specs.Rules.{cause_of, is_accepted}
 use Rattle.capture.specs.Capture.{capture_of}
 use Rattle.capture.proofs.Sizes.{capture-length}
 use Rattle.restore.proofs.RoundTrip.{accepted as capture-accepted, captured as capture-restored}
-use Rattle.objects.specs.declared.Found.TheVariants.{Live}
+use Rattle.std.specs.Prelude.{Some}
 use Rattle.member.specs.Objects.{lookup_of}
 use Rattle.card.specs.declared.Setup.{Setup}
 use Rattle.card.specs.Layout.{in_use_of, member_in}
@@ -98,7 +98,7 @@ module _ (c : List ℕ) (m i : ℕ) (d : List ℕ) (k j : ℕ) (x : Acceptable c
   values-after =
       rw (member-after d k j taker list (ap is_accepted list-accepted)) (capture-restored q v few-queues long-source allowed-source w long-target features-same)
 
-  recaptured-is : (l r : ℕ) → lookup_of (member_in d k) l ≡ Live Get → bit (in_use_of d) 0x0f ≡ true → 8 + parts_size q ≤ r
+  recaptured-is : (l r : ℕ) → lookup_of (member_in d k) l ≡ Some Get → bit (in_use_of d) 0x0f ≡ true → 8 + parts_size q ≤ r
       → capture after k l r ≡ head_of Done ++ list
   recaptured-is l r g u h =
       rw values-after at

@@ -11,7 +11,7 @@ use Rattle.theory.specs.Logic.{unless◌answer◌then◌, ◌and◌}
 use Rattle.theory.proofs.Tests.{by_cases, both, and_i}
 use Rattle.theory.proofs.Lists.{get_or-same}
 use Rattle.protocol.specs.declared.EventAnswer.TheVariants.{Done, BadSetup}
-use Rattle.objects.specs.declared.Found.TheVariants.{Nothing}
+use Rattle.std.specs.Prelude.{None}
 use Rattle.objects.specs.Objects.{free}
 use Rattle.member.specs.declared.Member.{Member}
 use Rattle.member.specs.Member.{features_size, fresh_of}
@@ -40,7 +40,7 @@ use Rattle.demands.specs.Fresh.{FreshMember, FreshCard, SetupDone, SetupFromDone
 
 -- ---- fresh ----
 
-no-object : (q : ℕ) (f : List ℕ) (id : ℕ) → lookup_of (fresh_of q f) id ≡ Nothing
+no-object : (q : ℕ) (f : List ℕ) (id : ℕ) → lookup_of (fresh_of q f) id ≡ None
 unfolding lookup_of fresh_of
 no-object q f id = rw (get_or-same 16 id free)
 

@@ -14,8 +14,7 @@ use Rattle.protocol.specs.declared.Answer.{Answer}
 use Rattle.protocol.specs.declared.EventAnswer.{EventAnswer}
 use Rattle.protocol.specs.declared.ObjectKind.{ObjectKind}
 use Rattle.protocol.specs.declared.ChangeOp.TheVariants.{SetParts}
-use Rattle.objects.specs.declared.Found.{Found}
-use Rattle.objects.specs.declared.Found.TheVariants.{Live, Nothing}
+use Rattle.std.specs.Prelude.{Option, Some, None}
 use Rattle.objects.specs.Objects.{on_found}
 use Rattle.member.specs.declared.Member.{Member}
 use Rattle.member.specs.Objects.{lookup_of}
@@ -111,11 +110,11 @@ use-outside c r room e =
 Kept : Member → Member → Type 0
 Kept m x = (x.mode ≡ m.mode) × (x.objects ≡ m.objects)
 
-found-kept : (m : Member) (x : Found) (f : ObjectKind → Changed) (a : Answer) → ((k : ObjectKind) → Kept m (f k).member)
+found-kept : (m : Member) (x : Option ObjectKind) (f : ObjectKind → Changed) (a : Answer) → ((k : ObjectKind) → Kept m (f k).member)
     → Kept m (on_found x f (refuse m a)).member
 unfolding Kept
-found-kept m Nothing f a h = (refl, refl)
-found-kept m (Live k) f a h = h k
+found-kept m None f a h = (refl, refl)
+found-kept m (Some k) f a h = h k
 
 set-kept : (gets sets id : ℕ) (list : List ℕ) (m : Member) → Kept m (change_of gets sets list (SetParts id) m).member
 unfolding set_parts_of Kept

@@ -16,7 +16,7 @@ use Rattle.parts.specs.List.{parts_of, longest_list}
 use Rattle.rules.specs.Rules.{cause_of, is_accepted}
 use Rattle.values.proofs.Kept.{applied-features}
 use Rattle.capture.specs.Capture.{capture_of}
-use Rattle.objects.specs.declared.Found.TheVariants.{Live}
+use Rattle.std.specs.Prelude.{Some}
 use Rattle.member.specs.Objects.{lookup_of}
 use Rattle.member.specs.Member.{features_in, with_values}
 use Rattle.setups.specs.declared.Setup.{Setup}
@@ -137,7 +137,7 @@ module _ (c : List ℕ) (m j : ℕ) (x : Settable c m j) (full later : List ℕ)
     }
 
     -- a full capture after both is the made list
-    pub captured-made : (i : ℕ) → lookup_of (member_in c m) i ≡ Live Get → bit (in_use_of c) 0x0f ≡ true → 8 + parts_size q ≤ r
+    pub captured-made : (i : ℕ) → lookup_of (member_in c m) i ≡ Some Get → bit (in_use_of c) 0x0f ≡ true → 8 + parts_size q ≤ r
         → drop 8 (capture (after_both c m j full later r) m i r) ≡ merged
     captured-made i get in_use h =
         let after = card_set c m j x merged merged-right in

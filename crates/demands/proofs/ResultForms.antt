@@ -26,8 +26,7 @@ use Rattle.inventory.specs.Header.{header_size}
 use Rattle.capture.specs.Capture.{All, Asked, headers_of}
 use Rattle.capture.proofs.Sizes.{headers-length}
 use Rattle.restore.proofs.WholeParts.{written-whole}
-use Rattle.objects.specs.declared.Found.{Found}
-use Rattle.objects.specs.declared.Found.TheVariants.{Live, Nothing}
+use Rattle.std.specs.Prelude.{Option, Some, None}
 use Rattle.objects.specs.Objects.{on_found}
 use Rattle.member.specs.declared.Member.{Member}
 use Rattle.member.specs.Objects.{lookup_of}
@@ -141,10 +140,10 @@ module _ (list : List ℕ) (m : Member) (few : m.queues < 5) (long : length m.va
   success-fits : (form : ResultForm) (b : Body) → result_fits form (result_of m.queues list m.values b) ≡ true → Fits form (succeed_read b)
   success-fits form b e = record { fits = λ d. e }
 
-  on-found : (form : ResultForm) (x : Found) (f : ObjectKind → Reading) → ((k : ObjectKind) → Fits form (f k))
+  on-found : (form : ResultForm) (x : Option ObjectKind) (f : ObjectKind → Reading) → ((k : ObjectKind) → Fits form (f k))
       → Fits form (on_found x f (refuse_read NotLive))
-  on-found form (Live k) f h = h k
-  on-found form Nothing f h = refused-fits form NotLive refl
+  on-found form (Some k) f h = h k
+  on-found form None f h = refused-fits form NotLive refl
 
   through-get : (form : ResultForm) (id : ℕ) (x : Reading) → Fits form x → Fits form (through_get id m x)
   unfolding through_get

@@ -9,7 +9,7 @@ use lib.ListN.{get_or, replicate}
 use Rattle.protocol.specs.declared.Mode.TheVariants.{Stopped}
 use Rattle.protocol.specs.declared.ObjectKind.TheVariants.{Get, Set}
 use Rattle.protocol.specs.Opcodes.{bit}
-use Rattle.objects.specs.declared.Found.TheVariants.{Live}
+use Rattle.std.specs.Prelude.{Some}
 use Rattle.member.specs.Objects.{lookup_of}
 use Rattle.card.specs.declared.Setup.{Setup}
 use Rattle.card.specs.Layout.{setup_of, in_use_of, is_member, member_in}
@@ -73,15 +73,15 @@ pub target-member : is_member target 1 ≡ true
 unfolding example
 target-member = refl
 
-source-get : lookup_of (member_in source 1) 0 ≡ Live Get
+source-get : lookup_of (member_in source 1) 0 ≡ Some Get
 unfolding example
 source-get = refl
 
-pub target-set : lookup_of (member_in target 1) 1 ≡ Live Set
+pub target-set : lookup_of (member_in target 1) 1 ≡ Some Set
 unfolding example
 target-set = refl
 
-pub target-get : lookup_of (member_in target 1) 0 ≡ Live Get
+pub target-get : lookup_of (member_in target 1) 0 ≡ Some Get
 unfolding example
 target-get = refl
 

@@ -19,8 +19,7 @@ use Rattle.protocol.specs.declared.ObjectKind.TheVariants.{Get, Set}
 use Rattle.protocol.specs.declared.ReadOp.TheVariants.{QueryObject, GetMetadata, GetSelected, GetAll}
 use Rattle.protocol.specs.declared.ChangeOp.TheVariants.{SetParts}
 use Rattle.protocol.specs.Answers.{is_get}
-use Rattle.objects.specs.declared.Found.{Found}
-use Rattle.objects.specs.declared.Found.TheVariants.{Live, Nothing}
+use Rattle.std.specs.Prelude.{Option, Some, None}
 use Rattle.objects.specs.Objects.{on_found}
 use Rattle.member.specs.Objects.{lookup_of}
 use Rattle.card.specs.Layout.{member_in}
@@ -32,23 +31,24 @@ use Rattle.frame.specs.Fields.{metadata_is, create_in, modify_in, query_in, dest
 use Rattle.frame.specs.Ask.{framed_of, ask_of}
 use Rattle.reply.specs.Result.{result_of}
 use Rattle.admin.specs.Command.{ask_in, effect, perform, respond}
+use Rattle.protocol.specs.declared.ObjectKind.{ObjectKind}
 
 -- a result that is no selection
 module _ (q : ℕ) (l l' v : List ℕ) where
   abbrev SameResult : Body → Type 0
   SameResult b = result_of q l' v b ≡ result_of q l v b
 
-  query-same : (x : Found) → SameResult (on_found x (λ k. succeed_read (body.Kind k)) (refuse_read NotLive)).body
+  query-same : (x : Option ObjectKind) → SameResult (on_found x (λ k. succeed_read (body.Kind k)) (refuse_read NotLive)).body
   unfolding result_of
-  query-same Nothing = refl
-  query-same (Live k) = refl
+  query-same None = refl
+  query-same (Some k) = refl
 
-  through_same : (x : Found) (b : Body) → SameResult b
+  through_same : (x : Option ObjectKind) (b : Body) → SameResult b
       → SameResult (on_found x (λ k. unless is_get k answer refuse_read WrongKind then succeed_read b) (refuse_read NotLive)).body
   unfolding result_of unless◌answer◌then◌
-  through_same Nothing b e = refl
-  through_same (Live Get) b e = e
-  through_same (Live Set) b e = refl
+  through_same None b e = refl
+  through_same (Some Get) b e = e
+  through_same (Some Set) b e = refl
 
   metadata-same : (what : Metadata) → SameResult (metadata_of q what)
   unfolding result_of

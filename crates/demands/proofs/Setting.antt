@@ -19,7 +19,7 @@ use Rattle.parts.specs.List.{parts_of, longest_list}
 use Rattle.rules.specs.Rules.{cause_of, is_accepted}
 use Rattle.values.specs.Apply.{applied}
 use Rattle.capture.specs.Capture.{capture_of}
-use Rattle.objects.specs.declared.Found.TheVariants.{Live}
+use Rattle.std.specs.Prelude.{Some}
 use Rattle.member.specs.declared.Member.{Member}
 use Rattle.member.specs.Objects.{lookup_of}
 use Rattle.member.specs.Member.{features_in, with_values}
@@ -73,7 +73,7 @@ module _ (c : List ℕ) (m : ℕ) (x : Reached c m) where
   ids = omega (arith, facts.numbers.few_gets, facts.numbers.few_sets)
 
   -- an id of a live object is valid
-  pub valid : (i : ℕ) (k : ObjectKind) → lookup_of (member_in c m) i ≡ Live k → i < (setup_of c).gets + (setup_of c).sets
+  pub valid : (i : ℕ) (k : ObjectKind) → lookup_of (member_in c m) i ≡ Some k → i < (setup_of c).gets + (setup_of c).sets
   valid i k e = live_below _ _ _ (member_in c m) i k member e
 
   pub small : (i : ℕ) → i < (setup_of c).gets + (setup_of c).sets → i < 256 ^ 4
@@ -84,11 +84,11 @@ module _ (c : List ℕ) (m : ℕ) (x : Reached c m) where
   reached op = rw x.here (or-true _)
 
   -- nor is the member marked
-  pub unmarked : (i : ℕ) (k : ObjectKind) → lookup_of (member_in c m) i ≡ Live k → is_marked c m ≡ false
+  pub unmarked : (i : ℕ) (k : ObjectKind) → lookup_of (member_in c m) i ≡ Some k → is_marked c m ≡ false
   unmarked i k e = marked-is c m x.here ∙ live-unmarked _ _ _ (member_in c m) i k member e
 
   -- the request of a full capture is taken
-  get-taken : (i : ℕ) → lookup_of (member_in c m) i ≡ Live Get → bit (in_use_of c) 0x0f ≡ true → ask_in c (get_all m i) ≡ Read m (GetAll i)
+  get-taken : (i : ℕ) → lookup_of (member_in c m) i ≡ Some Get → bit (in_use_of c) 0x0f ≡ true → ask_in c (get_all m i) ≡ Read m (GetAll i)
   unfolding inside attended ◌and◌ ◌or◌ laid
   get-taken i e u =
       (taken c (host.Get m i 1) [] (record {
@@ -101,12 +101,12 @@ module _ (c : List ℕ) (m : ℕ) (x : Reached c m) where
       })).asked
 
   -- a full capture through a live get object
-  get-performs : (i : ℕ) → lookup_of (member_in c m) i ≡ Live Get → bit (in_use_of c) 0x0f ≡ true
+  get-performs : (i : ℕ) → lookup_of (member_in c m) i ≡ Some Get → bit (in_use_of c) 0x0f ≡ true
       → perform c (get_all m i) (ask_in c (get_all m i)) ≡ effect Done c (capture_of (member_in c m).queues (member_in c m).values)
   unfolding perform through_get result_of unless◌answer◌then◌
   get-performs i e u = rw (get-taken i e u, e)
 
-  pub capture-is : (i room : ℕ) → lookup_of (member_in c m) i ≡ Live Get → bit (in_use_of c) 0x0f ≡ true
+  pub capture-is : (i room : ℕ) → lookup_of (member_in c m) i ≡ Some Get → bit (in_use_of c) 0x0f ≡ true
       → 8 + length (capture_of (member_in c m).queues (member_in c m).values) ≤ room
       → capture c m i room ≡ head_of Done ++ capture_of (member_in c m).queues (member_in c m).values
   capture-is i room e u h = respond-done c (get_all m i) room _ x.sound (get-performs i e u) h

@@ -25,8 +25,7 @@ use Rattle.inventory.proofs.Rules.{table}
 use Rattle.rules.specs.Rules.{cause_of, is_accepted, asked_of}
 use Rattle.capture.specs.Capture.{Asked, headers_of, parts_written, capture_of}
 use Rattle.capture.proofs.Sizes.{parts-length, capture-length, headers-length}
-use Rattle.objects.specs.declared.Found.{Found}
-use Rattle.objects.specs.declared.Found.TheVariants.{Live, Nothing}
+use Rattle.std.specs.Prelude.{Option, Some, None}
 use Rattle.member.specs.Objects.{room_in}
 use Rattle.member.specs.Member.{features_in}
 use Rattle.changes.specs.Changes.{limited, create_of, modify_of, destroy_of, set_parts_of}
@@ -69,9 +68,9 @@ Agree c r room op =
 pub test : {P : Type 0} (t : Bool) → (t ≡ false → P) → (t ≡ true → P) → P
 test t f g = by_cases t g f
 
-object : {P : Type 0} (x : Found) → (x ≡ Nothing → P) → ((k : ObjectKind) → x ≡ Live k → P) → P
-object Nothing f g = f refl
-object (Live k) f g = g k refl
+object : {P : Type 0} (x : Option ObjectKind) → (x ≡ None → P) → ((k : ObjectKind) → x ≡ Some k → P) → P
+object None f g = f refl
+object (Some k) f g = g k refl
 
 mode : {P : Type 0} (x : Mode) → (x ≡ Running → P) → (x ≡ Stopped → P) → P
 mode Running f g = f refl
@@ -176,9 +175,9 @@ module _ (c r : List ℕ) (room : ℕ) where
   mode-set = rw bad-mode (test (leb (get_or d 0 0) 1) (λ e. rw e) λ e. rw e none)
 
   -- through a live get object
-  through-get : {P : Type 0} → (object_named c r ≡ Nothing → P)
-      → ((k : ObjectKind) → object_named c r ≡ Live k → is_get k ≡ false → P)
-      → ((k : ObjectKind) → object_named c r ≡ Live k → is_get k ≡ true → P) → P
+  through-get : {P : Type 0} → (object_named c r ≡ None → P)
+      → ((k : ObjectKind) → object_named c r ≡ Some k → is_get k ≡ false → P)
+      → ((k : ObjectKind) → object_named c r ≡ Some k → is_get k ≡ true → P) → P
   through-get f g h = object (object_named c r) f λ k e. test (is_get k) (g k e) (h k e)
 
   -- the lengths of what metadata and parts get give are those of a sound card

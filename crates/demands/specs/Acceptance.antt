@@ -1,13 +1,12 @@
 -- THE ROUND TRIP, where the capture is accepted and where it is captured again apart: a live set object is all that acceptance
 -- asks of the target's objects; a get object, parts get in use and a long enough buffer are asked where the target is captured.
 -- RoundTrip.antt follows from it. Assumes nothing.
-use Rattle.std.specs.Prelude.{◌≡◌, true, List, ℕ, ◌+◌, ◌≤◌, length, take}
+use Rattle.std.specs.Prelude.{◌≡◌, true, List, ℕ, ◌+◌, ◌≤◌, length, take, Some}
 use Rattle.protocol.specs.declared.Answer.TheVariants.{Done}
 use Rattle.protocol.specs.declared.Mode.TheVariants.{Stopped}
 use Rattle.protocol.specs.declared.ObjectKind.TheVariants.{Get, Set}
 use Rattle.protocol.specs.Opcodes.{bit}
 use Rattle.inventory.specs.Inventory.{parts_size}
-use Rattle.objects.specs.declared.Found.TheVariants.{Live}
 use Rattle.member.specs.Objects.{lookup_of}
 use Rattle.card.specs.Layout.{setup_of, in_use_of, is_member, member_in}
 use Rattle.card.specs.Sound.{is_sound}
@@ -24,8 +23,8 @@ pub record Acceptable (c : List ℕ) (m i : ℕ) (d : List ℕ) (k j : ℕ) : Ty
   pub same_queues : (member_in c m).queues ≡ (member_in d k).queues
   pub source_member : is_member c m ≡ true
   pub target_member : is_member d k ≡ true
-  pub source_get : lookup_of (member_in c m) i ≡ Live Get
-  pub target_set : lookup_of (member_in d k) j ≡ Live Set
+  pub source_get : lookup_of (member_in c m) i ≡ Some Get
+  pub target_set : lookup_of (member_in d k) j ≡ Some Set
   pub stopped : (member_in d k).mode ≡ Stopped
   pub capture_in_use : bit (in_use_of c) 0x0f ≡ true
   pub set_in_use : bit (in_use_of d) 0x10 ≡ true
@@ -36,7 +35,7 @@ pub record AcceptedSame (c : List ℕ) (m i : ℕ) (d : List ℕ) (k j r₁ r₂
   pub captured : take 8 (capture c m i r₁) ≡ head_of Done
   pub full : length (capture c m i r₁) ≡ 8 + parts_size (member_in c m).queues
   pub accepted : (restore d k j (capture c m i r₁) r₂).1 ≡ head_of Done
-  pub same : (l r₃ : ℕ) → lookup_of (member_in d k) l ≡ Live Get → bit (in_use_of d) 0x0f ≡ true → 8 + parts_size (member_in c m).queues ≤ r₃
+  pub same : (l r₃ : ℕ) → lookup_of (member_in d k) l ≡ Some Get → bit (in_use_of d) 0x0f ≡ true → 8 + parts_size (member_in c m).queues ≤ r₃
       → capture (restore d k j (capture c m i r₁) r₂).0 k l r₃ ≡ capture c m i r₁
 
 abbrev pub Acceptance : Type 0

@@ -1,8 +1,7 @@
 -- SETUP AND RESETS, SPEC 7.2 to 7.4: when setup is done, and what is fresh (01's term) after it, after a wipe and after a card
 -- reset. The numbers are those of the papers, apart from the definitions. Examples: ../proofs/FreshExample.antt. Assumes nothing.
-use Rattle.std.specs.Prelude.{◌≡◌, true, false, List, ◌++◌, ℕ, ◌+◌, ◌-◌, ◌*◌, ◌≤◌, ◌<◌, length, get_or, replicate}
+use Rattle.std.specs.Prelude.{◌≡◌, true, false, List, ◌++◌, ℕ, ◌+◌, ◌-◌, ◌*◌, ◌≤◌, ◌<◌, length, get_or, replicate, None}
 use Rattle.protocol.specs.declared.Mode.TheVariants.{Running}
-use Rattle.objects.specs.declared.Found.TheVariants.{Nothing}
 use Rattle.member.specs.Objects.{lookup_of}
 use Rattle.setups.specs.declared.Setup as setups
 use Rattle.setups.specs.Reading.{read_number, read_as, read_setup}
@@ -21,7 +20,7 @@ pub record FreshMember (c : List ℕ) (m queues : ℕ) (features : List ℕ) (ge
   pub runs : (member_in c m).mode ≡ Running
   pub unmarked : (member_in c m).marked ≡ false
   pub count : (member_in c m).queues ≡ queues
-  pub no_object : (id : ℕ) → lookup_of (member_in c m) id ≡ Nothing
+  pub no_object : (id : ℕ) → lookup_of (member_in c m) id ≡ None
   pub no_place : (member_in c m).held ≡ 0
   pub values : (member_in c m).values ≡ features ++ replicate 189 0
   pub configuration : configuration_in c m ≡ replicate 12 0

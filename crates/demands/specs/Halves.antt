@@ -1,11 +1,10 @@
 -- REQUEST 10, SPEC 13.10: a reset in two halves. What is claimed of it, and worked examples, on the card of Examples.antt and in
 -- its form. Assumes nothing.
-use Rattle.std.specs.Prelude.{◌≡◌, true, false, List, [], ◌∷◌, ◌++◌, map, ℕ, ◌+◌, ◌*◌, ◌≤◌, replicate}
+use Rattle.std.specs.Prelude.{◌≡◌, true, false, List, [], ◌∷◌, ◌++◌, map, ℕ, ◌+◌, ◌*◌, ◌≤◌, replicate, None}
 use Rattle.protocol.specs.declared.Answer.TheVariants.{Marked}
 use Rattle.protocol.specs.declared.Mode.TheVariants.{Stopped}
 use Rattle.frame.specs.Frame.{opcode_of}
 use Rattle.frame.specs.Ask.{usable}
-use Rattle.objects.specs.declared.Found.TheVariants.{Nothing}
 use Rattle.member.specs.Objects.{lookup_of}
 use Rattle.card.specs.Layout.{in_use_of, is_member, member_in, is_marked}
 use Rattle.card.specs.Sound.{is_sound}
@@ -57,7 +56,7 @@ StoresWork =
 -- A marked member of a sound card is stopped, with no live object and no holding place. Example: ../proofs/HalvesExample.antt
 pub record Idle (c : List ℕ) (m : ℕ) : Type 0 where
   pub stopped : (member_in c m).mode ≡ Stopped
-  pub no_object : (id : ℕ) → lookup_of (member_in c m) id ≡ Nothing
+  pub no_object : (id : ℕ) → lookup_of (member_in c m) id ≡ None
   pub no_place : (member_in c m).held ≡ 0
 
 abbrev pub MarkedIdle : Type 0

@@ -1,13 +1,12 @@
 -- REQUESTS 7 AND 8: what a packed setup says of a member; and, on commands as bytes, lists that were made or salvaged under it are
 -- set in a member of a card. Assumes nothing.
-use Rattle.std.specs.Prelude.{◌≡◌, true, List, [], ℕ, ◌+◌, ◌-◌, ◌≤◌, length, get_or, take, drop}
+use Rattle.std.specs.Prelude.{◌≡◌, true, List, [], ℕ, ◌+◌, ◌-◌, ◌≤◌, length, get_or, take, drop, Some}
 use Rattle.protocol.specs.declared.Answer.TheVariants.{Done}
 use Rattle.protocol.specs.declared.Mode.TheVariants.{Stopped}
 use Rattle.protocol.specs.declared.ObjectKind.TheVariants.{Get, Set}
 use Rattle.protocol.specs.Opcodes.{bit}
 use Rattle.inventory.specs.Inventory.{parts_size}
 use Rattle.parts.specs.List.{longest_list}
-use Rattle.objects.specs.declared.Found.TheVariants.{Live}
 use Rattle.member.specs.Objects.{lookup_of}
 use Rattle.setups.specs.declared.MemberSetup.{MemberSetup}
 use Rattle.setups.specs.declared.ReadOutcome.{ReadOutcome}
@@ -45,7 +44,7 @@ MembersKnown = (setup : List ℕ) (m : ℕ) → SaysOf setup m
 pub record Settable (c : List ℕ) (m j : ℕ) : Type 0 where
   pub sound : is_sound c ≡ true
   pub here : is_member c m ≡ true
-  pub set_object : lookup_of (member_in c m) j ≡ Live Set
+  pub set_object : lookup_of (member_in c m) j ≡ Some Set
   pub stopped : (member_in c m).mode ≡ Stopped
   pub set_in_use : bit (in_use_of c) 0x10 ≡ true
 
@@ -90,7 +89,7 @@ value_under s full later t selector = value_at full later (lookup_under s full l
 abbrev pub FoundCaptured : Type 0
 FoundCaptured =
     (c : List ℕ) (m j : ℕ) (setup : List ℕ) (k : ℕ) → Settable c m j → Alike c m (member_setup setup k)
-    → (i : ℕ) → lookup_of (member_in c m) i ≡ Live Get → bit (in_use_of c) 0x0f ≡ true
+    → (i : ℕ) → lookup_of (member_in c m) i ≡ Some Get → bit (in_use_of c) 0x0f ≡ true
     → (full later : List ℕ) (t selector : ℕ) → (lookup_told (lookup_under (member_setup setup k) full later t selector)).0 ≡ 0
     → length full ≤ longest_list → length later ≤ longest_list
     → (r : ℕ) → 8 + parts_size (member_in c m).queues ≤ r

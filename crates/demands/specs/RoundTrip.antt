@@ -1,12 +1,11 @@
 -- DEMAND 2, the round trip, SPEC 9.2, by requests that the host's half builds: a full capture of one member can be set in
 -- another, and a capture there gives the same bytes. Assumes nothing.
-use Rattle.std.specs.Prelude.{◌≡◌, true, List, ℕ, ◌+◌, ◌≤◌, length, take, drop}
+use Rattle.std.specs.Prelude.{◌≡◌, true, List, ℕ, ◌+◌, ◌≤◌, length, take, drop, Some}
 use Rattle.protocol.specs.declared.Answer.TheVariants.{Done}
 use Rattle.protocol.specs.declared.Mode.TheVariants.{Stopped}
 use Rattle.protocol.specs.declared.ObjectKind.TheVariants.{Get, Set}
 use Rattle.protocol.specs.Opcodes.{bit}
 use Rattle.inventory.specs.Inventory.{parts_size}
-use Rattle.objects.specs.declared.Found.TheVariants.{Live}
 use Rattle.member.specs.Objects.{lookup_of}
 use Rattle.card.specs.Layout.{setup_of, in_use_of, is_member, member_in}
 use Rattle.card.specs.Sound.{is_sound}
@@ -24,9 +23,9 @@ pub record Restorable (c : List ℕ) (m i : ℕ) (d : List ℕ) (k j l : ℕ) : 
   pub same_queues : (member_in c m).queues ≡ (member_in d k).queues
   pub source_member : is_member c m ≡ true
   pub target_member : is_member d k ≡ true
-  pub source_get : lookup_of (member_in c m) i ≡ Live Get
-  pub target_set : lookup_of (member_in d k) j ≡ Live Set
-  pub target_get : lookup_of (member_in d k) l ≡ Live Get
+  pub source_get : lookup_of (member_in c m) i ≡ Some Get
+  pub target_set : lookup_of (member_in d k) j ≡ Some Set
+  pub target_get : lookup_of (member_in d k) l ≡ Some Get
   pub stopped : (member_in d k).mode ≡ Stopped
   pub capture_in_use : bit (in_use_of c) 0x0f ≡ true
   pub set_in_use : bit (in_use_of d) 0x10 ≡ true

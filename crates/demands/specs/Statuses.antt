@@ -2,7 +2,7 @@
 -- exactly when its row is the first that applies. The rows read the bytes of the request and the card, and not what the
 -- decoder makes of them. Data may have any length, SPEC 13.2: there is no row of step 6, and `number` and `get_or` read each
 -- missing byte as zero. Assumes nothing.
-use Rattle.std.specs.Prelude.{◌≡◌, Bool, true, false, not, List, [], ◌∷◌, ◌++◌, map, ℕ, ◌+◌, ◌*◌, ◌≤◌, leb, ltb, eqb, length, get_or, take, replicate}
+use Rattle.std.specs.Prelude.{◌≡◌, Bool, true, false, not, List, [], ◌∷◌, ◌++◌, map, ℕ, ◌+◌, ◌*◌, ◌≤◌, leb, ltb, eqb, length, get_or, take, replicate, Option}
 use Rattle.theory.specs.Logic.{when◌then◌else◌, ◌and◌, ◌or◌, within}
 use Rattle.wire.specs.Le.{le, bytes, number}
 use Rattle.protocol.specs.Answers.{is_stopped, is_get, is_set}
@@ -11,8 +11,7 @@ use Rattle.inventory.specs.Inventory as inventory
 use Rattle.inventory.specs.Inventory.{total, part_count, parts_size}
 use Rattle.rules.specs.Rules.{cause_of, is_accepted, asked_of}
 use Rattle.capture.specs.Capture.{Asked, asks}
-use Rattle.objects.specs.declared.Found.{Found}
-use Rattle.objects.specs.Objects.{slot_for, on_found}
+use Rattle.objects.specs.Objects.{on_found}
 use Rattle.member.specs.declared.Member.{Member}
 use Rattle.member.specs.Objects.{lookup_of, with_object, room_in}
 use Rattle.member.specs.Member.{features_in}
@@ -21,6 +20,7 @@ use Rattle.card.specs.Sound.{is_sound}
 use Rattle.frame.specs.Frame.{opcode_of, group_of, target_of, data_of, asked_list, given_list}
 use Rattle.frame.specs.Fields.{kind_in}
 use Rattle.admin.specs.Command.{respond}
+use Rattle.protocol.specs.declared.ObjectKind.{ObjectKind}
 
 -- ---- the first row that applies ----
 
@@ -74,19 +74,19 @@ needs_get op = within 0x0e 0x0f op
 abbrev pub member_named : List ℕ → List ℕ → Member
 member_named c r = member_in c (target_of r)
 
-abbrev pub object_named : List ℕ → List ℕ → Found
+abbrev pub object_named : List ℕ → List ℕ → Option ObjectKind
 object_named c r = lookup_of (member_named c r) (object_id (data_of r))
 
 abbrev pub member_made : List ℕ → List ℕ → Member
 member_made c r = with_object (member_named c r) (object_id (data_of r)) (slot_for (kind_in (kind_byte (data_of r))))
 
-abbrev pub is_live : Found → Bool
+abbrev pub is_live : Option ObjectKind → Bool
 is_live x = on_found x (λ k. true) false
 
-abbrev pub is_live_get : Found → Bool
+abbrev pub is_live_get : Option ObjectKind → Bool
 is_live_get x = on_found x is_get false
 
-abbrev pub is_live_set : Found → Bool
+abbrev pub is_live_set : Option ObjectKind → Bool
 is_live_set x = on_found x is_set false
 
 -- step 7, a field has a value that it may not have; ids is G + S

@@ -10,10 +10,9 @@ use lib.Seq.{get_or-drop}
 use borrow.Author.Tests.{leb-true, leb-false}
 use Rattle.theory.proofs.Tests.{by_cases, both}
 use Rattle.protocol.specs.declared.ObjectKind.{ObjectKind}
-use Rattle.objects.specs.declared.Slot.{Slot}
-use Rattle.objects.specs.declared.Slot.TheVariants.{Free, Get, Set}
-use Rattle.objects.specs.declared.Found.TheVariants.{Live}
-use Rattle.objects.specs.Objects.{slot_byte, object_byte, free, found_in, all_up_to}
+use Rattle.protocol.specs.declared.ObjectKind.TheVariants.{Get, Set}
+use Rattle.std.specs.Prelude.{Option, Some, None}
+use Rattle.objects.specs.Objects.{slot_byte, object_byte, free, all_up_to}
 use Rattle.member.specs.declared.Member.{Member}
 use Rattle.member.specs.Objects.{lookup_of}
 use Rattle.member.proofs.Sound.{SoundMember}
@@ -25,17 +24,17 @@ all-zero [] i e = refl
 all-zero (b ∷ bs) zero e = omega (arith, leb-true b 0 (both _ _ e).0)
 all-zero (b ∷ bs) (suc i) e = all-zero bs i (both _ _ e).1
 
-live-not-free : (s : Slot) (k : ObjectKind) → found_in s ≡ Live k → slot_byte s ≡ 0 → ⊥
-live-not-free Free k e z = let y : ◌≡◌ {A = ℕ} 0 1 = cc in omega arith
-live-not-free Get k e z = omega arith
-live-not-free Set k e z = omega arith
+live-not-free : (s : Option ObjectKind) (k : ObjectKind) → s ≡ Some k → slot_byte s ≡ 0 → ⊥
+live-not-free None k e z = cc
+live-not-free (Some Get) k e z = omega arith
+live-not-free (Some Set) k e z = omega arith
 
 -- a free byte is no live object's
-byte-live : (m : Member) (id : ℕ) (k : ObjectKind) → lookup_of m id ≡ Live k → get_or (map object_byte m.objects) id 0 ≡ 0 → ⊥
+byte-live : (m : Member) (id : ℕ) (k : ObjectKind) → lookup_of m id ≡ Some k → get_or (map object_byte m.objects) id 0 ≡ 0 → ⊥
 unfolding lookup_of
 byte-live m id k e z = live-not-free (get_or m.objects id free).slot k e (sym (get_or-map object_byte m.objects id free) ∙ z)
 
-module _ (gets sets : ℕ) (features : List ℕ) (m : Member) (id : ℕ) (k : ObjectKind) (s : SoundMember gets sets features m) (e : lookup_of m id ≡ Live k) where
+module _ (gets sets : ℕ) (features : List ℕ) (m : Member) (id : ℕ) (k : ObjectKind) (s : SoundMember gets sets features m) (e : lookup_of m id ≡ Some k) where
   pub live_below : id < gets + sets
   live_below =
       let n = gets + sets in

@@ -1,17 +1,15 @@
 -- Each return of the methods of a member, in the shape in which it is asked, and what a caller made
 -- of a lookup. Assumes nothing.
-use mathlib.Core.Path.{◌≡◌, sym, ◌∙◌}
+use mathlib.Core.Path.{◌≡◌, ap, sym, ◌∙◌}
 use native.Mathlib.Omega.{arith}
 use mathlib.Core.List.{List}
 use Prim.Native.Nat.{ℕ, ◌≤◌}
 use lib.ListN.{length, get_or, set, get_or-eq_default}
 use lib.Seq.{set_out}
 use Rattle.protocol.specs.declared.ObjectKind.{ObjectKind}
-use Rattle.objects.specs.declared.Slot.{Slot}
+use Rattle.std.specs.Prelude.{Option, Some, None}
 use Rattle.objects.specs.declared.ObjectRecord.{ObjectRecord}
-use Rattle.objects.specs.declared.Found.{Found}
-use Rattle.objects.specs.declared.Found.TheVariants.{Live, Nothing}
-use Rattle.objects.specs.Objects.{free, found_in, on_found}
+use Rattle.objects.specs.Objects.{free, on_found}
 use Rattle.member.specs.declared.Member.{Member}
 use Rattle.member.specs.Objects.{lookup_of, with_object}
 use Rattle.member.specs.Member.{with_values}
@@ -20,11 +18,11 @@ pub values-in : (m : Member) (v w : List ℕ) → v ≡ w → with_values m v �
 values-in m v w e = rw e
 
 module _ (m : Member) (id : ℕ) where
-  pub lookup-in : (f : Found) → f ≡ found_in (get_or m.objects id free).slot → f ≡ lookup_of m id
+  pub lookup-in : (f : Option ObjectKind) → f ≡ (get_or m.objects id free).slot → f ≡ lookup_of m id
   unfolding lookup_of
   lookup-in f e = e
 
-  pub object-in : (s : Slot) (l : List ObjectRecord) → l ≡ set m.objects id (record { slot = s })
+  pub object-in : (s : Option ObjectKind) (l : List ObjectRecord) → l ≡ set m.objects id (record { slot = s })
       → record { mode = m.mode; marked = m.marked; queues = m.queues; objects = l; held = m.held; values = m.values } ≡ with_object m id s
   unfolding with_object
   object-in s l e = rw e
@@ -34,18 +32,18 @@ module _ (m : Member) (id : ℕ) where
     out : length m.objects ≤ id
     out = omega arith
 
-    pub lookup-out : Nothing ≡ lookup_of m id
+    pub lookup-out : None ≡ lookup_of m id
     unfolding lookup_of
-    lookup-out = rw (get_or-eq_default m.objects free out)
+    lookup-out = ap (λ (o : ObjectRecord). o.slot) (sym (get_or-eq_default m.objects free out))
 
-    pub object-out : (s : Slot) → m ≡ with_object m id s
+    pub object-out : (s : Option ObjectKind) → m ≡ with_object m id s
     unfolding with_object
     object-out s = rw (set_out m.objects id (record { slot = s }) out)
 
 -- f is what the lookup answered
-module _ {A : Type 0} (m : Member) (id : ℕ) (g : ObjectKind → A) (z o : A) (f : Found) (e : f ≡ lookup_of m id) where
-  pub on-live : (k : ObjectKind) → f ≡ Live k → o ≡ g k → o ≡ on_found (lookup_of m id) g z
+module _ {A : Type 0} (m : Member) (id : ℕ) (g : ObjectKind → A) (z o : A) (f : Option ObjectKind) (e : f ≡ lookup_of m id) where
+  pub on-live : (k : ObjectKind) → f ≡ Some k → o ≡ g k → o ≡ on_found (lookup_of m id) g z
   on-live k n h = rw (sym e ∙ n) h
 
-  pub on-nothing : f ≡ Nothing → o ≡ z → o ≡ on_found (lookup_of m id) g z
+  pub on-nothing : f ≡ None → o ≡ z → o ≡ on_found (lookup_of m id) g z
   on-nothing n h = rw (sym e ∙ n) h

@@ -19,16 +19,15 @@ use Rattle.inventory.specs.Inventory.{values_size}
 use Rattle.protocol.specs.Answers.{mode_of}
 use Rattle.protocol.specs.declared.Mode.{Mode}
 use Rattle.protocol.specs.declared.Mode.TheVariants.{Running, Stopped}
-use Rattle.objects.specs.declared.Slot.{Slot}
-use Rattle.objects.specs.declared.Found.{Found}
-use Rattle.objects.specs.declared.Found.TheVariants.{Nothing}
-use Rattle.objects.specs.Objects.{objects_size, slot_of, object_of, object_byte, found_in}
+use Rattle.std.specs.Prelude.{Option, None}
+use Rattle.objects.specs.Objects.{objects_size, slot_of, object_of, object_byte}
 use Rattle.objects.proofs.Objects.{objects-back}
 use Rattle.member.specs.declared.Member.{Member}
 use Rattle.member.specs.Record.{mode_at, mark_at, queues_at, objects_at, held_at, values_at, member_size, mode_byte, object_bytes, member_of, member_bytes}
 use Rattle.member.specs.Objects.{lookup_of, with_object}
 use Rattle.member.specs.Member.{features_size, fresh_of, with_mode, with_values, with_held}
 use Rattle.member.proofs.Objects.{lookup-out}
+use Rattle.protocol.specs.declared.ObjectKind.{ObjectKind}
 
 -- its arrays are as long, and its number as low, as its type says
 pub record Shaped (m : Member) : Type 0 where
@@ -45,7 +44,7 @@ shaped-values m s values n = record { ids = s.ids; low = s.low; long = n }
 pub shaped-held : (m : Member) → Shaped m → (held : ℕ) → held < 256 ^ 2 → Shaped (with_held m held)
 shaped-held m s held h = record { ids = s.ids; low = h; long = s.long }
 
-pub shaped-object : (m : Member) → Shaped m → (id : ℕ) (slot : Slot) → Shaped (with_object m id slot)
+pub shaped-object : (m : Member) → Shaped m → (id : ℕ) (slot : Option ObjectKind) → Shaped (with_object m id slot)
 unfolding with_object
 shaped-object m s id slot = record { ids = length-set m.objects id (record { slot = slot }) ∙ s.ids; low = s.low; long = s.long }
 
@@ -171,9 +170,9 @@ fresh-values f e = put_front f (replicate values_size 0) (omega arith) ∙ rw e
 -- ---- a record read where it stands ----
 
 module _ (r : List ℕ) (n : length r ≡ member_size) (id : ℕ) where
-  pub record-lookup : (f : Found) → id < objects_size → f ≡ found_in (slot_of (get_or r (objects_at + id) 0)) → f ≡ lookup_of (member_of r) id
+  pub record-lookup : (f : Option ObjectKind) → id < objects_size → f ≡ slot_of (get_or r (objects_at + id) 0) → f ≡ lookup_of (member_of r) id
   unfolding member_of lookup_of
   record-lookup f h e = rw (get_or-map object_of (object_bytes r) id 0, get_or-bytes_at objects_at objects_size id r h) e
 
-  pub record-lookup-out : objects_size ≤ id → Nothing ≡ lookup_of (member_of r) id
+  pub record-lookup-out : objects_size ≤ id → None ≡ lookup_of (member_of r) id
   record-lookup-out h = lookup-out (member_of r) id objects_size (member-ids r n) h

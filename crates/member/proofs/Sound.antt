@@ -24,8 +24,7 @@ use Rattle.values.proofs.Kept.{stored-length, stored-features, stored-allowed, a
 use Rattle.protocol.specs.Answers.{mode_of}
 use Rattle.protocol.specs.declared.Mode.{Mode}
 use Rattle.protocol.specs.declared.Mode.TheVariants.{Stopped}
-use Rattle.objects.specs.declared.Slot.{Slot}
-use Rattle.objects.specs.declared.Slot.TheVariants.{Free}
+use Rattle.std.specs.Prelude.{Option, None}
 use Rattle.objects.specs.Objects.{objects_size, object_of, object_byte, all_up_to, all_within, most_of, within_limits}
 use Rattle.objects.proofs.Objects.{objects-low, bytes-of-objects}
 use Rattle.objects.proofs.Counts.{map-set, all-drop-set, all_drop, limits-set, none-live, none-counted, both-tests}
@@ -35,6 +34,7 @@ use Rattle.member.specs.Objects.{room_in, with_object}
 use Rattle.member.specs.Member.{features_size, fresh_of, features_in, with_mode, with_values, with_held, handed_back, with_part}
 use Rattle.member.specs.Sound.{sound_end, sound_mark, sound_front, sound_record}
 use Rattle.member.proofs.Record.{Shaped, fresh-shaped, mode-low, record-mode, record-mark, record-queues, record-held, record-objects, record-values, values-last, member-shaped, shaped-mode, shaped-values, shaped-held, shaped-object}
+use Rattle.protocol.specs.declared.ObjectKind.{ObjectKind}
 
 -- what a marked member is: stopped, with no holding place and no live object
 pub record Ended (m : Member) : Type 0 where
@@ -188,7 +188,7 @@ module _ (gets sets : ℕ) (features : List ℕ) where
           record { shaped = shaped-held m s.shaped held (omega arith); count = s.count; mark = unmarked _; few = h; below = s.below; room = s.room; kept = s.kept; allowed = s.allowed }
 
       -- an object that the limits allow, at an id that is valid
-      pub sound-object : (id : ℕ) (slot : Slot) → id < gets + sets → room_in gets sets (with_object m id slot) ≡ true → SoundMember (with_object m id slot)
+      pub sound-object : (id : ℕ) (slot : Option ObjectKind) → id < gets + sets → room_in gets sets (with_object m id slot) ≡ true → SoundMember (with_object m id slot)
       unfolding with_object
       sound-object id slot h e = record {
         shaped = shaped-object m s.shaped id slot;
@@ -202,11 +202,11 @@ module _ (gets sets : ℕ) (features : List ℕ) where
       }
 
       -- an object destroyed
-      pub sound-free : (id : ℕ) → SoundMember (with_object m id Free)
+      pub sound-free : (id : ℕ) → SoundMember (with_object m id None)
       unfolding with_object
       sound-free id =
           record {
-            shaped = shaped-object m s.shaped id Free;
+            shaped = shaped-object m s.shaped id None;
             count = s.count;
             mark = unmarked _;
             few = s.few;

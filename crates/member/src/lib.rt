@@ -13,8 +13,8 @@ ghost use Rattle.member.specs.Objects.{lookup_of, with_object, room_in};
 ghost use Rattle.member.specs.Member.{fresh_of, with_mode, with_values, with_held, handed_back, with_part};
 ghost use Rattle.member.specs.Sound.{sound_record};
 
-use objects::{Found, IDS, ObjectRecord, Slot};
-use protocol::Mode;
+use objects::{IDS, ObjectRecord};
+use protocol::{Mode, ObjectKind};
 
 // The device features, which stand first among the values.
 pub const FEATURES_SIZE: usize = 16;
@@ -63,7 +63,7 @@ impl Member {
     pub fn fresh(queues: u8, features: [u8; FEATURES_SIZE]) -> Member
         ensures { result ≡ fresh_of queues features }
     {
-        let objects = [ObjectRecord { slot: Slot::Free }; IDS];
+        let objects = [ObjectRecord { slot: None }; IDS];
         let mut values = [0u8; VALUES_SIZE];
         wire::copy(&mut values, 0, &features);
         Member {
@@ -80,7 +80,7 @@ impl Member {
     pub fn hand_back(self) -> Member
         ensures { result ≡ handed_back self }
     {
-        let objects = [ObjectRecord { slot: Slot::Free }; IDS];
+        let objects = [ObjectRecord { slot: None }; IDS];
         let values = self.values;
         Member {
             mode: Mode::Stopped,
@@ -157,19 +157,17 @@ impl Member {
     // ---- resource objects ----
 
     // The live object of an id.
-    pub fn lookup(self, id: usize) -> Found
+    pub fn lookup(self, id: usize) -> Option<ObjectKind>
         ensures { result ≡ lookup_of self id }
     {
         if IDS <= id {
-            return Found::Nothing;
+            return None;
         }
-        let o = self.objects[id];
-        let slot = o.slot;
-        objects::found_in(slot)
+        self.objects[id].slot
     }
 
     // The member with this at the id; an id that no record has changes nothing.
-    pub fn with_object(mut self, id: usize, slot: Slot) -> Member
+    pub fn with_object(mut self, id: usize, slot: Option<ObjectKind>) -> Member
         ensures { result ≡ with_object self id slot }
     {
         if IDS <= id {
@@ -181,7 +179,7 @@ impl Member {
 
     // The member without the object of the id, whose id and room are free again.
     pub fn without_object(mut self, id: usize) -> Member
-        ensures { result ≡ with_object self id Slot.Free }
+        ensures { result ≡ with_object self id None }
     {
         if IDS <= id {
             return self;
@@ -205,14 +203,14 @@ impl Member {
 // ---- a member's bytes, read where they stand ----
 
 // The live object of an id. A command that reads has no need of the member by value.
-pub fn lookup_in(bytes: &[u8], id: usize) -> Found
+pub fn lookup_in(bytes: &[u8], id: usize) -> Option<ObjectKind>
     requires { length bytes.now ≡ member_size }
     ensures { result ≡ lookup_of (member_of bytes.now) id }
 {
     if IDS <= id {
-        return Found::Nothing;
+        return None;
     }
-    objects::found_at(bytes[OBJECTS_AT + id])
+    objects::slot_in(bytes[OBJECTS_AT + id])
 }
 
 pub fn values_of(bytes: &[u8]) -> &[u8]

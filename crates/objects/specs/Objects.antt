@@ -1,28 +1,24 @@
 -- Resource objects, SPEC 4.3, as bytes and records, and how many there are. Assumes nothing.
-use Rattle.std.specs.Prelude.{Bool, true, List, [], ◌∷◌, ◌++◌, ℕ, zero, suc, ◌+◌, ◌-◌, leb, eqb, replicate}
+use Rattle.std.specs.Prelude.{Bool, true, List, [], ◌∷◌, ◌++◌, ℕ, zero, suc, ◌+◌, ◌-◌, leb, eqb, replicate, Option, Some, None}
 use Rattle.theory.specs.Logic.{◌and◌, indicator}
 use Rattle.protocol.specs.declared.ObjectKind.{ObjectKind}
-use Rattle.protocol.specs.declared.ObjectKind.TheVariants as kind
-use Rattle.objects.specs.declared.Slot.{Slot}
-use Rattle.objects.specs.declared.Slot.TheVariants.{Free, Get, Set}
+use Rattle.protocol.specs.declared.ObjectKind.TheVariants.{Get, Set}
 use Rattle.objects.specs.declared.ObjectRecord.{ObjectRecord}
-use Rattle.objects.specs.declared.Found.{Found}
-use Rattle.objects.specs.declared.Found.TheVariants.{Live, Nothing}
 
 -- one object record for each id that any setup allows: G + S is at most 16
 abbrev pub objects_size : ℕ
 objects_size = 16
 
 -- 0 free, 1 get, 2 set
-abbrev pub slot_of : ℕ → Slot
-slot_of zero = Free
-slot_of (suc zero) = Get
-slot_of (suc (suc n)) = Set
+abbrev pub slot_of : ℕ → Option ObjectKind
+slot_of zero = None
+slot_of (suc zero) = Some Get
+slot_of (suc (suc n)) = Some Set
 
-abbrev pub slot_byte : Slot → ℕ
-slot_byte Free = 0
-slot_byte Get = 1
-slot_byte Set = 2
+abbrev pub slot_byte : Option ObjectKind → ℕ
+slot_byte None = 0
+slot_byte (Some Get) = 1
+slot_byte (Some Set) = 2
 
 abbrev pub object_of : ℕ → ObjectRecord
 object_of b = record { slot = slot_of b }
@@ -31,20 +27,11 @@ abbrev pub object_byte : ObjectRecord → ℕ
 object_byte o = slot_byte o.slot
 
 abbrev pub free : ObjectRecord
-free = record { slot = Free }
+free = record { slot = None }
 
-abbrev pub slot_for : ObjectKind → Slot
-slot_for kind.Get = Get
-slot_for kind.Set = Set
-
-abbrev pub found_in : Slot → Found
-found_in Free = Nothing
-found_in Get = Live kind.Get
-found_in Set = Live kind.Set
-
-abbrev pub on_found : {A : Type 0} → Found → (ObjectKind → A) → A → A
-on_found (Live k) f a = f k
-on_found Nothing f a = a
+abbrev pub on_found : {A : Type 0} → Option ObjectKind → (ObjectKind → A) → A → A
+on_found (Some k) f a = f k
+on_found None f a = a
 
 -- how many of the object bytes are v, and whether each is at most n
 unfoldable pub count : ℕ → List ℕ → ℕ
@@ -67,4 +54,4 @@ most_of ids = replicate ids 2 ++ replicate (objects_size - ids) 0
 
 -- at most G get and S set objects
 unfoldable pub within_limits : ℕ → ℕ → List ℕ → Bool
-within_limits gets sets bs = leb (count (slot_byte Get) bs) gets and leb (count (slot_byte Set) bs) sets
+within_limits gets sets bs = leb (count (slot_byte (Some Get)) bs) gets and leb (count (slot_byte (Some Set)) bs) sets

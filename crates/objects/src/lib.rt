@@ -3,7 +3,7 @@
 
 ghost use Rattle.std.specs.Prelude.{◌≡◌, true, map, ◌+◌, ◌≤◌, ◌<◌, leb, eqb, length, drop, set};
 ghost use Rattle.theory.specs.Logic.{◌and◌, indicator};
-ghost use Rattle.objects.specs.Objects.{objects_size, slot_of, object_of, object_byte, free, slot_for, found_in, count, all_up_to, all_within, most_of, within_limits};
+ghost use Rattle.objects.specs.Objects.{objects_size, slot_of, object_of, object_byte, free, count, all_up_to, all_within, most_of, within_limits};
 
 use protocol::ObjectKind;
 
@@ -15,64 +15,44 @@ pub const MOST: [u8; 32] = [
     2, 2, 2, 2, 2, 2, 2, 2, 2, 2, 2, 2, 2, 2, 2, 2, 0, 0, 0, 0, 0, 0, 0, 0, 0, 0, 0, 0, 0, 0, 0, 0,
 ];
 
-// What one object id holds.
-#[derive(Clone, Copy)]
-pub enum Slot {
-    Free,
-    Get,
-    Set,
-}
-
+// What one object id holds: the kind of its live object, or none where it is free.
 #[derive(Clone, Copy)]
 pub struct ObjectRecord {
-    pub slot: Slot,
-}
-
-// What the lookup of an object id finds.
-#[derive(Clone, Copy)]
-pub enum Found {
-    Live(ObjectKind),
-    Nothing,
+    pub slot: Option<ObjectKind>,
 }
 
 // ---- a byte and what it stands for ----
 
-fn object_in(b: u8) -> ObjectRecord
-    ensures { result ≡ object_of b }
+pub fn slot_in(b: u8) -> Option<ObjectKind>
+    ensures { result ≡ slot_of b }
 {
     match b {
-        0 => ObjectRecord { slot: Slot::Free },
-        1 => ObjectRecord { slot: Slot::Get },
-        _ => ObjectRecord { slot: Slot::Set },
+        0 => None,
+        1 => Some(ObjectKind::Get),
+        _ => Some(ObjectKind::Set),
     }
 }
 
-// The object that it stands for: found with no record in between, which the compiler would not leave out.
-pub fn found_at(b: u8) -> Found
-    ensures { result ≡ found_in (slot_of b) }
+fn object_in(b: u8) -> ObjectRecord
+    ensures { result ≡ object_of b }
 {
-    match b {
-        0 => Found::Nothing,
-        1 => Found::Live(ObjectKind::Get),
-        _ => Found::Live(ObjectKind::Set),
-    }
+    ObjectRecord { slot: slot_in(b) }
 }
 
 fn object_byte(o: ObjectRecord) -> u8
     ensures { result ≡ object_byte o }
 {
-    let slot = o.slot;
-    match slot {
-        Slot::Free => 0,
-        Slot::Get => 1,
-        Slot::Set => 2,
+    match o.slot {
+        None => 0,
+        Some(ObjectKind::Get) => 1,
+        Some(ObjectKind::Set) => 2,
     }
 }
 
 pub fn objects_in(bytes: [u8; IDS]) -> [ObjectRecord; IDS]
     ensures { result ≡ map object_of bytes }
 {
-    let mut objects = [ObjectRecord { slot: Slot::Free }; IDS];
+    let mut objects = [ObjectRecord { slot: None }; IDS];
     let mut i = 0;
     while i < IDS {
         let o = object_in(bytes[i]);
@@ -162,33 +142,14 @@ pub fn are_within(most: &[u8], bytes: &[u8]) -> bool
     all
 }
 
-// ---- slots ----
-
-pub fn slot_for(kind: ObjectKind) -> Slot
-    ensures { result ≡ slot_for kind }
-{
-    match kind {
-        ObjectKind::Get => Slot::Get,
-        ObjectKind::Set => Slot::Set,
-    }
-}
-
-pub fn found_in(slot: Slot) -> Found
-    ensures { result ≡ found_in slot }
-{
-    match slot {
-        Slot::Free => Found::Nothing,
-        Slot::Get => Found::Live(ObjectKind::Get),
-        Slot::Set => Found::Live(ObjectKind::Set),
-    }
-}
+// ---- one record cleared ----
 
 // Clears one record of a lent slice and keeps all others.
 fn clear(objects: &mut [ObjectRecord], i: usize)
     requires { i < length objects.old }
     ensures { objects.new ≡ set objects.old i free }
 {
-    objects[i] = ObjectRecord { slot: Slot::Free };
+    objects[i] = ObjectRecord { slot: None };
 }
 
 // The records with one cleared: it lends its own array to `clear`, so that no caller has to lend one.

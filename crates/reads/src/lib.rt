@@ -6,7 +6,6 @@ ghost use Rattle.std.specs.Prelude.{◌≡◌, length};
 ghost use Rattle.member.specs.Record.{member_size, member_of};
 ghost use Rattle.reads.specs.Reads.{refuse_read, succeed_read, query_of, metadata_of, through_get, selected_of, read_of};
 
-use objects::Found;
 use protocol::{Answer, Body, Metadata, ObjectKind, ReadOp};
 
 // The outcome of an operation that has a result and changes nothing.
@@ -38,7 +37,7 @@ fn query(bytes: &[u8], id: usize) -> Reading
     requires { length bytes.now ≡ member_size }
     ensures { result ≡ query_of id (member_of bytes.now) }
 {
-    let Found::Live(kind) = member::lookup_in(bytes, id) else {
+    let Some(kind) = member::lookup_in(bytes, id) else {
         return refuse_read(Answer::NotLive);
     };
     succeed_read(Body::Kind(kind))
@@ -58,7 +57,7 @@ fn get_metadata(bytes: &[u8], id: usize, what: Metadata, queues: u8) -> Reading
     requires { length bytes.now ≡ member_size }
     ensures { result ≡ through_get id (member_of bytes.now) (succeed_read (metadata_of queues what)) }
 {
-    let Found::Live(kind) = member::lookup_in(bytes, id) else {
+    let Some(kind) = member::lookup_in(bytes, id) else {
         return refuse_read(Answer::NotLive);
     };
     let ObjectKind::Get = kind else {
@@ -72,7 +71,7 @@ fn get_selected(bytes: &[u8], id: usize, queues: u8, list: &[u8]) -> Reading
     requires { length bytes.now ≡ member_size }
     ensures { result ≡ through_get id (member_of bytes.now) (selected_of queues list.now) }
 {
-    let Found::Live(kind) = member::lookup_in(bytes, id) else {
+    let Some(kind) = member::lookup_in(bytes, id) else {
         return refuse_read(Answer::NotLive);
     };
     let ObjectKind::Get = kind else {
@@ -88,7 +87,7 @@ fn get_all(bytes: &[u8], id: usize) -> Reading
     requires { length bytes.now ≡ member_size }
     ensures { result ≡ through_get id (member_of bytes.now) (succeed_read Body.All) }
 {
-    let Found::Live(kind) = member::lookup_in(bytes, id) else {
+    let Some(kind) = member::lookup_in(bytes, id) else {
         return refuse_read(Answer::NotLive);
     };
     let ObjectKind::Get = kind else {

@@ -23,10 +23,6 @@ pub returns-in_default : goal.returns-in_default
 unfolding modify_of
 returns-in_default c = search steps
 
-pub slot_for-requires : goal.slot_for-requires
-unfolding modify_of
-slot_for-requires c = search rules
-
 pub with_object-n-requires : goal.with_object-n-requires
 unfolding modify_of
 with_object-n-requires c = search rules
