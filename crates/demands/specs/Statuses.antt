@@ -2,7 +2,7 @@
 -- exactly when its row is the first that applies. The rows read the bytes of the request and the card, and not what the
 -- decoder makes of them. Data may have any length, SPEC 13.2: there is no row of step 6, and `number` and `get_or` read each
 -- missing byte as zero. Assumes nothing.
-use Rattle.std.specs.Prelude.{◌≡◌, Bool, true, false, not, List, [], ◌∷◌, ◌++◌, map, ℕ, ◌+◌, ◌*◌, ◌≤◌, leb, ltb, eqb, length, get_or, take, replicate, Option}
+use Rattle.std.specs.Prelude.{◌≡◌, Bool, true, false, not, List, [], ◌∷◌, ◌++◌, map, ℕ, ◌+◌, ◌*◌, ◌≤◌, leb, ltb, eqb, length, get_or, take, replicate, Option, Some}
 use Rattle.theory.specs.Logic.{when◌then◌else◌, ◌and◌, ◌or◌, within}
 use Rattle.wire.specs.Le.{le, bytes, number}
 use Rattle.protocol.specs.Answers.{is_stopped, is_get, is_set}
@@ -78,7 +78,7 @@ abbrev pub object_named : List ℕ → List ℕ → Option ObjectKind
 object_named c r = lookup_of (member_named c r) (object_id (data_of r))
 
 abbrev pub member_made : List ℕ → List ℕ → Member
-member_made c r = with_object (member_named c r) (object_id (data_of r)) (slot_for (kind_in (kind_byte (data_of r))))
+member_made c r = with_object (member_named c r) (object_id (data_of r)) (Some (kind_in (kind_byte (data_of r))))
 
 abbrev pub is_live : Option ObjectKind → Bool
 is_live x = on_found x (λ k. true) false
