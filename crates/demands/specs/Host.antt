@@ -1,6 +1,6 @@
 -- REQUEST 1, SPEC 13.1: the host's half. What is claimed of a built request and of the reply to it, over the definitions that the
 -- contracts of both halves go by: request_of and read_reply at the host, ask_in and respond at the card. Assumes nothing.
-use Rattle.std.specs.Prelude.{◌≡◌, Bool, true, List, [], ℕ, ◌+◌, ◌%◌, ◌≤◌, ◌<◌, leb, ltb, eqb, length}
+use Rattle.std.specs.Prelude.{Option, ◌≡◌, Bool, true, List, [], ℕ, ◌+◌, ◌%◌, ◌≤◌, ◌<◌, leb, ltb, eqb, length}
 use Rattle.theory.specs.Logic.{when◌then◌else◌, ◌and◌, ◌or◌}
 use Rattle.protocol.specs.declared.Answer.{Answer}
 use Rattle.protocol.specs.declared.ReadOp.TheVariants.{QueryObject, GetMetadata, GetSelected, GetAll}
@@ -19,7 +19,7 @@ use Rattle.reply.specs.Reply.{head_size, final_of}
 use Rattle.admin.specs.Command.{ask_in, Effect, perform, respond}
 use Rattle.host.specs.declared.Command.{Command}
 use Rattle.host.specs.declared.Command.TheVariants as host
-use Rattle.host.specs.declared.Outcome.{Outcome}
+use Rattle.host.specs.declared.Head.{Head}
 use Rattle.host.specs.Request.{sent_of, request_of}
 use Rattle.host.specs.Reply.{result_in, answered, read_reply}
 
@@ -82,7 +82,7 @@ abbrev pub answer_in : List ℕ → List ℕ → ℕ → Answer
 answer_in c r room = final_of (effect_in c r).outcome (length (effect_in c r).result) room
 
 -- an answer as the host reads it: the numbers to act on are those that were sent
-abbrev pub told : Answer → Outcome
+abbrev pub told : Answer → Option Head
 told a = answered (status_of a) (qualifier_of a) (status_of a) (qualifier_of a)
 
 -- the card's own status, qualifier and result

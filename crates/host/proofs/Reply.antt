@@ -2,6 +2,7 @@
 use mathlib.Core.Path.{◌≡◌, refl, sym, ◌∙◌}
 use mathlib.Core.Bool.{Bool, true, false, not}
 use mathlib.Core.List.{List}
+use Rattle.std.specs.Prelude.{None}
 use Prim.Native.Nat.{ℕ, ◌+◌, ◌*◌, ◌≤◌, ◌<◌}
 use native.Mathlib.Omega.{arith}
 use borrow.Author.Tests.{ne_eqb, le-leb, not-true, not-false}
@@ -13,7 +14,6 @@ use Rattle.protocol.specs.Opcodes.{supported}
 use Rattle.inventory.specs.Header.{header_size}
 use Rattle.reply.specs.Reply.{head_size}
 use Rattle.host.specs.declared.ResultForm.{ResultForm}
-use Rattle.host.specs.declared.Outcome.TheVariants.{Refused}
 use Rattle.host.specs.Reply.{form_of, count_fits, result_fits, length_right, handled_status, handled_qualifier, answered, read_reply}
 
 -- ---- a list by its count ----
@@ -40,7 +40,7 @@ module _ (op what : ℕ) (r : List ℕ) (t b : Bool) (status : ℕ) (form : Resu
   right_is : length_right (form_of op what) (number 0 2 r) r ≡ b
   right_is = sym (e₅ ∙ rw (e₃, e₄))
 
-  pub wrong-length : not b ≡ true → Refused ≡ read_reply op what r
+  pub wrong-length : not b ≡ true → None ≡ read_reply op what r
   unfolding read_reply
   wrong-length n =
       pass _ _ _ _ (said-true _ t e₁ e₂) (pass _ _ _ _ (le-leb head_size (length r) h) (stop _ _ _ _ (right_is ∙ not-true b n) refl))

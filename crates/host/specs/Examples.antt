@@ -1,11 +1,10 @@
 -- WORKED EXAMPLES of the host's half: all bytes of a request of each command, and replies that are read and refused. What
 -- no card looks at, such as a reserved byte, and what no card sends, such as a status of its own, shows here alone.
 -- Assumes nothing.
-use Rattle.std.specs.Prelude.{◌≡◌, List, [], ◌∷◌, ◌++◌, map, ℕ, replicate}
+use Rattle.std.specs.Prelude.{Option, None, ◌≡◌, List, [], ◌∷◌, ◌++◌, map, ℕ, replicate}
 use Rattle.host.specs.declared.Command.{Command}
 use Rattle.host.specs.declared.Command.TheVariants.{ListQuery, ListUse, Create, Modify, Query, Destroy, Metadata, Get, Set, SetMode}
-use Rattle.host.specs.declared.Outcome.{Outcome}
-use Rattle.host.specs.declared.Outcome.TheVariants.{Refused}
+use Rattle.host.specs.declared.Head.{Head}
 use Rattle.host.specs.Request.{request_of}
 use Rattle.host.specs.Reply.{answered, read_reply}
 
@@ -65,10 +64,10 @@ pub record ReadBack : Type 0 where
   pub opcode : ℕ
   pub type : ℕ
   pub reply : List ℕ
-  pub outcome : Outcome
+  pub head : Option Head
 
-abbrev pub reads : ℕ → ℕ → List ℕ → Outcome → ReadBack
-reads op what reply o = record { opcode = op; type = what; reply = reply; outcome = o }
+abbrev pub reads : ℕ → ℕ → List ℕ → Option Head → ReadBack
+reads op what reply h = record { opcode = op; type = what; reply = reply; head = h }
 
 -- status and qualifier of one byte each, four zero bytes, the result
 abbrev pub reply : ℕ → ℕ → List ℕ → List ℕ
@@ -81,18 +80,18 @@ part_header n = 0xff ∷ 0xff ∷ zeros 10 ++ (n ∷ zeros 3)
 unfoldable pub replies : List ReadBack
 replies =
     -- under 8 bytes, and the exact lengths
-    reads 0x00 0 [] Refused
-    ∷ reads 0x00 0 (zeros 7) Refused
+    reads 0x00 0 [] None
+    ∷ reads 0x00 0 (zeros 7) None
     ∷ reads 0x00 0 (reply 0 0 (zeros 8)) (answered 0 0 0 0)
-    ∷ reads 0x00 0 (reply 0 0 (zeros 7)) Refused
-    ∷ reads 0x0c 0 (reply 0 0 (zeros 9)) Refused
+    ∷ reads 0x00 0 (reply 0 0 (zeros 7)) None
+    ∷ reads 0x0c 0 (reply 0 0 (zeros 9)) None
     ∷ reads 0x0d 0 (reply 0 0 []) (answered 0 0 0 0)
-    ∷ reads 0x10 0 (reply 0 0 (0 ∷ [])) Refused
+    ∷ reads 0x10 0 (reply 0 0 (0 ∷ [])) None
     ∷ reads 0x0c 0 (reply 22 3 []) (answered 22 3 22 3)
-    ∷ reads 0x0c 0 (reply 22 3 (zeros 8)) Refused
+    ∷ reads 0x0c 0 (reply 22 3 (zeros 8)) None
     -- none of the ten commands
-    ∷ reads 0x02 0 (reply 22 2 []) Refused
-    ∷ reads 0x10a 0 (reply 0 0 []) Refused
+    ∷ reads 0x02 0 (reply 22 2 []) None
+    ∷ reads 0x10a 0 (reply 0 0 []) None
     -- status and qualifier are judged each for itself, all 16 bits of them
     ∷ reads 0x0f 0 (reply 99 200 []) (answered 22 1 99 200)
     ∷ reads 0x0f 0 (reply 6 8 []) (answered 6 1 6 8)
@@ -107,15 +106,15 @@ replies =
     ∷ reads 0x0e 3 (reply 0 0 (zeros 8)) (answered 0 0 0 0)
     ∷ reads 0x0e 2 (reply 0 0 (zeros 8)) (answered 0 0 0 0)
     ∷ reads 0x0e 2 (reply 0 0 (1 ∷ zeros 23)) (answered 0 0 0 0)
-    ∷ reads 0x0e 2 (reply 0 0 (1 ∷ zeros 7)) Refused
-    ∷ reads 0x0e 2 (reply 0 0 (0 ∷ 0 ∷ 0 ∷ 0x10 ∷ zeros 4)) Refused
-    ∷ reads 0x0e 2 (reply 0 0 []) Refused
+    ∷ reads 0x0e 2 (reply 0 0 (1 ∷ zeros 7)) None
+    ∷ reads 0x0e 2 (reply 0 0 (0 ∷ 0 ∷ 0 ∷ 0x10 ∷ zeros 4)) None
+    ∷ reads 0x0e 2 (reply 0 0 []) None
     -- parts get: none, whole ones, a value that is missing, a header that is cut
     ∷ reads 0x0f 0 (reply 0 0 []) (answered 0 0 0 0)
     ∷ reads 0x0f 1 (reply 0 0 (part_header 1 ++ (5 ∷ part_header 0))) (answered 0 0 0 0)
-    ∷ reads 0x0f 0 (reply 0 0 (part_header 1)) Refused
-    ∷ reads 0x0f 0 (reply 0 0 (part_header 0 ++ zeros 15)) Refused
+    ∷ reads 0x0f 0 (reply 0 0 (part_header 1)) None
+    ∷ reads 0x0f 0 (reply 0 0 (part_header 0 ++ zeros 15)) None
     ∷ []
 
 abbrev pub RepliesRead : Type 0
-RepliesRead = map (λ (r : ReadBack). read_reply r.opcode r.type r.reply) replies ≡ map (λ (r : ReadBack). r.outcome) replies
+RepliesRead = map (λ (r : ReadBack). read_reply r.opcode r.type r.reply) replies ≡ map (λ (r : ReadBack). r.head) replies

@@ -1,5 +1,5 @@
 -- A reply read as the answer to the command sent: SPEC 3, 4 and 13.1. Assumes nothing.
-use Rattle.std.specs.Prelude.{Bool, List, ℕ, ◌+◌, ◌*◌, leb, eqb, length, drop}
+use Rattle.std.specs.Prelude.{Bool, Option, None, Some, List, ℕ, ◌+◌, ◌*◌, leb, eqb, length, drop}
 use Rattle.theory.specs.Logic.{when◌then◌else◌, unless◌answer◌then◌, ◌or◌}
 use Rattle.wire.specs.Le.{number}
 use Rattle.protocol.specs.Opcodes.{supported}
@@ -9,8 +9,7 @@ use Rattle.parts.specs.List.{parts_of, whole}
 use Rattle.reply.specs.Reply.{head_size}
 use Rattle.host.specs.declared.ResultForm.{ResultForm}
 use Rattle.host.specs.declared.ResultForm.TheVariants.{Exactly, Counted, WholeParts}
-use Rattle.host.specs.declared.Outcome.{Outcome}
-use Rattle.host.specs.declared.Outcome.TheVariants.{Refused, Answered}
+use Rattle.host.specs.declared.Head.{Head}
 
 -- ---- the length of a reply ----
 
@@ -64,8 +63,8 @@ handled_qualifier n = when leb n 7 then n else 1
 -- ---- what is read ----
 
 -- status and qualifier to act on, beside the numbers that were sent
-abbrev pub answered : ℕ → ℕ → ℕ → ℕ → Outcome
-answered status qualifier sent_status sent_qualifier = Answered (record {
+abbrev pub answered : ℕ → ℕ → ℕ → ℕ → Option Head
+answered status qualifier sent_status sent_qualifier = Some (record {
   status = status;
   qualifier = qualifier;
   sent_status = sent_status;
@@ -74,9 +73,9 @@ answered status qualifier sent_status sent_qualifier = Answered (record {
 
 -- refused is a reply under 8 bytes or of the wrong length for its command and status; an opcode that is none of the ten
 -- is no command. The result is result_in
-unfoldable pub read_reply : ℕ → ℕ → List ℕ → Outcome
+unfoldable pub read_reply : ℕ → ℕ → List ℕ → Option Head
 read_reply op what r =
-    unless supported op answer Refused then
-    unless leb head_size (length r) answer Refused then
-    unless length_right (form_of op what) (status_in r) r answer Refused then
+    unless supported op answer None then
+    unless leb head_size (length r) answer None then
+    unless length_right (form_of op what) (status_in r) r answer None then
     answered (handled_status (status_in r)) (handled_qualifier (qualifier_in r)) (status_in r) (qualifier_in r)

@@ -46,8 +46,8 @@ pub enum ResultForm {
     WholeParts,
 }
 
-// Status and qualifier to act on, and both as they were sent.
-#[derive(Clone, Copy)]
+// What a reply says: status and qualifier to act on, and both as they were sent.
+#[derive(Clone, Copy, Debug, PartialEq, Eq)]
 pub struct Head {
     pub status: u16,
     pub qualifier: u16,
@@ -55,22 +55,15 @@ pub struct Head {
     pub sent_qualifier: u16,
 }
 
-// Refused is a reply under 8 bytes or of the wrong length for its command and status, and one to no command.
-#[derive(Clone, Copy)]
-pub enum Outcome {
-    Refused,
-    Answered(Head),
-}
-
 fn fields(opcode: u16, member: u64, id: u32, place: usize, value: u64) -> Sent
     ensures { result ≡ sent opcode member id place value }
 {
     Sent {
-        opcode: opcode,
-        member: member,
-        id: id,
-        place: place,
-        value: value,
+        opcode,
+        member,
+        id,
+        place,
+        value,
     }
 }
 
@@ -202,22 +195,13 @@ pub fn set_mode(out: &mut [u8], member: u64, mode: u8) -> usize
 fn form_of(op: u16, what: u8) -> ResultForm
     ensures { result ≡ form_of op what }
 {
-    if op == 0x00 {
-        return ResultForm::Exactly(8);
+    match op {
+        0x00 | 0x0c => ResultForm::Exactly(8),
+        0x0e if what == 2 => ResultForm::Counted,
+        0x0e => ResultForm::Exactly(8),
+        0x0f => ResultForm::WholeParts,
+        _ => ResultForm::Exactly(0),
     }
-    if op == 0x0c {
-        return ResultForm::Exactly(8);
-    }
-    if op == 0x0e {
-        if what == 2 {
-            return ResultForm::Counted;
-        }
-        return ResultForm::Exactly(8);
-    }
-    if op == 0x0f {
-        return ResultForm::WholeParts;
-    }
-    ResultForm::Exactly(0)
 }
 
 fn count_fits(res: &[u8]) -> bool
@@ -261,7 +245,7 @@ fn length_right(form: ResultForm, status: u16, reply: &[u8]) -> bool
 fn known_status(n: u16) -> bool
     ensures { result ≡ known_status n }
 {
-    (n == 0) | (n == 6) | (n == 11) | (n == 12) | (n == 17) | (n == 22) | (n == 28)
+    matches!(n, 0 | 6 | 11 | 12 | 17 | 22 | 28)
 }
 
 fn handled_status(n: u16) -> u16
@@ -276,21 +260,23 @@ fn handled_qualifier(n: u16) -> u16
     if n <= 7 { n } else { 1 }
 }
 
-pub fn read_reply(op: u16, what: u8, reply: &[u8]) -> Outcome
+// The head of a reply; none where it is refused: it has under 8 bytes or the wrong length for its command and status, or
+// answers no command.
+pub fn read_reply(op: u16, what: u8, reply: &[u8]) -> Option<Head>
     ensures { result ≡ read_reply op what reply.now }
 {
     if !protocol::supported(op as usize) {
-        return Outcome::Refused;
+        return None;
     }
     if reply.len() < reply::HEAD_SIZE {
-        return Outcome::Refused;
+        return None;
     }
     let status = wire::read_u16(reply, 0);
     if !length_right(form_of(op, what), status, reply) {
-        return Outcome::Refused;
+        return None;
     }
     let qualifier = wire::read_u16(reply, 2);
-    Outcome::Answered(Head {
+    Some(Head {
         status: handled_status(status),
         qualifier: handled_qualifier(qualifier),
         sent_status: status,

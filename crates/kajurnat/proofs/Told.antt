@@ -2,17 +2,16 @@
 use mathlib.Core.Path.{◌≡◌}
 use Prim.Native.Nat.{ℕ}
 use Rattle.host.specs.declared.Head.{Head}
-use Rattle.host.specs.declared.Outcome.{Outcome}
-use Rattle.host.specs.declared.Outcome.TheVariants.{Refused, Answered}
+use Rattle.std.specs.Prelude.{Option, None, Some}
 use Rattle.kajurnat.specs.Told.{told}
 
 -- x is what was read, y what the definition gives
-module _ (x y : Outcome) (s q t p : ℕ) (e : x ≡ y) where
-  pub told-refused : x ≡ Refused → ◌≡◌ {A = ℕ × (ℕ × (ℕ × (ℕ × ℕ)))} (1, (s, (q, (t, p)))) (told y s q t p)
+module _ (x y : Option Head) (s q t p : ℕ) (e : x ≡ y) where
+  pub told-none : x ≡ None → ◌≡◌ {A = ℕ × (ℕ × (ℕ × (ℕ × ℕ)))} (1, (s, (q, (t, p)))) (told y s q t p)
   unfolding told
-  told-refused r = rw (← e, r)
+  told-none r = rw (← e, r)
 
-  pub told-answered : (h : Head) → x ≡ Answered h
+  pub told-some : (h : Head) → x ≡ Some h
       → ◌≡◌ {A = ℕ × (ℕ × (ℕ × (ℕ × ℕ)))} (0, (h.status, (h.qualifier, (h.sent_status, h.sent_qualifier)))) (told y s q t p)
   unfolding told
-  told-answered h r = rw (← e, r)
+  told-some h r = rw (← e, r)

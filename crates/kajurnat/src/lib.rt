@@ -22,7 +22,7 @@ ghost use Rattle.salvage.specs.Salvage.{salvage, salvage_under};
 ghost use Rattle.kajurnat.specs.Told.{told};
 ghost use Rattle.kajurnat.specs.SetupTold.{setup_told};
 
-use host::{Command, Outcome};
+use host::Command;
 use setups::ReadOutcome;
 
 // Raised whenever a card's bytes change their meaning: a card that was kept is for the same version.
@@ -325,8 +325,8 @@ pub fn kajurnat_reply_read(
     ensures { (result, (status.new, (qualifier.new, (sent_status.new, sent_qualifier.new)))) ≡ told (read_reply opcode what reply.now) status.old qualifier.old sent_status.old sent_qualifier.old }
 {
     match host::read_reply(opcode, what, reply) {
-        Outcome::Refused => 1,
-        Outcome::Answered(h) => {
+        None => 1,
+        Some(h) => {
             *status = h.status;
             *qualifier = h.qualifier;
             *sent_status = h.sent_status;

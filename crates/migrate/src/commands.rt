@@ -1,5 +1,4 @@
 // Commands and card events, and how they went.
-use host::Outcome;
 use std::io;
 use transcript::Request;
 
@@ -22,8 +21,8 @@ fn show_status(rt: &impl Print, request: &[u8], reply: &[u8]) -> io::Result<()> 
         return Ok(());
     }
     match host::read_reply(wire::read_u16(request, 0), 0, reply) {
-        Outcome::Refused => transcript::print(rt, b"no reply to it"),
-        Outcome::Answered(head) => name_status(rt, head.status),
+        None => transcript::print(rt, b"no reply to it"),
+        Some(head) => name_status(rt, head.status),
     }
 }
 

@@ -1,27 +1,25 @@
-use Rattle.theory.proofs.Ladder.{ladder}
+use Rattle.std.proofs.Common.{arith}
+use Rattle.std.proofs.lemmas.Bool.Decides.{nat_tests}
+use Rattle.theory.specs.Logic.{when◌then◌else◌}
 use Rattle.host.specs.Reply.{form_of}
 use Rattle.host.proofs.form_of.Goals as goal
 
-pub returns-then-op-eq0 : goal.returns-then-op-eq0
-unfolding form_of
-returns-then-op-eq0 c = search ladder depth 9
+pub returns-in-0 : goal.returns-in-0
+unfolding form_of when◌then◌else◌
+returns-in-0 c = grind (arith, nat_tests)
 
-pub returns-then-op-eq12 : goal.returns-then-op-eq12
-unfolding form_of
-returns-then-op-eq12 c = search ladder depth 9
+pub returns-in-14 : goal.returns-in-14
+unfolding form_of when◌then◌else◌
+returns-in-14 c = grind (arith, nat_tests)
 
-pub returns-then-what-eq2 : goal.returns-then-what-eq2
-unfolding form_of
-returns-then-what-eq2 c = search ladder depth 9
+pub returns-in-14-2 : goal.returns-in-14-2
+unfolding form_of when◌then◌else◌
+returns-in-14-2 c = grind (arith, nat_tests)
 
-pub returns-then-op-eq14 : goal.returns-then-op-eq14
-unfolding form_of
-returns-then-op-eq14 c = search ladder depth 9
+pub returns-in-15 : goal.returns-in-15
+unfolding form_of when◌then◌else◌
+returns-in-15 c = grind (arith, nat_tests)
 
-pub returns-then-op-eq15 : goal.returns-then-op-eq15
-unfolding form_of
-returns-then-op-eq15 c = search ladder depth 9
-
-pub returns : goal.returns
-unfolding form_of
-returns c = search ladder depth 9
+pub returns-in_default : goal.returns-in_default
+unfolding form_of when◌then◌else◌
+returns-in_default c = grind (arith, nat_tests)

@@ -1,9 +1,9 @@
 use borrow.Author.Rules.{rules}
-use Rattle.kajurnat.proofs.Told.{told-refused, told-answered}
+use Rattle.kajurnat.proofs.Told.{told-none, told-some}
 use Rattle.kajurnat.proofs.kajurnat_reply_read.Goals as goal
 
-pub returns-in-Refused : goal.returns-in-Refused
-returns-in-Refused c = search (rules, told-refused)
+pub returns-in-None : goal.returns-in-None
+returns-in-None c = search (rules, told-none)
 
-pub returns-in-Answered : goal.returns-in-Answered
-returns-in-Answered c = search (rules, told-answered)
+pub returns-in-Some : goal.returns-in-Some
+returns-in-Some c = search (rules, told-some)
