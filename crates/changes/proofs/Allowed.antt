@@ -4,9 +4,9 @@ use mathlib.Core.Bool.{true}
 use mathlib.Core.List.{List}
 use Prim.Native.Nat.{ℕ}
 use lib.ListN.{length}
+use Rattle.std.specs.Prelude.{Some}
 use Rattle.theory.specs.Logic.{◌or◌}
 use Rattle.theory.proofs.Tests.{both}
-use Rattle.inventory.specs.declared.Place.TheVariants.{At}
 use Rattle.inventory.specs.Inventory.{values_size, place_of}
 use Rattle.inventory.specs.Queue.{value_allowed, queues_allowed}
 use Rattle.parts.specs.List.{Part, PartList, end, cut, part}
@@ -15,7 +15,7 @@ use Rattle.rules.proofs.Accepted.{accepts}
 use Rattle.values.specs.Apply.{stored, applied}
 use Rattle.values.proofs.Kept.{stored-length, stored-allowed}
 
-part-allowed : (q : ℕ) (p : Part) → size_right q p ≡ true → (i : ℕ) → place_of q p.part_type p.selector ≡ At i
+part-allowed : (q : ℕ) (p : Part) → size_right q p ≡ true → (i : ℕ) → place_of q p.part_type p.selector ≡ Some i
     → value_allowed p.part_type p.value ≡ true
 unfolding size_right known ◌or◌
 part-allowed q p h i e = rw e at h

@@ -8,6 +8,7 @@ use native.Mathlib.Omega.{arith}
 use borrow.Author.Tests.{ltb-true, eqb-true, eq-eqb, ne_eqb, lt-ltb}
 use lib.Dec.{leb, ltb, eqb}
 use lib.ListN.{length, get_or, length-append}
+use Rattle.std.specs.Prelude.{Option, Some, None}
 use Rattle.theory.specs.Logic.{when◌then◌else◌, unless◌answer◌then◌, ◌and◌}
 use Rattle.theory.proofs.Tests.{by_cases, both, never, unless-cases, within-high}
 use Rattle.wire.specs.Le.{bytes}
@@ -17,8 +18,6 @@ use Rattle.protocol.specs.declared.EventAnswer.TheVariants as event
 use Rattle.protocol.specs.declared.EventAnswer.TheVariants.{Done, NotSound, NoMember, NoPart, WrongLength, BadQueueSize}
 use Rattle.protocol.specs.Answers.{event_number, is_event_done}
 use Rattle.inventory.specs.Inventory.{row_at, value_of, selector_of, place_of, on_place}
-use Rattle.inventory.specs.declared.Place.{Place}
-use Rattle.inventory.specs.declared.Place.TheVariants.{At, Absent}
 use Rattle.inventory.specs.Queue.{value_allowed}
 use Rattle.inventory.proofs.Find.{place_found}
 use Rattle.inventory.proofs.Values.{own_value}
@@ -80,11 +79,11 @@ load-in-done : (x : Member) (t s : ℕ) (b : List ℕ)
 unfolding load_in unless◌answer◌then◌
 load-in-done x t s b = cases (place_of x.queues t s)
   where
-    cases : (p : Place)
+    cases : (p : Option ℕ)
         → is_event_done (on_place {A = EventAnswer × List ℕ} p (λ i. unless eqb (length b) (row_at i).size answer (WrongLength, b) then (Done, value_of x.values i)) (NoPart, b)).0
         ≡ on_place p (λ i. eqb (length b) (row_at i).size) false
-    cases (At i) = by_cases (eqb (length b) (row_at i).size) (λ e. rw e) (λ e. rw e)
-    cases Absent = refl
+    cases (Some i) = by_cases (eqb (length b) (row_at i).size) (λ e. rw e) (λ e. rw e)
+    cases None = refl
 
 -- a packed setup has at least its features
 some-packed : (c : List ℕ) → length (setup_of c).features ≡ features_size → features_size ≤ length (packed_of c)
@@ -170,7 +169,7 @@ module _ (d : List ℕ) (m : ℕ) (s : is_sound d ≡ true) (h : is_member d m �
   load-on t k b = rw (← e) (call-on d m _ b s h)
 
 -- of a part that it has
-load-in-at : (y : Member) (t s i : ℕ) (b : List ℕ) → place_of y.queues t s ≡ At i → length b ≡ (row_at i).size
+load-in-at : (y : Member) (t s i : ℕ) (b : List ℕ) → place_of y.queues t s ≡ Some i → length b ≡ (row_at i).size
     → load_in y t s b ≡ (Done, value_of y.values i)
 unfolding load_in unless◌answer◌then◌
 load-in-at y t s i b p l = rw (p, eq-eqb _ _ l)
@@ -189,7 +188,7 @@ number-zero event.WrongMark e n = absurd (omega arith)
 -- the part of a store that is done
 pub record Storable (q t s : ℕ) (x : List ℕ) : Type 0 where
   pub row : ℕ
-  pub place : place_of q t s ≡ At row
+  pub place : place_of q t s ≡ Some row
   pub later : 0 < row
   pub fits : length x ≡ (row_at row).size
 
@@ -200,7 +199,7 @@ storable-at q t s x = cases (place_of q t s) refl
     Says : EventAnswer → Type 0
     Says a = is_event_done a ≡ true → Storable q t s x
 
-    cases : (p : Place) → place_of q t s ≡ p
+    cases : (p : Option ℕ) → place_of q t s ≡ p
         → Says (on_place p
         (λ i.
         unless ltb 0 i answer NoPart then
@@ -208,12 +207,12 @@ storable-at q t s x = cases (place_of q t s) refl
         unless value_allowed t x answer BadQueueSize then
         Done)
         NoPart)
-    cases (At i) e =
+    cases (Some i) e =
         unless-cases Says _ _ _ (λ u k. never k) λ u.
         unless-cases Says _ _ _ (λ v k. never k) λ v.
         unless-cases Says _ _ _ (λ w k. never k) λ w k.
         record { row = i; place = e; later = ltb-true 0 i u; fits = eqb-true _ _ v }
-    cases Absent e = λ k. never k
+    cases None e = λ k. never k
 
 -- the card after a store that is done, and the member in it
 module _ (c : List ℕ) (m t s : ℕ) (x : List ℕ) where
@@ -291,15 +290,15 @@ module _ (c : List ℕ) (m j : ℕ) (x : Settable c m j) (list : List ℕ) (shor
 -- the part that a load of n bytes is of
 pub record Loadable (q t s n : ℕ) : Type 0 where
   pub row : ℕ
-  pub place : place_of q t s ≡ At row
+  pub place : place_of q t s ≡ Some row
   pub fits : n ≡ (row_at row).size
 
 loadable-at : (q t s n : ℕ) → on_place (place_of q t s) (λ i. eqb n (row_at i).size) false ≡ true → Loadable q t s n
 loadable-at q t s n = cases (place_of q t s) refl
   where
-    cases : (p : Place) → place_of q t s ≡ p → on_place p (λ i. eqb n (row_at i).size) false ≡ true → Loadable q t s n
-    cases (At i) e k = record { row = i; place = e; fits = eqb-true _ _ k }
-    cases Absent e k = never k
+    cases : (p : Option ℕ) → place_of q t s ≡ p → on_place p (λ i. eqb n (row_at i).size) false ≡ true → Loadable q t s n
+    cases (Some i) e k = record { row = i; place = e; fits = eqb-true _ _ k }
+    cases None e k = never k
 
 module _ (c : List ℕ) (m : ℕ) (s : is_sound c ≡ true) (h : is_member c m ≡ true) (t k : ℕ) (b : List ℕ) where
   loads-part : is_event_done (load c m t k b).0 ≡ true → Loadable (member_in c m).queues t (selector_of t k) (length b)

@@ -7,6 +7,7 @@ use native.Mathlib.Omega.{arith}
 use borrow.Author.Tests.{eqb-true, ltb-true}
 use lib.Dec.{ltb, eqb}
 use lib.ListN.{length, take}
+use Rattle.std.specs.Prelude.{Option, Some, None}
 use Rattle.theory.specs.Logic.{◌and◌, ◌or◌}
 use Rattle.theory.specs.Bytes.{bytes_at, same}
 use Rattle.theory.specs.Items.{items_from}
@@ -15,8 +16,6 @@ use Rattle.theory.proofs.Table.{every, at}
 use Rattle.wire.specs.Le.{bytes}
 use Rattle.inventory.specs.Inventory.{Row, rows, row_at, row_count, present, part_count, place_of}
 use Rattle.inventory.specs.Header.{header_of, header_size}
-use Rattle.inventory.specs.declared.Place.{Place}
-use Rattle.inventory.specs.declared.Place.TheVariants.{At, Absent}
 use Rattle.inventory.proofs.Rules.{table, every-row, every-count}
 use Rattle.inventory.proofs.Find.{place_found, own-place}
 use Rattle.capture.specs.Capture.{header_item, headers_of}
@@ -49,7 +48,7 @@ module _ (q : ℕ) (h : q ≤ 4) where
 
   -- the row of a part is found
   module _ (p : ℕ) (l : p < part_count q) where
-    row-found : place_of q (row_at (row_of q p)).part_type (row_at (row_of q p)).selector ≡ At (row_of q p)
+    row-found : place_of q (row_at (row_of q p)).part_type (row_at (row_of q p)).selector ≡ Some (row_of q p)
     unfolding is_part
     row-found =
         let a = both _ _ (both _ _ (part-is p l)).0 in
@@ -59,31 +58,31 @@ module _ (q : ℕ) (h : q ≤ 4) where
     unfolding is_part
     header_is = same_true _ _ (both _ _ (part-is p l)).1
 
-    found-has : (t s : ℕ) → place_of q t s ≡ At (row_of q p) → Has q t s p
+    found-has : (t s : ℕ) → place_of q t s ≡ Some (row_of q p) → Has q t s p
     found-has t s e =
         let f = place_found q t s (row_of q p) e in
         record { type-is = f.type-is; selector-is = f.selector-is }
 
-    has-found : (t s : ℕ) → Has q t s p → place_of q t s ≡ At (row_of q p)
+    has-found : (t s : ℕ) → Has q t s p → place_of q t s ≡ Some (row_of q p)
     has-found t s x = rw (← x.type-is, ← x.selector-is) row-found
 
-    has-place : (t s : ℕ) → place_of q t s ≡ Absent → Has q t s p → ⊥
+    has-place : (t s : ℕ) → place_of q t s ≡ None → Has q t s p → ⊥
     has-place t s e x =
-        let both_ways : Absent ≡ At (row_of q p) = sym e ∙ has-found t s x in
+        let both_ways : None ≡ Some (row_of q p) = sym e ∙ has-found t s x in
         never cc
 
   -- a row that is found is that of a part
-  found_part : (t s i : ℕ) → ((p : ℕ) → p < part_count q → Has q t s p → ⊥) → place_of q t s ≡ At i → ⊥
+  found_part : (t s i : ℕ) → ((p : ℕ) → p < part_count q → Has q t s p → ⊥) → place_of q t s ≡ Some i → ⊥
   unfolding is_numbered ◌or◌
   found_part t s i none e =
       let f = place_found q t s i e in
       let n = both _ _ (rw f.there at (numbered i f.below)) in
       let l = ltb-true _ _ n.0 in
-      none (number_of q i) l (found-has (number_of q i) l t s (e ∙ ap At (sym (eqb-true _ _ n.1))))
+      none (number_of q i) l (found-has (number_of q i) l t s (e ∙ ap Some (sym (eqb-true _ _ n.1))))
 
-  none-absent : (t s : ℕ) (r : Place) → place_of q t s ≡ r → ((p : ℕ) → p < part_count q → Has q t s p → ⊥) → r ≡ Absent
-  none-absent t s (At i) e none = absurd (found_part t s i none e)
-  none-absent t s Absent e none = refl
+  none-absent : (t s : ℕ) (r : Option ℕ) → place_of q t s ≡ r → ((p : ℕ) → p < part_count q → Has q t s p → ⊥) → r ≡ None
+  none-absent t s (Some i) e none = absurd (found_part t s i none e)
+  none-absent t s None e none = refl
 
 pub places-found : PlacesFound
 places-found q l h = record {

@@ -5,12 +5,11 @@ use Prim.Native.Nat.{ℕ, zero, suc, ◌+◌, ◌*◌, ◌%◌, ◌≤◌, ◌<�
 use native.Mathlib.Omega.{arith}
 use borrow.Author.Tests.{eqb-true, eqb-false, ltb-true, lt-ltb}
 use lib.Dec.{ltb, eqb}
+use Rattle.std.specs.Prelude.{Option, Some, None}
 use Rattle.theory.specs.Logic.{when◌then◌else◌, ◌or◌}
 use Rattle.theory.proofs.Tests.{by_cases, never, tests}
 use Rattle.inventory.specs.Inventory.{row_at, offset_of, selector_of, place_of}
 use Rattle.inventory.specs.Worked.{nth_of, field_at, queue_rows}
-use Rattle.inventory.specs.declared.Place.{Place}
-use Rattle.inventory.specs.declared.Place.TheVariants.{At, Absent}
 use Rattle.inventory.proofs.Rules.{table}
 use Rattle.inventory.proofs.Worked.{in-queues, in-notifies, in-status, in-driver, in-features, in-fields, no_rows}
 use Rattle.demands.specs.Stores.{Part, driver_features, field0, field8, field16, field22, device_status, queue, queue_notify}
@@ -20,7 +19,7 @@ use Rattle.demands.specs.Stores.{Part, driver_features, field0, field8, field16,
 -- the row of a part
 pub record RowOf (q t s n at : ℕ) : Type 0 where
   pub index : ℕ
-  pub place : place_of q t (selector_of t s) ≡ At index
+  pub place : place_of q t (selector_of t s) ≡ Some index
   pub later : 0 < index
   pub size : (row_at index).size ≡ n
   pub offset : offset_of index ≡ at
@@ -43,22 +42,22 @@ notify-rows (suc (suc (suc zero))) h = (refl, refl)
 notify-rows (suc (suc (suc (suc k)))) h = absurd (omega arith)
 
 -- the n-th of them, if the member has it
-nth-there : (first q n : ℕ) → n < q → q ≤ 4 → nth_of first (queue_rows q) n ≡ At (first + n)
+nth-there : (first q n : ℕ) → n < q → q ≤ 4 → nth_of first (queue_rows q) n ≡ Some (first + n)
 unfolding nth_of queue_rows when◌then◌else◌
 nth-there first q n h l =
     by_cases (ltb q 4) (λ e. rw (e, lt-ltb n q h)) (λ e. rw (e, lt-ltb n 4 (omega arith)))
 
-nth-below : (first q n i : ℕ) → q ≤ 4 → nth_of first (queue_rows q) n ≡ At i → (n < q) × (first + n ≡ i)
+nth-below : (first q n i : ℕ) → q ≤ 4 → nth_of first (queue_rows q) n ≡ Some i → (n < q) × (first + n ≡ i)
 unfolding nth_of queue_rows when◌then◌else◌
 nth-below first q n i l e =
     let k : (ltb n q ≡ true → (n < q) × (first + n ≡ i)) → (ltb n q ≡ false → (n < q) × (first + n ≡ i))
     → (n < q) × (first + n ≡ i) = by_cases (ltb n q) in
     by_cases (ltb q 4)
-    (λ a. k (λ b. (ltb-true n q b, let d : At (first + n) ≡ At i = rw (a, b) at e in cc)) (λ b. let d : Absent
-    ≡ At i = rw (a, b) at e in never cc))
+    (λ a. k (λ b. (ltb-true n q b, let d : Some (first + n) ≡ Some i = rw (a, b) at e in cc)) (λ b. let d : None
+    ≡ Some i = rw (a, b) at e in never cc))
     (λ a. by_cases (ltb n 4)
-    (λ b. (omega tests, let d : At (first + n) ≡ At i = rw (a, b) at e in cc))
-    (λ b. let d : Absent ≡ At i = rw (a, b) at e in never cc))
+    (λ b. (omega tests, let d : Some (first + n) ≡ Some i = rw (a, b) at e in cc))
+    (λ b. let d : None ≡ Some i = rw (a, b) at e in never cc))
 
 -- the place of each type
 module _ (q s : ℕ) where
@@ -74,24 +73,24 @@ module _ (q s : ℕ) where
   unfolding selector_of when◌then◌else◌
   place-field k e = sym (in-fields q 0x102 (s % 4294967296) (field_at (s % 4294967296)) refl refl) ∙ ap field_at e
 
-  place-status : place_of q 0x103 (selector_of 0x103 s) ≡ At 6
+  place-status : place_of q 0x103 (selector_of 0x103 s) ≡ Some 6
   unfolding selector_of nth_of when◌then◌else◌ ◌or◌
-  place-status = sym (in-status q 0x103 0 (At 6) refl refl)
+  place-status = sym (in-status q 0x103 0 (Some 6) refl refl)
 
-  place-driver : place_of q 0x101 (selector_of 0x101 s) ≡ At 1
+  place-driver : place_of q 0x101 (selector_of 0x101 s) ≡ Some 1
   unfolding selector_of nth_of when◌then◌else◌ ◌or◌
-  place-driver = sym (in-driver q 0x101 0 (At 1) refl refl)
+  place-driver = sym (in-driver q 0x101 0 (Some 1) refl refl)
 
-  place-features : place_of q 0x100 (selector_of 0x100 s) ≡ At 0
+  place-features : place_of q 0x100 (selector_of 0x100 s) ≡ Some 0
   unfolding selector_of nth_of when◌then◌else◌ ◌or◌
-  place-features = sym (in-features q 0x100 0 (At 0) refl refl)
+  place-features = sym (in-features q 0x100 0 (Some 0) refl refl)
 
 -- row i, which a place names
-row_is : (p : Place) (i k : ℕ) → p ≡ At k → p ≡ At i → k ≡ i
-row_is p i k e f = let d : At k ≡ At i = sym e ∙ f in cc
+row_is : (p : Option ℕ) (i k : ℕ) → p ≡ Some k → p ≡ Some i → k ≡ i
+row_is p i k e f = let d : Some k ≡ Some i = sym e ∙ f in cc
 
 module _ (q : ℕ) (few : q ≤ 4) where
-  row_of : (t s i : ℕ) → place_of q t (selector_of t s) ≡ At i → 0 < i → RowOf q t s (row_at i).size (offset_of i)
+  row_of : (t s i : ℕ) → place_of q t (selector_of t s) ≡ Some i → 0 < i → RowOf q t s (row_at i).size (offset_of i)
   row_of t s i e l = record { index = i; place = e; later = l; size = refl; offset = refl }
 
   queue-row : (s : ℕ) → s % 65536 < q → RowOf q 0x104 s 32 (45 + 32 * (s % 65536))
@@ -135,7 +134,7 @@ module _ (q : ℕ) (few : q ≤ 4) where
   )
 
   -- a part of the table but the first is one that can be stored
-  module _ (t s i : ℕ) (l : 0 < i) (e : place_of q t (selector_of t s) ≡ At i) where
+  module _ (t s i : ℕ) (l : 0 < i) (e : place_of q t (selector_of t s) ≡ Some i) where
     queue-at : t ≡ 0x104 → Part q t s (row_at i).size (offset_of i)
     queue-at a =
         let d = nth-below 7 q (s % 65536) i few (sym (place-queue q s) ∙ rw a at e) in
@@ -148,7 +147,7 @@ module _ (q : ℕ) (few : q ≤ 4) where
         let r = notify-rows (s % 65536) (let h = d.0 in omega arith) in
         rw (a, ← d.1, r.0, r.1) (queue_notify s d.0)
 
-    one-row : (k n at : ℕ) → place_of q t (selector_of t s) ≡ At k → (row_at k).size ≡ n → offset_of k ≡ at → Part q t s n at
+    one-row : (k n at : ℕ) → place_of q t (selector_of t s) ≡ Some k → (row_at k).size ≡ n → offset_of k ≡ at → Part q t s n at
         → Part q t s (row_at i).size (offset_of i)
     one-row k n at f x y p = rw (← row_is _ i k f e, x, y) p
 
@@ -175,8 +174,8 @@ module _ (q : ℕ) (few : q ≤ 4) where
         (λ x. let y = eqb-true _ _ x in one-row 4 2 40 (p 16 y) refl refl (rw a (field16 s y))) λ x₃.
         by_cases (eqb (s % 4294967296) 22)
         (λ x. let y = eqb-true _ _ x in one-row 5 2 42 (p 22 y) refl refl (rw a (field22 s y))) λ x₄.
-        let f : field_at (s % 4294967296) ≡ At i = sym (p (s % 4294967296) refl) ∙ e in
-        let d : Absent ≡ At i = rw (x₁, x₂, x₃, x₄) at f in
+        let f : field_at (s % 4294967296) ≡ Some i = sym (p (s % 4294967296) refl) ∙ e in
+        let d : None ≡ Some i = rw (x₁, x₂, x₃, x₄) at f in
         never cc
 
     pub row-part : Part q t s (row_at i).size (offset_of i)
@@ -187,7 +186,7 @@ module _ (q : ℕ) (few : q ≤ 4) where
         by_cases (eqb t 0x103) (λ a. status-at (eqb-true t _ a)) λ a₄.
         by_cases (eqb t 0x101) (λ a. driver-at (eqb-true t _ a)) λ a₅.
         by_cases (eqb t 0x100) (λ a. absurd (features-at (eqb-true t _ a))) λ a₆.
-        let d : Absent ≡ At i =
+        let d : None ≡ Some i =
         no_rows q t (selector_of t s) (eqb-false _ _ a₁) (eqb-false _ _ a₂) (eqb-false _ _ a₃) (eqb-false _ _ a₄)
         (eqb-false _ _ a₅) (eqb-false _ _ a₆) ∙ e in
         never cc

@@ -7,6 +7,7 @@ use native.Mathlib.Omega.{arith}
 use borrow.Author.Tests.{eqb-true, eq-eqb, ne_eqb, ltb-true, lt-ltb}
 use lib.Dec.{ltb, eqb}
 use lib.ListN.{length, take, drop, length-take}
+use Rattle.std.specs.Prelude.{Option, Some, None}
 use Rattle.theory.specs.Logic.{unless◌answer◌then◌}
 use Rattle.theory.proofs.Tests.{by_cases, and_i, inside, within_low, within-high, tests}
 use Rattle.theory.proofs.Ladder.{or_left, or_right}
@@ -17,8 +18,6 @@ use Rattle.protocol.specs.declared.EventAnswer.TheVariants.{Done, NoPart, WrongL
 use Rattle.protocol.specs.Answers.{event_number, is_event_done}
 use Rattle.inventory.specs.Inventory.{row_at, values_size, selector_of, place_of}
 use Rattle.inventory.specs.Queue.{power_below, ring_size, queue_allowed, value_allowed}
-use Rattle.inventory.specs.declared.Place.{Place}
-use Rattle.inventory.specs.declared.Place.TheVariants.{At, Absent}
 use Rattle.inventory.proofs.Rules.{row_within}
 use Rattle.inventory.proofs.Find.{place_found}
 use Rattle.member.specs.Record.{member_size, member_bytes}
@@ -73,10 +72,10 @@ module _ (q : ℕ) (few : q ≤ 4) (t s : ℕ) (value : List ℕ) where
   unfolding storable unless◌answer◌then◌
   storable-none f = cases (place_of q t (selector_of t s)) refl
     where
-      cases : (p : Place) → place_of q t (selector_of t s) ≡ p → storable q t (selector_of t s) value ≡ NoPart
-      cases (At i) e =
+      cases : (p : Option ℕ) → place_of q t (selector_of t s) ≡ p → storable q t (selector_of t s) value ≡ NoPart
+      cases (Some i) e =
           rw e (by_cases (ltb 0 i) (λ l. absurd (f _ _ (row-part q few t s i (ltb-true 0 i l) e))) (λ l. rw l))
-      cases Absent e = rw e
+      cases None e = rw e
 
   module _ (n at : ℕ) (p : Part q t s n at) where
     other_length : (length value ≡ n → ⊥) → storable q t (selector_of t s) value ≡ WrongLength

@@ -1,10 +1,9 @@
 -- REQUEST 4, SPEC 13.4: the place of a part, said of the member's own inventory of 7 + 2Q parts. Assumes nothing.
-use Rattle.std.specs.Prelude.{◌≡◌, List, [], ◌∷◌, ℕ, ◌+◌, ◌*◌, ◌≤◌, ◌<◌, length, get_or}
+use Rattle.std.specs.Prelude.{◌≡◌, List, [], ◌∷◌, ℕ, ◌+◌, ◌*◌, ◌≤◌, ◌<◌, length, get_or, Some, None}
 use Rattle.theory.specs.Logic.{when◌then◌else◌}
 use Rattle.theory.specs.Bytes.{bytes_at}
 use Rattle.inventory.specs.Inventory.{Row, rows, row_at, row_count, present, part_count, place_of}
 use Rattle.inventory.specs.Header.{header_of, header_size}
-use Rattle.inventory.specs.declared.Place.TheVariants.{At, Absent}
 use Rattle.capture.specs.Capture.{headers_of}
 
 -- the rows of the parts that a member with so many queues has, in the order of the table, among these rows from the i-th
@@ -32,11 +31,11 @@ pub record PlaceFound (queues : ℕ) : Type 0 where
   pub count : length (own_rows queues) ≡ part_count queues
   pub header : (p : ℕ) → p < part_count queues → bytes_at (header_size * p) header_size (headers_of queues) ≡ header_of (row_at (row_of queues p))
   -- the p-th
-  pub found : (t s p : ℕ) → p < part_count queues → place_of queues t s ≡ At (row_of queues p) → Has queues t s p
-  pub there : (t s p : ℕ) → p < part_count queues → Has queues t s p → place_of queues t s ≡ At (row_of queues p)
+  pub found : (t s p : ℕ) → p < part_count queues → place_of queues t s ≡ Some (row_of queues p) → Has queues t s p
+  pub there : (t s p : ℕ) → p < part_count queues → Has queues t s p → place_of queues t s ≡ Some (row_of queues p)
   -- none
-  pub absent : (t s p : ℕ) → p < part_count queues → place_of queues t s ≡ Absent → Has queues t s p → ⊥
-  pub lacking : (t s : ℕ) → ((p : ℕ) → p < part_count queues → Has queues t s p → ⊥) → place_of queues t s ≡ Absent
+  pub absent : (t s p : ℕ) → p < part_count queues → place_of queues t s ≡ None → Has queues t s p → ⊥
+  pub lacking : (t s : ℕ) → ((p : ℕ) → p < part_count queues → Has queues t s p → ⊥) → place_of queues t s ≡ None
 
 -- whatever the queue count
 abbrev pub PlacesFound : Type 0

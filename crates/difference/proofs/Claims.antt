@@ -6,12 +6,11 @@ use Prim.Native.Nat.{ℕ, ◌<◌}
 use borrow.Author.Tests.{eqb-true, eqb-false, ltb-true}
 use lib.Dec.{eqb, ltb}
 use lib.ListN.{length}
+use Rattle.std.specs.Prelude.{Option, Some, None, is_some}
 use Rattle.theory.specs.Logic.{unless◌answer◌then◌}
 use Rattle.theory.specs.Bytes.{bytes_at}
 use Rattle.theory.proofs.Tests.{by_cases, never}
 use Rattle.inventory.specs.Inventory.{row_at, row_count, features_size, selector_of, place_of, on_place}
-use Rattle.inventory.specs.declared.Place.{Place}
-use Rattle.inventory.specs.declared.Place.TheVariants.{At, Absent}
 use Rattle.inventory.proofs.Rules.{table, every-row}
 use Rattle.inventory.proofs.Find.{place_found}
 use Rattle.parts.specs.declared.ListForm.TheVariants.{Parts}
@@ -28,28 +27,28 @@ use Rattle.difference.proofs.Verdicts.{Passes, passes, found-there, found-outsid
 
 -- ---- the part of a row ----
 
-pub known_at : (q t s i : ℕ) → place_of q t s ≡ At i → known q t s ≡ true
+pub known_at : (q t s i : ℕ) → place_of q t s ≡ Some i → known q t s ≡ true
 unfolding known
 known_at q t s i e = rw e
 
 -- a known part is that of a row
-pub by_row {ℓ} : {P : Type ℓ} (q t s : ℕ) → known q t s ≡ true → ((i : ℕ) → place_of q t s ≡ At i → P) → P
+pub by_row {ℓ} : {P : Type ℓ} (q t s : ℕ) → known q t s ≡ true → ((i : ℕ) → place_of q t s ≡ Some i → P) → P
 unfolding known
 by_row {P = P} q t s k f = cases (place_of q t s) refl k
   where
-    cases : (p : Place) → place_of q t s ≡ p → on_place p (λ i. true) false ≡ true → P
-    cases (At i) e h = f i e
-    cases Absent e h = never cc
+    cases : (p : Option ℕ) → place_of q t s ≡ p → is_some p ≡ true → P
+    cases (Some i) e h = f i e
+    cases None e h = never cc
 
 -- ---- a lookup in the pair ----
 
 module _ (q : ℕ) (features full later : List ℕ) (pair : Pair q features full later) where
-  found-row : (t s i : ℕ) → place_of q t (selector_of t s) ≡ At i → value_found q features full later t s ≡ looked_up full later i
+  found-row : (t s i : ℕ) → place_of q t (selector_of t s) ≡ Some i → value_found q features full later t s ≡ looked_up full later i
   found-row t s i e =
       let r = place_found q t (selector_of t s) i e in
       rw (found-there q features full later pair t s (known_at q t (selector_of t s) i e), r.type-is, r.selector-is)
 
-  name-row : (t s i : ℕ) → place_of q t (selector_of t s) ≡ At i → (lookup_told (lookup_of q features full later t s)).0 ≡ 0
+  name-row : (t s i : ℕ) → place_of q t (selector_of t s) ≡ Some i → (lookup_told (lookup_of q features full later t s)).0 ≡ 0
   name-row t s i e =
       let r = place_found q t (selector_of t s) i e in
       let there = full-there q (parts_of Parts full) pair.lacks_none i r.below r.there in

@@ -2,10 +2,9 @@
 -- refused; and of the made list. The sizes and numbers stand here as plain digits, apart from the definitions. The record
 -- CallClaims at the end lists it, ../proofs/Calls.antt proves it, and ../proofs/CallExample.antt has lists that meet the
 -- hypotheses. Assumes nothing.
-use Rattle.std.specs.Prelude.{◌≡◌, true, false, List, [], ◌++◌, ℕ, ◌+◌, ◌*◌, ◌<◌, ◌≤◌, length, drop}
+use Rattle.std.specs.Prelude.{◌≡◌, true, false, List, [], ◌++◌, ℕ, ◌+◌, ◌*◌, ◌<◌, ◌≤◌, length, drop, Some}
 use Rattle.theory.specs.Bytes.{bytes_at}
 use Rattle.inventory.specs.Inventory.{row_at, present, selector_of, place_of, value_of}
-use Rattle.inventory.specs.declared.Place.TheVariants.{At}
 use Rattle.parts.specs.declared.ListForm.TheVariants.{Parts}
 use Rattle.parts.specs.List.{parts_of, among, value_or}
 use Rattle.rules.specs.Rules.{cause_of, is_accepted}
@@ -87,7 +86,7 @@ pub record Merges (s : MemberSetup) (full later out : List ℕ) (result : ℕ ×
 pub record CapturesBoth (queues : ℕ) (full later values : List ℕ) : Type 0 where
   pub same : applied queues (parts_of Parts (made queues full later)) values ≡ both_set queues full later values
   pub captured : made queues full later ≡ capture_of queues (both_set queues full later values)
-  pub found : (t s i : ℕ) → place_of queues t (selector_of t s) ≡ At i
+  pub found : (t s i : ℕ) → place_of queues t (selector_of t s) ≡ Some i
       → value_found queues (bytes_at 0 16 values) full later t s ≡ value_of (both_set queues full later values) i
 
 pub record CallClaims : Type 0 where

@@ -1,10 +1,9 @@
 -- WHAT IS CLAIMED of the list made of a full capture and a later list, and of what is looked up in the two, on the values of a
 -- member: 02, request 7. The record Claims at the end lists it, ../proofs/Claims.antt proves it, and ../proofs/Example.antt
 -- has a pair that meets the hypotheses. Assumes nothing.
-use Rattle.std.specs.Prelude.{◌≡◌, true, List, [], ℕ, ◌<◌, length}
+use Rattle.std.specs.Prelude.{◌≡◌, true, List, [], ℕ, ◌<◌, length, Some}
 use Rattle.theory.specs.Bytes.{bytes_at}
 use Rattle.inventory.specs.Inventory.{features_size, values_size, parts_size, selector_of, place_of, value_of}
-use Rattle.inventory.specs.declared.Place.TheVariants.{At}
 use Rattle.parts.specs.declared.ListForm.TheVariants.{Parts}
 use Rattle.parts.specs.List.{parts_of}
 use Rattle.rules.specs.Rules.{cause_of, is_accepted}
@@ -39,7 +38,7 @@ pub record MadeIsFull (queues : ℕ) (features full later : List ℕ) : Type 0 w
 -- capture and then the later list leaves; and what is looked up for a part is what then stands in its row.
 pub record SetsBoth (queues : ℕ) (full later values : List ℕ) : Type 0 where
   pub same : applied queues (parts_of Parts (made queues full later)) values ≡ both_set queues full later values
-  pub found : (t s i : ℕ) → place_of queues t (selector_of t s) ≡ At i
+  pub found : (t s i : ℕ) → place_of queues t (selector_of t s) ≡ Some i
       → value_found queues (bytes_at 0 features_size values) full later t s ≡ value_of (both_set queues full later values) i
 
 pub record Claims : Type 0 where

@@ -7,12 +7,11 @@ use Prim.Native.Nat.{ℕ, zero, suc, ◌+◌, ◌<◌, ◌≤◌}
 use native.Mathlib.Omega.{arith}
 use borrow.Author.Tests.{eqb-true, eqb-false, ne_eqb, ltb-true, ltb-false, lt-ltb, le-ltb}
 use lib.Dec.{ltb, eqb}
+use Rattle.std.specs.Prelude.{Option, Some, None}
 use Rattle.theory.specs.Logic.{when◌then◌else◌, ◌and◌}
 use Rattle.theory.proofs.Tests.{by_cases}
 use Rattle.inventory.specs.Inventory.{device_features, driver_features, pci_common, device_status, queue, queue_notify, place_of}
 use Rattle.inventory.specs.Worked.{nth_of, field_at, queue_rows}
-use Rattle.inventory.specs.declared.Place.{Place}
-use Rattle.inventory.specs.declared.Place.TheVariants.{At, Absent}
 use Rattle.inventory.proofs.Rules.{table}
 
 -- the table's tests have the row's number first
@@ -37,13 +36,13 @@ past-rows q n h =
     (λ e. rw e (le-ltb n 4 h))
 
 -- the search among the four rows of such a type
-unfoldable among : ℕ → ℕ → ℕ → Place
+unfoldable among : ℕ → ℕ → ℕ → Option ℕ
 among first q n =
-    when eqb 0 n and ltb 0 q then At (first + 0) else
-    when eqb 1 n and ltb 1 q then At (first + 1) else
-    when eqb 2 n and ltb 2 q then At (first + 2) else
-    when eqb 3 n and ltb 3 q then At (first + 3) else
-    Absent
+    when eqb 0 n and ltb 0 q then Some (first + 0) else
+    when eqb 1 n and ltb 1 q then Some (first + 1) else
+    when eqb 2 n and ltb 2 q then Some (first + 2) else
+    when eqb 3 n and ltb 3 q then Some (first + 3) else
+    None
 
 among-past : (first q n : ℕ) → 4 ≤ n → nth_of first (queue_rows q) n ≡ among first q n
 unfolding among nth_of when◌then◌else◌ ◌and◌
@@ -60,8 +59,8 @@ among-is first q (suc (suc (suc (suc n)))) = among-past first q (suc (suc (suc (
 
 -- ---- a type with one row ----
 
-unfoldable alone : ℕ → ℕ → Place
-alone first n = when eqb 0 n and true then At (first + 0) else Absent
+unfoldable alone : ℕ → ℕ → Option ℕ
+alone first n = when eqb 0 n and true then Some (first + 0) else None
 
 alone-is : (first n : ℕ) → nth_of first 1 n ≡ alone first n
 unfolding alone nth_of when◌then◌else◌ ◌and◌
@@ -70,7 +69,7 @@ alone-is first (suc n) = rw (le-ltb (suc n) 1 (omega arith), turned 0 (suc n) (�
 
 -- ---- what the code works out: r is what a callee answered for a type and selector ----
 
-module _ (q t n k : ℕ) (r : Place) where
+module _ (q t n k : ℕ) (r : Option ℕ) where
   pub in-queues : k ≡ queue_rows q → r ≡ nth_of 7 k n → t ≡ queue → r ≡ place_of q t n
   unfolding among table
   in-queues e h i = h ∙ rw (e, i) (among-is 7 q n)
@@ -79,7 +78,7 @@ module _ (q t n k : ℕ) (r : Place) where
   unfolding among table
   in-notifies e h i = h ∙ rw (e, i) (among-is 11 q n)
 
-module _ (q t n : ℕ) (r : Place) where
+module _ (q t n : ℕ) (r : Option ℕ) where
   pub in-status : r ≡ nth_of 6 1 n → t ≡ device_status → r ≡ place_of q t n
   unfolding alone table
   in-status h i = h ∙ rw i (alone-is 6 n)
@@ -104,6 +103,6 @@ module _ (q t n : ℕ) (r : Place) where
 
 -- no other type has rows
 pub no_rows : (q t n : ℕ) → t ≢ queue → t ≢ queue_notify → t ≢ pci_common → t ≢ device_status → t ≢ driver_features → t ≢ device_features
-    → Absent ≡ place_of q t n
+    → None ≡ place_of q t n
 unfolding table
 no_rows q t n a b c d e f = rw (turned _ t a, turned _ t b, turned _ t c, turned _ t d, turned _ t e, turned _ t f)

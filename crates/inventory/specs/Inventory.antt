@@ -1,9 +1,7 @@
 -- The parts of a member and their order: SPEC 5.2 and 5.3; their selectors: SPEC 5.1. Assumes nothing.
-use Rattle.std.specs.Prelude.{Bool, List, [], ◌∷◌, map, ℕ, ◌+◌, ◌*◌, ◌%◌, ◌^◌, ltb, eqb, get_or, take}
+use Rattle.std.specs.Prelude.{Bool, List, [], ◌∷◌, map, ℕ, ◌+◌, ◌*◌, ◌%◌, ◌^◌, ltb, eqb, get_or, take, Option, Some, None}
 use Rattle.theory.specs.Logic.{when◌then◌else◌, ◌and◌, ◌or◌}
 use Rattle.theory.specs.Bytes.{bytes_at}
-use Rattle.inventory.specs.declared.Place.{Place}
-use Rattle.inventory.specs.declared.Place.TheVariants.{At, Absent}
 
 -- the types of parts
 abbrev pub device_features : ℕ
@@ -99,14 +97,14 @@ selector_of t s =
 unfoldable pub is_row : ℕ → ℕ → ℕ → Row → Bool
 is_row queues t s r = eqb r.part_type t and eqb r.selector s and present queues r
 
-unfoldable pub seek : ℕ → ℕ → ℕ → List Row → ℕ → Place
-seek queues t s [] i = Absent
-seek queues t s (r ∷ rs) i = when is_row queues t s r then At i else seek queues t s rs (i + 1)
+unfoldable pub seek : ℕ → ℕ → ℕ → List Row → ℕ → Option ℕ
+seek queues t s [] i = None
+seek queues t s (r ∷ rs) i = when is_row queues t s r then Some i else seek queues t s rs (i + 1)
 
-unfoldable pub place_of : ℕ → ℕ → ℕ → Place
+unfoldable pub place_of : ℕ → ℕ → ℕ → Option ℕ
 place_of queues t s = seek queues t s rows 0
 
 -- f of the row that has a part, or a where the member has not got the part
-abbrev pub on_place {ℓ} : {A : Type ℓ} → Place → (ℕ → A) → A → A
-on_place (At i) f a = f i
-on_place Absent f a = a
+abbrev pub on_place {ℓ} : {A : Type ℓ} → Option ℕ → (ℕ → A) → A → A
+on_place (Some i) f a = f i
+on_place None f a = a

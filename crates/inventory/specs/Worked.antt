@@ -1,25 +1,23 @@
 -- The row of a part worked out from its type and selector, and the quick test of queues, for the private functions that do
 -- so. No public contract cites this. Assumes nothing.
-use Rattle.std.specs.Prelude.{Bool, List, ℕ, ◌+◌, ◌-◌, ◌%◌, ◌^◌, ltb, eqb}
+use Rattle.std.specs.Prelude.{Bool, List, ℕ, ◌+◌, ◌-◌, ◌%◌, ◌^◌, ltb, eqb, Option, Some, None}
 use Rattle.theory.specs.Logic.{when◌then◌else◌, ◌and◌, ◌or◌}
 use Rattle.wire.specs.Le.{number}
 use Rattle.inventory.specs.Inventory.{offset_of}
 use Rattle.inventory.specs.Queue.{power_below, queue_row}
-use Rattle.inventory.specs.declared.Place.{Place}
-use Rattle.inventory.specs.declared.Place.TheVariants.{At, Absent}
 
 -- the n-th, from 0, of so many rows of one type, which stand one after another from the first
-unfoldable pub nth_of : ℕ → ℕ → ℕ → Place
-nth_of first count n = when ltb n count then At (first + n) else Absent
+unfoldable pub nth_of : ℕ → ℕ → ℕ → Option ℕ
+nth_of first count n = when ltb n count then Some (first + n) else None
 
 -- the row of the PCI common field at an offset
-unfoldable pub field_at : ℕ → Place
+unfoldable pub field_at : ℕ → Option ℕ
 field_at offset =
-    when eqb offset 0 then At 2 else
-    when eqb offset 8 then At 3 else
-    when eqb offset 16 then At 4 else
-    when eqb offset 22 then At 5 else
-    Absent
+    when eqb offset 0 then Some 2 else
+    when eqb offset 8 then Some 3 else
+    when eqb offset 16 then Some 4 else
+    when eqb offset 22 then Some 5 else
+    None
 
 -- the table has rows for four queues
 unfoldable pub queue_rows : ℕ → ℕ

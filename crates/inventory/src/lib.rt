@@ -85,13 +85,6 @@ pub const OFFSETS: [u8; ROWS] = [
     0, 16, 32, 36, 40, 42, 44, 45, 77, 109, 141, 173, 181, 189, 197,
 ];
 
-// The row of the inventory that has a part, or none.
-#[derive(Clone, Copy)]
-pub enum Place {
-    At(usize),
-    Absent,
-}
-
 pub fn size_of(i: usize) -> usize
     requires { i < row_count }
     ensures { result ≡ (row_at i).size }
@@ -133,33 +126,33 @@ pub fn selector_of(t: u16, s: u64) -> u64
 }
 
 // The row of a type's rows, which stand one after another from the first, by its number among them; none past their count.
-fn nth_of(first: usize, count: u8, n: u64) -> Place
+fn nth_of(first: usize, count: u8, n: u64) -> Option<usize>
     requires { first < row_count }
     ensures { result ≡ nth_of first count n }
 {
     if n < count as u64 {
-        return Place::At(first + n as usize);
+        return Some(first + n as usize);
     }
-    Place::Absent
+    None
 }
 
 // The row of a PCI common field, by its offset.
-fn field_at(offset: u64) -> Place
+fn field_at(offset: u64) -> Option<usize>
     ensures { result ≡ field_at offset }
 {
     if offset == 0 {
-        return Place::At(FIRST_FIELD);
+        return Some(FIRST_FIELD);
     }
     if offset == 8 {
-        return Place::At(FIRST_FIELD + 1);
+        return Some(FIRST_FIELD + 1);
     }
     if offset == 16 {
-        return Place::At(FIRST_FIELD + 2);
+        return Some(FIRST_FIELD + 2);
     }
     if offset == 22 {
-        return Place::At(FIRST_FIELD + 3);
+        return Some(FIRST_FIELD + 3);
     }
-    Place::Absent
+    None
 }
 
 // The queues that have rows, of a member with so many.
@@ -172,8 +165,8 @@ fn queue_rows(queues: u8) -> u8
     MOST_QUEUES
 }
 
-// The row of a type and selector that a member with so many queues has: worked out, with no search of the tables.
-pub fn place_of(queues: u8, t: u16, selector: u64) -> Place
+// The row of a type and selector, if a member with so many queues has that part: worked out, with no search of the tables.
+pub fn place_of(queues: u8, t: u16, selector: u64) -> Option<usize>
     ensures { result ≡ place_of queues t selector }
 {
     if t == QUEUE {
@@ -194,7 +187,7 @@ pub fn place_of(queues: u8, t: u16, selector: u64) -> Place
     if t == DEVICE_FEATURES {
         return nth_of(FEATURES_ROW, 1, selector);
     }
-    Place::Absent
+    None
 }
 
 // The first eight bytes of a header, as a number: type, flags and selector, which takes no more than four of its bytes.

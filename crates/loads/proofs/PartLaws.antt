@@ -10,6 +10,7 @@ use mir.Val.{Fits}
 use borrow.Author.Tests.{ltb-true}
 use lib.Dec.{eqb, ltb}
 use lib.ListN.{length, take, drop}
+use Rattle.std.specs.Prelude.{Option, Some, None}
 use Rattle.theory.specs.Logic.{unless◌answer◌then◌}
 use Rattle.theory.specs.Bytes.{put}
 use Rattle.theory.proofs.Bytes.{length-bytes_at, put_all}
@@ -17,8 +18,6 @@ use Rattle.theory.proofs.Ladder.{stop, pass, is_eq, is_ne}
 use Rattle.protocol.specs.declared.EventAnswer.{EventAnswer}
 use Rattle.protocol.specs.declared.EventAnswer.TheVariants.{Done, NoPart, WrongLength}
 use Rattle.inventory.specs.Inventory.{row_at, row_count, offset_of, values_size, value_of, place_of, on_place}
-use Rattle.inventory.specs.declared.Place.{Place}
-use Rattle.inventory.specs.declared.Place.TheVariants.{At, Absent}
 use Rattle.inventory.proofs.Find.{place_found}
 use Rattle.inventory.proofs.Places.{at_row, at_none, row_in}
 use Rattle.inventory.proofs.Rules.{table, every-row, row_within}
@@ -34,12 +33,12 @@ values-long b h = length-bytes_at values_at values_size b (omega arith)
 -- ---- where the value stands ----
 
 -- q is the member's queue count, p the place of the part
-module _ (b : List ℕ) (q t s : ℕ) (p : Place) (e : q ≡ (member_of b).queues) (here : p ≡ place_of q t s) where
-  pub part_none : p ≡ Absent → [] ≡ part_of (member_of b) t s
+module _ (b : List ℕ) (q t s : ℕ) (p : Option ℕ) (e : q ≡ (member_of b).queues) (here : p ≡ place_of q t s) where
+  pub part_none : p ≡ None → [] ≡ part_of (member_of b) t s
   unfolding part_of
   part_none a = rw (← e) (at_none q t s p here (λ i. value_of (member_of b).values i) [] [] a refl)
 
-  module _ (i o n : ℕ) (a : p ≡ At i) (f : o ≡ offset_of i) (g : n ≡ (row_at i).size) where
+  module _ (i o n : ℕ) (a : p ≡ Some i) (f : o ≡ offset_of i) (g : n ≡ (row_at i).size) where
     pub part-fits : Fits w64 (o + n)
     part-fits = record { fits = omega (arith, row_within i (row_in q t s p here i a)) }
 
@@ -67,15 +66,15 @@ module _ (x : Member) (t s : ℕ) (buffer : List ℕ) where
 
   -- the member has the part, or not
   pub load-cases : (P : List ℕ → EventAnswer × List ℕ → Type 0)
-      → ((i : ℕ) → place_of x.queues t s ≡ At i → P (value_of x.values i) (taken i)) → (place_of x.queues t s ≡ Absent → P [] (NoPart, buffer))
+      → ((i : ℕ) → place_of x.queues t s ≡ Some i → P (value_of x.values i) (taken i)) → (place_of x.queues t s ≡ None → P [] (NoPart, buffer))
       → P (part_of x t s) (load_in x t s buffer)
   unfolding part_of load_in
   load-cases P f g = cases (place_of x.queues t s) refl
     where
-      cases : (p : Place) → place_of x.queues t s ≡ p
+      cases : (p : Option ℕ) → place_of x.queues t s ≡ p
           → P (on_place p (λ i. value_of x.values i) []) (on_place p taken (NoPart, buffer))
-      cases (At i) e = f i e
-      cases Absent e = g e
+      cases (Some i) e = f i e
+      cases None e = g e
 
 -- own is the value that was found
 module _ (b : List ℕ) (h : length b ≡ member_size) (t s : ℕ) (own buffer : List ℕ) (e : own ≡ part_of (member_of b) t s) where

@@ -10,7 +10,6 @@ ghost use Rattle.card.specs.Layout.{card_size, counts_from};
 ghost use Rattle.loads.specs.Loads.{part_of, load_in, load, lent, state_of, summary_of, member_told, configuration_told, setup_of_card};
 
 use card::CONFIGURATION_SIZE;
-use inventory::Place;
 use member::Member;
 use protocol::{EventAnswer, Mode};
 use setups::MOST_MEMBERS;
@@ -33,7 +32,7 @@ fn part_in<'a>(bytes: &'a [u8], t: u16, selector: u64) -> &'a [u8]
     requires { length bytes.now ≡ member_size }
     ensures { result.now ≡ part_of (member_of bytes.now) t selector }
 {
-    let Place::At(i) = inventory::place_of(member::queues_of(bytes), t, selector) else {
+    let Some(i) = inventory::place_of(member::queues_of(bytes), t, selector) else {
         return &bytes[0..0];
     };
     let values = member::values_of(bytes);

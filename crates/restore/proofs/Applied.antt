@@ -7,12 +7,12 @@ use native.Mathlib.Omega.{arith}
 use borrow.Author.Tests.{eqb-true, eq-eqb, ltb-true, ltb-false}
 use lib.Dec.{eqb, ltb}
 use lib.ListN.{length}
+use Rattle.std.specs.Prelude.{Some}
 use Rattle.theory.specs.Logic.{◌and◌}
 use Rattle.theory.specs.Bytes.{bytes_at, same}
 use Rattle.theory.proofs.Tests.{by_cases, both, and_i, true-and, false-or, same_true, never, neither}
 use Rattle.inventory.proofs.Values.{own_value, other-value}
 use Rattle.inventory.specs.Inventory.{row_at, row_count, device_features, features_size, present, values_size, place_of, value_of}
-use Rattle.inventory.specs.declared.Place.TheVariants.{At}
 use Rattle.inventory.proofs.Rules.{row_zero, offset-zero}
 use Rattle.inventory.proofs.Find.{Found, place_found, own-place}
 use Rattle.parts.specs.List.{Part, PartList, end, cut, part, among, value_or}
@@ -64,14 +64,14 @@ features-found features s (part p ps) e =
 
 -- of a row that the member has
 module _ (q i : ℕ) (few : q < 5) (h : i < row_count) (y : present q (row_at i) ≡ true) where
-  place : place_of q (row_at i).part_type (row_at i).selector ≡ At i
+  place : place_of q (row_at i).part_type (row_at i).selector ≡ Some i
   place = own-place q i few h y
 
-  known_at : (t s : ℕ) → place_of q t s ≡ At i → known q t s ≡ true
+  known_at : (t s : ℕ) → place_of q t s ≡ Some i → known q t s ≡ true
   unfolding known
   known_at t s e = rw e
 
-  sized-at : (p : Part) → place_of q p.part_type p.selector ≡ At i → length_right q p ≡ true → length p.value ≡ (row_at i).size
+  sized-at : (p : Part) → place_of q p.part_type p.selector ≡ Some i → length_right q p ≡ true → length p.value ≡ (row_at i).size
   unfolding length_right
   sized-at p e l = eqb-true _ _ (rw e at l)
 
@@ -90,7 +90,7 @@ module _ (q i : ℕ) (few : q < 5) (h : i < row_count) (y : present q (row_at i)
       let m = both _ _ n in
       let t = eqb-true p.part_type (row_at i).part_type m.0 in
       let s = eqb-true p.selector (row_at i).selector m.1 in
-      let at_i : place_of q p.part_type p.selector ≡ At i = rw (t, s) place in
+      let at_i : place_of q p.part_type p.selector ≡ Some i = rw (t, s) place in
       let last : among p.part_type p.selector ps ≡ false =
       sym (true-and _) ∙ rw (known_at p.part_type p.selector at_i) at o.0 in
       let size = sized-at p at_i b.0 in

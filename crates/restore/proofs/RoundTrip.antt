@@ -8,6 +8,7 @@ use native.Mathlib.Omega.{arith}
 use borrow.Author.Tests.{eq-eqb, eqb-true, ltb-true, ltb-false}
 use lib.Dec.{eqb, ltb}
 use lib.ListN.{length}
+use Rattle.std.specs.Prelude.{Some}
 use Rattle.theory.specs.Logic.{unless◌answer◌then◌, ◌and◌}
 use Rattle.theory.specs.Bytes.{bytes_at}
 use Rattle.theory.proofs.Tests.{by_cases, both, and-false, and_i, true-or, or-true, or-i, eq-same}
@@ -18,7 +19,6 @@ use Rattle.inventory.specs.Queue.{queues_allowed}
 use Rattle.inventory.proofs.Queue.{row-allowed}
 use Rattle.inventory.proofs.Rules.{features-row}
 use Rattle.inventory.proofs.Find.{own-place, rows-distinct}
-use Rattle.inventory.specs.declared.Place.TheVariants.{At}
 use Rattle.parts.specs.declared.ListForm.TheVariants.{Parts}
 use Rattle.parts.specs.List.{Part, PartList, parts_of, whole, among}
 use Rattle.rules.specs.declared.Cause.TheVariants.{Accepted}
@@ -39,7 +39,7 @@ module _ (q : ℕ) (v : List ℕ) (few : q < 5) (long : length v ≡ values_size
   -- ---- one part ----
 
   module _ (i : ℕ) (h : i < row_count) (y : present q (row_at i) ≡ true) where
-    place : place_of q (row_at i).part_type (row_at i).selector ≡ At i
+    place : place_of q (row_at i).part_type (row_at i).selector ≡ Some i
     place = own-place q i few h y
 
     row-known : known_or_skipped q (row_part v i) ≡ true

@@ -7,6 +7,7 @@ use native.Mathlib.Nat.{add-sub_cancel_left}
 use borrow.Author.Tests.{eqb-true}
 use lib.Dec.{eqb}
 use lib.ListN.{get_or, set, take, drop}
+use Rattle.std.specs.Prelude.{Option, Some, None}
 use Rattle.theory.specs.Logic.{unless◌answer◌then◌}
 use Rattle.theory.proofs.Tests.{by_cases, unless-cases, true-or, false-or}
 use Rattle.theory.specs.Bytes.{same}
@@ -14,8 +15,6 @@ use Rattle.wire.specs.Le.{number}
 use Rattle.inventory.specs.Inventory.{row_at, device_features, selector_of, place_of}
 use Rattle.inventory.specs.Queue.{value_allowed}
 use Rattle.inventory.specs.Header.{selector_at}
-use Rattle.inventory.specs.declared.Place.{Place}
-use Rattle.inventory.specs.declared.Place.TheVariants.{At, Absent}
 use Rattle.inventory.proofs.Columns.{sizes, size-at}
 use Rattle.inventory.proofs.Rules.{table}
 use Rattle.parts.specs.declared.ListForm.{ListForm}
@@ -58,11 +57,11 @@ unfolding cause_left whole every seen_again
 cause-part q features d rank seen p ps = rw (← rank-both, least-assoc)
 
 module _ (q t s f : ℕ) (v features : List ℕ) (seen : List Bool) where
-  absent-rank-is : place_of q t s ≡ Absent → eqb t device_features ≡ false → part_rank q features seen (part_with t f s v) ≡ absent_rank t f
+  absent-rank-is : place_of q t s ≡ None → eqb t device_features ≡ false → part_rank q features seen (part_with t f s v) ≡ absent_rank t f
   unfolding absent_rank known known_or_skipped length_right size_right features_same
   absent-rank-is e h = rw (e, h, false-or, true-or (value_allowed t v), true-or (same v features))
 
-  row-rank-is : (i : ℕ) → place_of q t s ≡ At i
+  row-rank-is : (i : ℕ) → place_of q t s ≡ Some i
       → part_rank q features seen (part_with t f s v) ≡ row_rank (row_at i).size (get_or seen i false) t v features
   unfolding row_rank known known_or_skipped length_right size_right features_same
   row-rank-is i e = rw (e, true-or, false-or)
@@ -80,11 +79,11 @@ selector-read form l at t f s start len =
     Says : Step → Type 0
     Says r = r ≡ step.Part t f s start len → s ≡ selector_of t (number (at + selector_at) 8 l)
 
-other-type : (q t s n : ℕ) → s ≡ selector_of t n → place_of q t s ≡ Absent → eqb t device_features ≡ false
+other-type : (q t s n : ℕ) → s ≡ selector_of t n → place_of q t s ≡ None → eqb t device_features ≡ false
 unfolding table
 other-type q t s n e h =
     by_cases (eqb t device_features)
-    (λ y. let z : At 0 ≡ Absent = rw (e, eqb-true t device_features y) at h in cc)
+    (λ y. let z : Some 0 ≡ None = rw (e, eqb-true t device_features y) at h in cc)
     (λ y. y)
 
 -- ---- the walk: `r` is what next_part answered at `at`, `x` the cause of the whole list ----
@@ -101,25 +100,25 @@ module _ (form : ListForm) (l : List ℕ) (at : ℕ) (r : Step) (here : r ≡ st
   cause-cut q features d rank seen x e h = sym (h ∙ rw (parts_cut form l at (sym here ∙ e)))
 
   -- a part is found; b is what place_of answered
-  module _ (t f s start len : ℕ) (found : r ≡ step.Part t f s start len) (q : ℕ) (seen : List Bool) (b : Place) (placed : b ≡ place_of q t s) where
+  module _ (t f s start len : ℕ) (found : r ≡ step.Part t f s start len) (q : ℕ) (seen : List Bool) (b : Option ℕ) (placed : b ≡ place_of q t s) where
     at_part : parts_from form l at ≡ part (part_in l t f s start len) (parts_from form l (start + len))
     at_part = opened form l at r here t f s start len found
 
     -- n: the least rank, with that of this part, k
     module _ (features : List ℕ) (d : Bool) (rank k n : ℕ) (x : Cause) (e : x ≡ cause_left q features d rank seen (parts_from form l at))
         (lesser : n ≡ least rank k) where
-      pub cause-absent : b ≡ Absent → k ≡ absent_rank t f → x ≡ cause_left q features d n seen (parts_from form l (start + len))
+      pub cause-absent : b ≡ None → k ≡ absent_rank t f → x ≡ cause_left q features d n seen (parts_from form l (start + len))
       cause-absent a h =
-          let p : place_of q t s ≡ Absent = sym placed ∙ a in
+          let p : place_of q t s ≡ None = sym placed ∙ a in
           let o = other-type q t s _ (selector-read form l at t f s start len (sym here ∙ found)) p in
           e ∙ rw (at_part, cause-part, absent-rank-is q t s f _ features seen p o, p, ← h, ← lesser)
 
       -- its value is lent, to start + len
-      pub cause-row : (i : ℕ) → b ≡ At i
+      pub cause-row : (i : ℕ) → b ≡ Some i
           → k ≡ row_rank (get_or sizes i 0) (get_or seen i false) t (take (start + len - start) (drop start l)) features
           → x ≡ cause_left q features d n (set seen i true) (parts_from form l (start + len))
       cause-row i a h =
-          let p : place_of q t s ≡ At i = sym placed ∙ a in
+          let p : place_of q t s ≡ Some i = sym placed ∙ a in
           let m : k ≡ row_rank (row_at i).size (get_or seen i false) t (take len (drop start l)) features
           = h ∙ rw (size-at i, add-sub_cancel_left start len) in
           e ∙ rw (at_part, cause-part, row-rank-is q t s f _ features seen i p, p, ← m, ← lesser)

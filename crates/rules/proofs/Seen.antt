@@ -8,12 +8,11 @@ use borrow.Author.Tests.{eqb-true, eqb-false, eq-eqb}
 use lib.Dec.{eqb}
 use lib.ListN.{length, get_or, set, replicate, length-set}
 use lib.Seq.{get_or-set_same, get_or-set_other, set_comm}
+use Rattle.std.specs.Prelude.{Option, Some, None, is_some}
 use Rattle.theory.specs.Logic.{◌and◌, ◌or◌}
 use Rattle.theory.proofs.Tests.{by_cases, both, and_i, and-false, or-false, never}
 use Rattle.theory.proofs.Lists.{get_or-same}
 use Rattle.inventory.specs.Inventory.{row_count, place_of, on_place}
-use Rattle.inventory.specs.declared.Place.{Place}
-use Rattle.inventory.specs.declared.Place.TheVariants.{At, Absent}
 use Rattle.inventory.proofs.Find.{place_found}
 use Rattle.parts.specs.List.{Part, PartList, end, cut, part, among}
 use Rattle.rules.specs.Rules.{known, repeated}
@@ -23,13 +22,13 @@ unfoldable pub none : List Bool
 none = replicate row_count false
 
 -- whether the row of a place is seen; the rows seen with that one
-abbrev pub is_seen : List Bool → Place → Bool
+abbrev pub is_seen : List Bool → Option ℕ → Bool
 is_seen seen a = on_place a (λ i. get_or seen i false) false
 
-abbrev pub with_seen : List Bool → Place → List Bool
+abbrev pub with_seen : List Bool → Option ℕ → List Bool
 with_seen seen a = on_place a (λ i. set seen i true) seen
 
-abbrev pub place : ℕ → Part → Place
+abbrev pub place : ℕ → Part → Option ℕ
 place q p = place_of q p.part_type p.selector
 
 -- the row of a known part was seen before it
@@ -42,13 +41,13 @@ seen_again q seen (part p ps) = is_seen seen (place q p) or seen_again q (with_s
 
 -- two parts with one row are the same part; a is the place of t and s, b that of u and v
 module _ (q t s u v : ℕ) where
-  same_row : (i : ℕ) → place_of q t s ≡ At i → place_of q u v ≡ At i → eqb u t and eqb v s ≡ true
+  same_row : (i : ℕ) → place_of q t s ≡ Some i → place_of q u v ≡ Some i → eqb u t and eqb v s ≡ true
   same_row i e f =
       let x = place_found q t s i e in
       let y = place_found q u v i f in
       and_i _ _ (eq-eqb u t (sym y.type-is ∙ x.type-is)) (eq-eqb v s (sym y.selector-is ∙ x.selector-is))
 
-  other_row : (a b : Place) → place_of q t s ≡ a → place_of q u v ≡ b → (a ≡ b → ⊥) → eqb u t and eqb v s ≡ false
+  other_row : (a b : Option ℕ) → place_of q t s ≡ a → place_of q u v ≡ b → (a ≡ b → ⊥) → eqb u t and eqb v s ≡ false
   other_row a b e f n =
       by_cases (eqb u t and eqb v s)
       (λ h.
@@ -56,12 +55,12 @@ module _ (q t s u v : ℕ) where
       absurd (n (sym e ∙ rw (← eqb-true u t k.0, ← eqb-true v s k.1) f)))
       (λ h. h)
 
-  seen-with : (seen : List Bool) (a b : Place) → length seen ≡ row_count → place_of q t s ≡ a → place_of q u v ≡ b
-      → is_seen (with_seen seen a) b ≡ (on_place a (λ i. true) false and (eqb u t and eqb v s)) or is_seen seen b
+  seen-with : (seen : List Bool) (a b : Option ℕ) → length seen ≡ row_count → place_of q t s ≡ a → place_of q u v ≡ b
+      → is_seen (with_seen seen a) b ≡ (is_some a and (eqb u t and eqb v s)) or is_seen seen b
   unfolding ◌and◌ ◌or◌
-  seen-with seen Absent b l e f = refl
-  seen-with seen (At i) Absent l e f = rw (other_row (At i) Absent e f (λ z. never cc))
-  seen-with seen (At i) (At j) l e f =
+  seen-with seen None b l e f = refl
+  seen-with seen (Some i) None l e f = rw (other_row (Some i) None e f (λ z. never cc))
+  seen-with seen (Some i) (Some j) l e f =
       by_cases (eqb j i)
       (λ h.
       let k = eqb-true j i h in
@@ -69,22 +68,22 @@ module _ (q t s u v : ℕ) where
       rw (same_row i e (rw k at f), k) (get_or-set_same seen i true false m))
       (λ h.
       let k = eqb-false j i h in
-      rw (other_row (At i) (At j) e f (λ z. k (sym (at-inj z)))) (get_or-set_other seen i j true false k))
+      rw (other_row (Some i) (Some j) e f (λ z. k (sym (at-inj z)))) (get_or-set_other seen i j true false k))
     where
-      at-inj : At i ≡ At j → i ≡ j
+      at-inj : Some i ≡ Some j → i ≡ j
       at-inj z = cc
 
-with-swap : (seen : List Bool) (a b : Place) → with_seen (with_seen seen a) b ≡ with_seen (with_seen seen b) a
-with-swap seen Absent b = refl
-with-swap seen (At i) Absent = refl
-with-swap seen (At i) (At j) =
+with-swap : (seen : List Bool) (a b : Option ℕ) → with_seen (with_seen seen a) b ≡ with_seen (with_seen seen b) a
+with-swap seen None b = refl
+with-swap seen (Some i) None = refl
+with-swap seen (Some i) (Some j) =
     by_cases (eqb i j)
     (λ h. rw (eqb-true i j h))
     (λ h. set_comm seen i j true true (eqb-false i j h))
 
-with-long : (seen : List Bool) (a : Place) → length seen ≡ row_count → length (with_seen seen a) ≡ row_count
-with-long seen Absent l = l
-with-long seen (At i) l = simp length-set l
+with-long : (seen : List Bool) (a : Option ℕ) → length seen ≡ row_count → length (with_seen seen a) ≡ row_count
+with-long seen None l = l
+with-long seen (Some i) l = simp length-set l
 
 -- ---- a list ----
 
@@ -109,10 +108,10 @@ again-with q p seen (part r ps) l =
     )
     (shuffled _ _ _ _ _)
 
-none-at : (a : Place) → is_seen none a ≡ false
+none-at : (a : Option ℕ) → is_seen none a ≡ false
 unfolding none
-none-at (At i) = get_or-same row_count i false
-none-at Absent = refl
+none-at (Some i) = get_or-same row_count i false
+none-at None = refl
 
 none-long : length none ≡ row_count
 unfolding none

@@ -1,5 +1,5 @@
 -- Step 10, a bad list: one given to be set, SPEC 5.5, and one asked for, SPEC 5.6. Assumes nothing.
-use Rattle.std.specs.Prelude.{Bool, true, false, not, List, ℕ, ◌%◌, ltb, eqb, length}
+use Rattle.std.specs.Prelude.{Bool, true, false, not, List, ℕ, ◌%◌, ltb, eqb, length, is_some}
 use Rattle.theory.specs.Logic.{unless◌answer◌then◌, ◌and◌, ◌or◌}
 use Rattle.theory.specs.Bytes.{same}
 use Rattle.inventory.specs.Inventory.{row_at, device_features, place_of, on_place}
@@ -13,7 +13,7 @@ use Rattle.rules.specs.declared.Cause.TheVariants.{Accepted, Cut, Unknown, Lengt
 
 -- the member has this part: it is known (01's term)
 unfoldable pub known : ℕ → ℕ → ℕ → Bool
-known queues t s = on_place (place_of queues t s) (λ i. true) false
+known queues t s = is_some (place_of queues t s)
 
 -- the optional bit is bit 0 of the flags; no part of the type 0x600 or above is skipped
 abbrev pub is_optional : ℕ → Bool

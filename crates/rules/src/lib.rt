@@ -9,7 +9,7 @@ ghost use Rattle.parts.specs.List.{parts_of};
 ghost use Rattle.rules.specs.Rules.{known, asks_known, every, repeated, cause_of, is_accepted, asked_of};
 ghost use Rattle.rules.specs.Ranks.{absent_rank, row_rank, least, cause_at};
 
-use inventory::{DEVICE_FEATURES, Place, ROWS, SIZES};
+use inventory::{DEVICE_FEATURES, ROWS, SIZES};
 use parts::{ListForm, Step};
 
 // A part of this type or above is never skipped.
@@ -44,14 +44,11 @@ pub enum Cause {
 // ---- the rules of one part ----
 
 // Whether a member with so many queues has got this part.
+#[tactic(auto, unfolding(crate::specs::Rules::known))]
 pub fn is_known(queues: u8, t: u16, selector: u64) -> bool
     ensures { result ≡ known queues t selector }
 {
-    if let Place::At(_) = inventory::place_of(queues, t, selector) {
-        true
-    } else {
-        false
-    }
+    inventory::place_of(queues, t, selector).is_some()
 }
 
 // The rank of a part that the member has not got: it is skipped where it has the optional bit, bit 0 of the flags, and its
@@ -212,7 +209,7 @@ pub fn check_list(queues: u8, features: &[u8], list: &[u8]) -> Cause
                 len,
             } => {
                 at = start + len;
-                let Place::At(i) = inventory::place_of(queues, t, selector) else {
+                let Some(i) = inventory::place_of(queues, t, selector) else {
                     rank = least(rank, absent_rank(t, flags));
                     continue;
                 };

@@ -9,12 +9,12 @@ use borrow.Author.Tests.{eqb-true, eq-eqb}
 use lib.Dec.{eqb}
 use lib.ListN.{length, replicate}
 use lib.Seq.{take_at, drop-append-add}
+use Rattle.std.specs.Prelude.{Some}
 use Rattle.theory.specs.Logic.{when◌then◌else◌}
 use Rattle.theory.specs.Bytes.{bytes_at}
 use Rattle.theory.proofs.Tests.{by_cases, never, both, and_i, true-or, or-true, false-or, same_true, eq-same}
 use Rattle.theory.proofs.Lists.{take-replicate, drop-replicate}
 use Rattle.inventory.specs.Inventory.{row_at, row_count, device_features, features_size, features_row, offset_of, place_of, value_of}
-use Rattle.inventory.specs.declared.Place.TheVariants.{At}
 use Rattle.inventory.proofs.Find.{own-place}
 use Rattle.inventory.proofs.Rules.{row_zero, offset-zero, row_within, rows_apart, features-row}
 use Rattle.inventory.proofs.Values.{features-value}
@@ -60,7 +60,7 @@ module _ (q : ℕ) (features : List ℕ) (few : q < 5) (i : ℕ) (r : HasRow q i
   allowed-copy : (p : Part) → AllowedCopy features i p → is_copy q features t s p ≡ true
   unfolding is_copy allowed known length_right value_right
   allowed-copy p a =
-      let place : place_of q p.part_type p.selector ≡ At i =
+      let place : place_of q p.part_type p.selector ≡ Some i =
       rw (a.type-is, a.selector-is) (own-place q i few r.below r.there) in
       and_i _ _
       (and_i _ _ (eq-eqb _ _ a.type-is) (eq-eqb _ _ a.selector-is))

@@ -9,11 +9,10 @@ use borrow.Author.Tests.{eqb-true, eqb-false}
 use lib.Dec.{eqb}
 use lib.ListN.{length, get_or}
 use lib.Seq.{get_or-set_same, get_or-set_other}
+use Rattle.std.specs.Prelude.{Option, Some, None}
 use Rattle.theory.specs.Logic.{unless◌answer◌then◌, indicator}
 use Rattle.theory.proofs.Tests.{by_cases, or_comm}
 use Rattle.inventory.specs.Inventory.{row_at, row_count, place_of, on_place}
-use Rattle.inventory.specs.declared.Place.{Place}
-use Rattle.inventory.specs.declared.Place.TheVariants.{At, Absent}
 use Rattle.inventory.proofs.Find.{place_found}
 use Rattle.parts.specs.List.{Part, PartList, end, cut, part}
 use Rattle.rules.specs.Rules.{known}
@@ -39,14 +38,14 @@ module _ (q : ℕ) (features : List ℕ) where
   unfolding fate_of known unless◌answer◌then◌
   fate-said before p s says = cases (place_of q p.part_type p.selector) refl
     where
-      cases : (r : Place) → place_of q p.part_type p.selector ≡ r
+      cases : (r : Option ℕ) → place_of q p.part_type p.selector ≡ r
           → fate_of q features (kept_before q p s) p ≡ fate_of q features (is_kept q features p.part_type p.selector before) p
-      cases (At j) e =
+      cases (Some j) e =
           let f = place_found q p.part_type p.selector j e in
           let b : kept_before q p s ≡ is_kept q features p.part_type p.selector before =
           rw e (says j f.below ∙ rw (f.type-is, f.selector-is)) in
           ap (λ x. fate_of q features x p) b
-      cases Absent e = rw e
+      cases None e = rw e
 
   -- ---- one part ----
 
@@ -60,9 +59,9 @@ module _ (q : ℕ) (features : List ℕ) where
       (λ c few none. counted_is s.dropped c cause (omega (arith, h.dropped)))
       (λ free a. keeps (place_of q p.part_type p.selector)))
     where
-      keeps : (r : Place) → get_or (on_place r (λ i. keeping s i p.value) s).dropped cause 0 ≡ get_or s.dropped cause 0 + 0
-      keeps (At i) = sym (add-zero _)
-      keeps Absent = sym (add-zero _)
+      keeps : (r : Option ℕ) → get_or (on_place r (λ i. keeping s i p.value) s).dropped cause 0 ≡ get_or s.dropped cause 0 + 0
+      keeps (Some i) = sym (add-zero _)
+      keeps None = sym (add-zero _)
 
   -- ---- all parts ----
 

@@ -6,12 +6,11 @@ use Prim.Native.Nat.{ℕ, ◌+◌, ◌≤◌}
 use native.Mathlib.Omega.{arith}
 use lib.Dec.{eqb}
 use lib.ListN.{length, get_or, length-set}
+use Rattle.std.specs.Prelude.{Option, Some, None}
 use Rattle.theory.specs.Logic.{unless◌answer◌then◌}
 use Rattle.theory.proofs.Bytes.{length-put}
 use Rattle.theory.proofs.Lists.{set_cases}
 use Rattle.inventory.specs.Inventory.{row_at, offset_of, place_of, on_place}
-use Rattle.inventory.specs.declared.Place.{Place}
-use Rattle.inventory.specs.declared.Place.TheVariants.{At, Absent}
 use Rattle.parts.specs.List.{Part}
 use Rattle.rules.specs.Rules.{known, length_right}
 use Rattle.salvage.specs.Salvage.{value_right, copy, wrong_size, wrong_value, Fate, Kept, Dropped, fate_of}
@@ -34,7 +33,7 @@ done q (Dropped cause) p s = dropping s cause
 
 module _ (q : ℕ) (p : Part) (s : State) where
   -- of a part of row i, by its tests
-  tests : (a b c : Bool) (i : ℕ) → place_of q p.part_type p.selector ≡ At i
+  tests : (a b c : Bool) (i : ℕ) → place_of q p.part_type p.selector ≡ Some i
       → (unless a answer dropping s copy then unless b answer dropping s wrong_size then unless c answer dropping s wrong_value then keeping s i p.value)
       ≡ done q (unless not (not a) answer Dropped copy then unless b answer Dropped wrong_size then unless c answer Dropped wrong_value then Kept) p s
   unfolding unless◌answer◌then◌
@@ -47,10 +46,10 @@ module _ (q : ℕ) (p : Part) (s : State) where
   unfolding taken fate_of known length_right unless◌answer◌then◌
   taken-fate features = cases (place_of q p.part_type p.selector) refl
     where
-      cases : (r : Place) → place_of q p.part_type p.selector ≡ r
+      cases : (r : Option ℕ) → place_of q p.part_type p.selector ≡ r
           → taken q features p s ≡ done q (fate_of q features (kept_before q p s) p) p s
-      cases (At i) e = rw e (tests (eqb (get_or s.kept i 0) 0) (eqb (length p.value) (row_at i).size) (value_right features p) i e)
-      cases Absent e = rw e
+      cases (Some i) e = rw e (tests (eqb (get_or s.kept i 0) 0) (eqb (length p.value) (row_at i).size) (value_right features p) i e)
+      cases None e = rw e
 
 -- ---- how long what is lent stays ----
 
@@ -61,8 +60,8 @@ sized-more n m s h l =
 pub taken-sized : (q n : ℕ) (features : List ℕ) (p : Part) (s : State) → Sized n s → Sized (n + 1) (taken q features p s)
 taken-sized q n features p s h = rw (taken-fate q p s features) (cases (fate_of q features (kept_before q p s) p))
   where
-    keeps : (r : Place) → Sized (n + 1) (on_place r (λ i. keeping s i p.value) s)
-    keeps (At i) =
+    keeps : (r : Option ℕ) → Sized (n + 1) (on_place r (λ i. keeping s i p.value) s)
+    keeps (Some i) =
         record {
           values = length-put (offset_of i) p.value s.values ∙ h.values;
           kept = length-set s.kept i 1 ∙ h.kept;
@@ -70,7 +69,7 @@ taken-sized q n features p s h = rw (taken-fate q p s features) (cases (fate_of 
           flags = λ j. set_cases (λ x. x ≤ 1) s.kept i 1 j (h.flags j) (λ e. omega arith);
           counts = λ j. omega (arith, h.counts j);
         }
-    keeps Absent = sized-more n (n + 1) s h (omega arith)
+    keeps None = sized-more n (n + 1) s h (omega arith)
 
     cases : (f : Fate) → Sized (n + 1) (done q f p s)
     cases Kept = keeps (place_of q p.part_type p.selector)

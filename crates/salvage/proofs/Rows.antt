@@ -9,12 +9,11 @@ use native.Mathlib.Omega.{arith}
 use borrow.Author.Tests.{eqb-true, eq-eqb, not-true, not-false}
 use lib.ListN.{length, get_or, set}
 use lib.Seq.{get_or-set_same, get_or-set_other}
+use Rattle.std.specs.Prelude.{Option, Some, None, is_some}
 use Rattle.theory.specs.Logic.{when◌then◌else◌, ◌and◌, ◌or◌}
 use Rattle.theory.proofs.Tests.{by_cases, unless-cases, both, and_i, false-and, and-false, and-true, or-true, or-false, true-or, never, or_assoc, if-same}
 use Rattle.inventory.proofs.Values.{own_value, other-value}
 use Rattle.inventory.specs.Inventory.{row_at, row_count, place_of, on_place, value_of}
-use Rattle.inventory.specs.declared.Place.{Place}
-use Rattle.inventory.specs.declared.Place.TheVariants.{At, Absent}
 use Rattle.inventory.proofs.Find.{place_found, rows-distinct}
 use Rattle.parts.specs.List.{Part, PartList, end, cut, part}
 use Rattle.rules.specs.Rules.{known, length_right}
@@ -38,15 +37,15 @@ fate-cases q features b p P drops keeps =
 
 module _ (q : ℕ) (features : List ℕ) (p : Part) where
   -- an allowed part has a row
-  pub allowed-place : {P : Type 0} → allowed q features p ≡ true → ((j : ℕ) → place_of q p.part_type p.selector ≡ At j → P) → P
+  pub allowed-place : {P : Type 0} → allowed q features p ≡ true → ((j : ℕ) → place_of q p.part_type p.selector ≡ Some j → P) → P
   unfolding allowed known
   allowed-place {P} a f = cases (place_of q p.part_type p.selector) refl (both _ _ a).0
     where
-      cases : (r : Place) → place_of q p.part_type p.selector ≡ r → on_place r (λ i. true) false ≡ true → P
-      cases (At j) e k = f j e
-      cases Absent e k = never cc
+      cases : (r : Option ℕ) → place_of q p.part_type p.selector ≡ r → is_some r ≡ true → P
+      cases (Some j) e k = f j e
+      cases None e k = never cc
 
-  sized-at : (j : ℕ) → allowed q features p ≡ true → place_of q p.part_type p.selector ≡ At j → length p.value ≡ (row_at j).size
+  sized-at : (j : ℕ) → allowed q features p ≡ true → place_of q p.part_type p.selector ≡ Some j → length p.value ≡ (row_at j).size
   unfolding allowed length_right
   sized-at j a e = eqb-true _ _ (rw e at (both _ _ (both _ _ a).1).0)
 
@@ -60,7 +59,7 @@ module _ (q : ℕ) (features : List ℕ) (p : Part) where
     copy-allowed c = (both _ _ c).1
 
     -- then its row is i, and else another
-    pub copy-place : copy_of ≡ true → place_of q p.part_type p.selector ≡ At i
+    pub copy-place : copy_of ≡ true → place_of q p.part_type p.selector ≡ Some i
     unfolding is_copy
     copy-place c =
         let n = both _ _ (both _ _ c).0 in
@@ -70,7 +69,7 @@ module _ (q : ℕ) (features : List ℕ) (p : Part) where
         let same : j ≡ i = rows-distinct j i f.below below (f.type-is ∙ eqb-true _ _ n.0) (f.selector-is ∙ eqb-true _ _ n.1) in
         rw same at e)
 
-    other_place : (j : ℕ) → allowed q features p ≡ true → copy_of ≡ false → place_of q p.part_type p.selector ≡ At j → i ≢ j
+    other_place : (j : ℕ) → allowed q features p ≡ true → copy_of ≡ false → place_of q p.part_type p.selector ≡ Some j → i ≢ j
     unfolding is_copy
     other_place j a c e same =
         let f = place_found q p.part_type p.selector j e in

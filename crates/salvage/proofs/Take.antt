@@ -6,10 +6,9 @@ use Prim.Native.Nat.{ℕ, ◌+◌, ◌<◌, ◌≤◌}
 use native.Mathlib.Omega.{arith}
 use lib.Dec.{T, ltb, ltb→lt}
 use lib.ListN.{length, set}
+use Rattle.std.specs.Prelude.{Option, Some}
 use Rattle.theory.specs.Bytes.{put}
 use Rattle.inventory.specs.Inventory.{row_at, offset_of, place_of}
-use Rattle.inventory.specs.declared.Place.{Place}
-use Rattle.inventory.specs.declared.Place.TheVariants.{At}
 use Rattle.inventory.proofs.Places.{row_in, row_room}
 use Rattle.parts.specs.List.{longest_list}
 use Rattle.salvage.specs.Walk.{state, counted, Sized, Countable}
@@ -20,7 +19,7 @@ module _ (v k d : List ℕ) (h : Sized longest_list (state v k d)) where
       record { there = omega (arith, h.dropped, ltb→lt cause 4 l); room = omega (arith, h.counts cause) }
 
   -- r is what place_of answered
-  module _ (q t s : ℕ) (r : Place) (here : r ≡ place_of q t s) (i : ℕ) (found : r ≡ At i) where
+  module _ (q t s : ℕ) (r : Option ℕ) (here : r ≡ place_of q t s) (i : ℕ) (found : r ≡ Some i) where
     pub row-flag : i < length k
     row-flag = omega (arith, h.kept, row_in q t s r here i found)
 

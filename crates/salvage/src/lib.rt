@@ -8,7 +8,7 @@ ghost use Rattle.setups.specs.Member.{member_setup};
 ghost use Rattle.salvage.specs.Salvage.{value_right, salvage, salvaged, is_taken, salvage_of, salvage_under};
 ghost use Rattle.salvage.specs.Walk.{counted, state, taken, Sized, Countable, Walked, Begins, flags_of, KeptFits, Fits};
 
-use inventory::{DEVICE_FEATURES, Place, ROWS, SELECTORS, TYPES};
+use inventory::{DEVICE_FEATURES, ROWS, SELECTORS, TYPES};
 use member::{FEATURES_SIZE, VALUES_SIZE};
 use parts::{LONGEST_LIST, ListForm, Step};
 
@@ -58,7 +58,7 @@ fn take_part(
     requires { Sized longest_list (state values.old kept.old dropped.old) }
     ensures { state values.new kept.new dropped.new ≡ taken queues features.now (part_with t 0 selector value.now) (state values.old kept.old dropped.old) }
 {
-    let Place::At(i) = inventory::place_of(queues, t, selector) else {
+    let Some(i) = inventory::place_of(queues, t, selector) else {
         count(dropped, UNKNOWN);
         return;
     };

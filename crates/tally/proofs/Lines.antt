@@ -7,11 +7,10 @@ use native.Mathlib.Omega.{arith}
 use lib.Dec.{eqb, leb}
 use lib.ListN.{get_or, set}
 use borrow.Author.Tests.{leb-true}
+use Rattle.std.specs.Prelude.{Option, Some, None}
 use Rattle.theory.specs.Logic.{◌and◌, indicator}
 use Rattle.theory.proofs.Tests.{both, and-false}
 use Rattle.inventory.specs.Inventory.{row_at, place_of, device_features, driver_features, pci_common, device_status, queue, queue_notify}
-use Rattle.inventory.specs.declared.Place.{Place}
-use Rattle.inventory.specs.declared.Place.TheVariants.{At, Absent}
 use Rattle.inventory.proofs.Find.{place_found}
 use Rattle.inventory.proofs.Rules.{table, every-row}
 use Rattle.rules.specs.Rules.{known}
@@ -32,11 +31,11 @@ type-of-row i h =
     let e = both _ _ (every-row (λ k r. leb device_features r.part_type and leb r.part_type queue_notify) refl i h) in
     record { low = leb-true _ _ e.0; high = leb-true _ _ e.1 }
 
-module _ (q t s : ℕ) (r : Place) (here : r ≡ place_of q t s) where
-  pub type-known : (i : ℕ) → r ≡ At i → KnownType t
+module _ (q t s : ℕ) (r : Option ℕ) (here : r ≡ place_of q t s) where
+  pub type-known : (i : ℕ) → r ≡ Some i → KnownType t
   type-known i e = let f = place_found q t s i (sym here ∙ e) in rw f.type-is at (type-of-row i f.below)
 
-  pub part-absent : (a : List ℕ) → r ≡ Absent → a ≡ a plus part_adds q t s
+  pub part-absent : (a : List ℕ) → r ≡ None → a ≡ a plus part_adds q t s
   unfolding part_adds by_type known indicator
   part-absent a e = rw (← here, e, and-false, and-false, and-false, and-false, and-false, and-false) (sym (plus-zeros a 16))
 
@@ -65,7 +64,7 @@ raised-type a =
     by-type (λ t. set a (9 + (t - device_features)) (get_or a (9 + (t - device_features)) 0 + 1) ≡ a plus by_type (λ u. indicator (eqb t u and true)))
     (raised a 9 1 6) (raised a 10 1 5) (raised a 11 1 4) (raised a 12 1 3) (raised a 13 1 2) (raised a 14 1 1)
 
-module _ (q t s i : ℕ) (r : Place) (here : r ≡ place_of q t s) (e : r ≡ At i) where
+module _ (q t s i : ℕ) (r : Option ℕ) (here : r ≡ place_of q t s) (e : r ≡ Some i) where
   pub part-counted : (a : List ℕ) → set a (9 + (t - device_features)) (get_or a (9 + (t - device_features)) 0 + 1) ≡ a plus part_adds q t s
   unfolding part_adds known
   part-counted a = rw (← here, e) (raised-type a t (type-known q t s r here i e))

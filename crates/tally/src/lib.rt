@@ -8,7 +8,7 @@ ghost use Rattle.tally.specs.Rows.{cause_line, long_line, longest, adds_of, adds
 ghost use Rattle.tally.specs.Counts.{◌plus◌, Below};
 ghost use Rattle.tally.specs.Steps.{part_adds, parts_add, contents_add, capture_adds};
 
-use inventory::{DEVICE_FEATURES, Place};
+use inventory::DEVICE_FEATURES;
 use parts::{ListForm, Step};
 use rules::Cause;
 
@@ -48,7 +48,7 @@ fn count_part(counts: &mut [u64; LINES], queues: u8, t: u16, selector: u64)
     requires { Below (2 ^ 63) counts.old }
     ensures { counts.new ≡ counts.old plus part_adds queues t selector }
 {
-    let Place::At(_) = inventory::place_of(queues, t, selector) else {
+    let Some(_) = inventory::place_of(queues, t, selector) else {
         return;
     };
     let line = FIRST_TYPE + (t - DEVICE_FEATURES) as usize;

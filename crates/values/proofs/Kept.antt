@@ -8,6 +8,7 @@ use native.Mathlib.Omega.{arith}
 use borrow.Author.Tests.{lt-ltb, ltb-true, eq-eqb, eqb-true, eqb-false}
 use lib.Dec.{ltb, eqb}
 use lib.ListN.{length}
+use Rattle.std.specs.Prelude.{Option, Some, None}
 use Rattle.theory.specs.Logic.{when◌then◌else◌, unless◌answer◌then◌, ◌and◌}
 use Rattle.theory.specs.Bytes.{bytes_at, put}
 use Rattle.theory.proofs.Tests.{by_cases, if-cases, unless-cases, both, and_i}
@@ -18,8 +19,6 @@ use Rattle.protocol.specs.declared.EventAnswer.TheVariants.{Done, NoPart, WrongL
 use Rattle.protocol.specs.Answers.{is_event_done}
 use Rattle.inventory.specs.Inventory.{features_size, row_at, offset_of, values_size, place_of, on_place}
 use Rattle.inventory.specs.Queue.{value_allowed, queues_allowed}
-use Rattle.inventory.specs.declared.Place.{Place}
-use Rattle.inventory.specs.declared.Place.TheVariants.{At, Absent}
 use Rattle.inventory.proofs.Find.{place_found}
 use Rattle.inventory.proofs.Rules.{rows_apart, row_zero, offset-zero}
 use Rattle.inventory.proofs.Queue.{row-allowed, rows-allowed}
@@ -29,20 +28,20 @@ use Rattle.values.specs.Apply.{storable, stored, applied}
 module _ (q t s : ℕ) (x v : List ℕ) where
   -- a value is stored in a row after the first, of its length, or nothing is
   pub stored-cases {ℓ} : (P : List ℕ → Type ℓ) → P v
-      → ((i : ℕ) → place_of q t s ≡ At i → 0 < i → length x ≡ (row_at i).size → P (put (offset_of i) x v))
+      → ((i : ℕ) → place_of q t s ≡ Some i → 0 < i → length x ≡ (row_at i).size → P (put (offset_of i) x v))
       → P (stored q t s x v)
   unfolding stored
   stored-cases P none some = cases (place_of q t s) refl
     where
-      cases : (p : Place) → place_of q t s ≡ p
+      cases : (p : Option ℕ) → place_of q t s ≡ p
           → P (on_place p (λ i. when ltb 0 i and eqb (length x) (row_at i).size then put (offset_of i) x v else v) v)
-      cases (At i) e =
+      cases (Some i) e =
           if-cases P (ltb 0 i and eqb (length x) (row_at i).size) (put (offset_of i) x v) v
           (λ h. let b = both _ _ h in some i e (ltb-true 0 i b.0) (eqb-true _ _ b.1))
           (λ h. none)
-      cases Absent e = none
+      cases None e = none
 
-  pub stored_at : (i : ℕ) → place_of q t s ≡ At i → 0 < i → length x ≡ (row_at i).size → stored q t s x v ≡ put (offset_of i) x v
+  pub stored_at : (i : ℕ) → place_of q t s ≡ Some i → 0 < i → length x ≡ (row_at i).size → stored q t s x v ≡ put (offset_of i) x v
   unfolding stored when◌then◌else◌
   stored_at i e h l = rw (e, and_i _ _ (lt-ltb 0 i h) (eq-eqb _ _ l))
 
@@ -57,7 +56,7 @@ module _ (q t s : ℕ) (x v : List ℕ) where
 
 -- a value that is allowed, stored, leaves the queues with allowed ones
 pub stored-allowed : (q t s : ℕ) (x v : List ℕ) → length v ≡ values_size → queues_allowed q v ≡ true
-    → ((i : ℕ) → place_of q t s ≡ At i → value_allowed t x ≡ true) → queues_allowed q (stored q t s x v) ≡ true
+    → ((i : ℕ) → place_of q t s ≡ Some i → value_allowed t x ≡ true) → queues_allowed q (stored q t s x v) ≡ true
 stored-allowed q t s x v n a ok =
     stored-cases q t s x v (λ w. queues_allowed q w ≡ true) a λ i p h l.
     let f = place_found q t s i p in
@@ -74,7 +73,7 @@ done-allowed q t s x = cases (place_of q t s)
     Says : EventAnswer → Type 0
     Says a = is_event_done a ≡ true → value_allowed t x ≡ true
 
-    cases : (p : Place)
+    cases : (p : Option ℕ)
         → Says (on_place p
         (λ i.
         unless ltb 0 i answer NoPart then
@@ -82,11 +81,11 @@ done-allowed q t s x = cases (place_of q t s)
         unless value_allowed t x answer BadQueueSize then
         Done)
         NoPart)
-    cases (At i) =
+    cases (Some i) =
         unless-cases Says _ _ _ (λ u e. cc) λ u.
         unless-cases Says _ _ _ (λ u e. cc) λ u.
         unless-cases Says _ _ _ (λ u e. cc) (λ u e. u)
-    cases Absent = λ e. cc
+    cases None = λ e. cc
 
 -- what no store changes no list does
 applied-keeps : {A : Type 0} (look : List ℕ → A) (q : ℕ)

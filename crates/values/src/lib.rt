@@ -7,7 +7,7 @@ ghost use Rattle.parts.specs.declared.ListForm.TheVariants.{Parts};
 ghost use Rattle.parts.specs.List.{parts_of};
 ghost use Rattle.values.specs.Apply.{storable, stored, applied};
 
-use inventory::{FEATURES_ROW, Place};
+use inventory::FEATURES_ROW;
 use parts::{ListForm, Step};
 use protocol::EventAnswer;
 
@@ -15,7 +15,7 @@ use protocol::EventAnswer;
 pub fn store_answer(queues: u8, t: u16, selector: u64, value: &[u8]) -> EventAnswer
     ensures { result ≡ storable queues t selector value.now }
 {
-    let Place::At(i) = inventory::place_of(queues, t, selector) else {
+    let Some(i) = inventory::place_of(queues, t, selector) else {
         return EventAnswer::NoPart;
     };
     if i == FEATURES_ROW {
@@ -35,7 +35,7 @@ pub fn store_part(values: &mut [u8], queues: u8, t: u16, selector: u64, value: &
     requires { length values.old ≡ values_size }
     ensures { values.new ≡ stored queues t selector value.now values.old }
 {
-    let Place::At(i) = inventory::place_of(queues, t, selector) else {
+    let Some(i) = inventory::place_of(queues, t, selector) else {
         return;
     };
     if i == FEATURES_ROW {

@@ -42,7 +42,7 @@ unfolding taken value_right features_same
 returns-then-not-is_value_right c = search (ladder, rules, at_row, from-eq, drop-one)
 
 pub bounds-kept-i-2 : goal.bounds-kept-i-2
-bounds-kept-i-2 c = row-flag _ _ _ c.requires _ _ _ _ c.place_of.ensures _ c.in-At.is
+bounds-kept-i-2 c = row-flag _ _ _ c.requires _ _ _ _ c.place_of.ensures _ c.in-Some.is
 
 pub offset_of-requires : goal.offset_of-requires
 offset_of-requires c = search row_in
