@@ -3,7 +3,6 @@ pub mod Ladder
 pub mod Lists
 pub mod Bytes
 pub mod Lent
-pub mod Copies
 pub mod Items
 pub mod Sums
 pub mod Table

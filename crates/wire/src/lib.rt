@@ -1,17 +1,16 @@
 // Little-endian numbers, SPEC 3.1, and bytes, at a place of a slice.
 #![tactic(auto)]
 
-ghost use Rattle.std.specs.Prelude.{◌≡◌, ◌+◌, ◌^◌, ◌≤◌, ◌<◌, eqb, length, replicate};
-ghost use Rattle.theory.specs.Logic.{◌and◌};
-ghost use Rattle.theory.specs.Bytes.{put, same};
+ghost use Rattle.std.specs.Prelude.{◌≡◌, ◌+◌, ◌^◌, ◌≤◌, ◌<◌, length, replicate};
+ghost use Rattle.theory.specs.Bytes.{bytes_at, put, same};
 ghost use Rattle.wire.specs.Le.{bytes, number};
 
-// The number in one byte.
-fn byte(s: &[u8], at: usize) -> u64
-    requires { at < length s.now }
-    ensures { (result ≡ number at 1 s.now) × (result < 256) }
+// N bytes, from a place on.
+fn part<const N: usize>(s: &[u8], at: usize) -> &[u8; N]
+    requires { at + N ≤ length s.now }
+    ensures { result.now ≡ bytes_at at N s.now }
 {
-    s[at] as u64
+    s[at..].first_chunk().unwrap()
 }
 
 // The number in n bytes.
@@ -20,10 +19,8 @@ pub fn read(s: &[u8], at: usize, n: usize) -> u64
     ensures { (result ≡ number at n s.now) × (result < 256 ^ n) }
 {
     let mut r: u64 = 0;
-    let mut i = n;
-    while 0 < i {
-        i -= 1;
-        r = r * 256 + byte(s, at + i);
+    for b in s[at..at + n].iter().rev() {
+        r = r * 256 + *b as u64;
     }
     r
 }
@@ -33,21 +30,21 @@ pub fn read_u16(s: &[u8], at: usize) -> u16
     requires { at + 2 ≤ length s.now }
     ensures { result ≡ number at 2 s.now }
 {
-    read(s, at, 2) as u16
+    u16::from_le_bytes(*part(s, at))
 }
 
 pub fn read_u32(s: &[u8], at: usize) -> u32
     requires { at + 4 ≤ length s.now }
     ensures { result ≡ number at 4 s.now }
 {
-    read(s, at, 4) as u32
+    u32::from_le_bytes(*part(s, at))
 }
 
 pub fn read_u64(s: &[u8], at: usize) -> u64
     requires { at + 8 ≤ length s.now }
     ensures { result ≡ number at 8 s.now }
 {
-    read(s, at, 8)
+    u64::from_le_bytes(*part(s, at))
 }
 
 // The n low bytes of x.
@@ -56,11 +53,9 @@ pub fn write(s: &mut [u8], at: usize, n: usize, x: u64)
     ensures { s.new ≡ put at (bytes n x) s.old }
 {
     let mut v = x;
-    let mut i = 0;
-    while i < n {
-        s[at + i] = (v % 256) as u8;
+    for b in s[at..at + n].iter_mut() {
+        *b = (v % 256) as u8;
         v /= 256;
-        i += 1;
     }
 }
 
@@ -69,29 +64,14 @@ pub fn copy(dst: &mut [u8], at: usize, src: &[u8])
     requires { at + length src.now ≤ length dst.old }
     ensures { dst.new ≡ put at src.now dst.old }
 {
-    let mut done = 0;
-    while done < src.len() {
-        dst[at + done] = src[done];
-        done += 1;
-    }
+    dst[at..at + src.len()].copy_from_slice(src);
 }
 
 // Every byte becomes 0.
 pub fn zero(s: &mut [u8])
     ensures { s.new ≡ replicate (length s.old) 0 }
 {
-    let mut i = 0;
-    while i < s.len() {
-        s[i] = 0;
-        i += 1;
-    }
-}
-
-// One byte more of a comparison.
-fn and_same(alike: bool, x: u8, y: u8) -> bool
-    ensures { result ≡ alike and eqb x y }
-{
-    if x == y { alike } else { false }
+    s.fill(0);
 }
 
 // Every byte is compared, whatever the first ones are: the loop has no early exit.
@@ -102,10 +82,8 @@ pub fn equal(a: &[u8], b: &[u8]) -> bool
         return false;
     }
     let mut alike = true;
-    let mut i = 0;
-    while i < a.len() {
-        alike = and_same(alike, a[i], b[i]);
-        i += 1;
+    for (x, y) in a.iter().zip(b) {
+        alike &= x == y;
     }
     alike
 }

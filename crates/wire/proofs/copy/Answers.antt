@@ -1,12 +1,11 @@
-use borrow.Author.Rules.{rules}
-use Rattle.theory.proofs.Copies.{copies-start, copies-on, copied}
+use mathlib.Core.Path.{◌≡◌, refl}
+use Prim.Native.Nat.{◌+◌, ◌-◌}
+use native.Mathlib.Omega.{arith}
+use lib.ListN.{length}
+use Rattle.wire.proofs.Loops.{put_part}
 use Rattle.wire.proofs.copy.Goals as goal
 
-pub loop-done-init : goal.loop-done-init
-loop-done-init c = search (rules, copies-start)
-
-pub loop-done-preserved : goal.loop-done-preserved
-loop-done-preserved c = search (rules, copies-on)
-
 pub returns : goal.returns
-returns c = search (rules, copied)
+returns c =
+    let e : c.args.at + length c.args.src.now - c.args.at ≡ length c.args.src.now = omega arith in
+    rw (e, c.copy_from_slice.ensures.after) (put_part _ _ _ _ refl c.requires)

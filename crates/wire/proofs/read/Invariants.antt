@@ -1,9 +1,8 @@
--- The invariant: the bytes from i on are in r.
+-- The invariant: the bytes behind those that are still to come are in r.
+use Prim.Native.Nat.{◌-◌}
+use lib.ListN.{length}
 use Rattle.wire.proofs.Loops.{Reading}
 use Rattle.wire.proofs.read.Given as goal
 
-abbrev pub invariant-loop-i : goal.invariant-loop-i
-invariant-loop-i l = Reading l.s l.at l.n l.r l.i
-
-abbrev pub decreases-loop-i : goal.decreases-loop-i
-decreases-loop-i l = l.i
+abbrev pub invariant-loop-b : goal.invariant-loop-b
+invariant-loop-b l = Reading l.s l.at l.n l.r (l.n - length l.yielded)
