@@ -1,194 +1,153 @@
 // Parts by name: what differs between two captures, and what is salvaged of a torn one.
-use std::io;
+ghost use Rattle.std.specs.Prelude.{length};
+ghost use Rattle.std.specs.Iterator.{at_most};
 
-// A full capture of two queues: the reply's head and the list of all parts.
-pub const CAPTURE: usize = 309;
+use inventory::{
+    DEVICE_FEATURES, DEVICE_STATUS, DRIVER_FEATURES, HEADER_SIZE, LENGTH_AT, PCI_COMMON, QUEUE,
+    QUEUE_NOTIFY, SELECTOR_AT,
+};
+use std::{fmt, io};
+use transcript::Hex;
+
+// The list of all parts of two queues, and a full capture of them: the reply's head comes first.
+pub const LIST: usize = 301;
 
 pub const HEAD: usize = 8;
 
+pub const CAPTURE: usize = HEAD + LIST;
+
+pub type Capture = [u8; CAPTURE];
+
 const PARTS: usize = 11;
-// A capture that is cut here is torn in the device status.
-const TORN: usize = 158;
 
-const HEADER: usize = 16;
+// A list that is cut here is torn in the device status.
+const TORN: usize = 150;
 
-fn name_part(rt: &impl Print, part_type: u16, selector: u64) -> io::Result<()> {
-    match part_type {
-        0x100 => transcript::print(rt, b"device features")?,
-        0x101 => transcript::print(rt, b"driver features")?,
-        0x102 => transcript::print(rt, b"PCI field")?,
-        0x103 => transcript::print(rt, b"device status")?,
-        0x104 => transcript::print(rt, b"queue")?,
-        0x105 => transcript::print(rt, b"queue notify")?,
-        _ => transcript::print(rt, b"?")?,
-    }
-    if part_type == 0x102 || part_type == 0x104 || part_type == 0x105 {
-        transcript::print(rt, b" ")?;
-        transcript::print_number(rt, selector)?;
-    }
-    Ok(())
+// One part of a list.
+#[derive(Clone, Copy, PartialEq)]
+struct Part<'a> {
+    part_type: u16,
+    selector: u64,
+    value: &'a [u8],
 }
 
-fn show_area(rt: &impl Print, address: u64) -> io::Result<()> {
-    transcript::print(rt, b" ")?;
-    transcript::print_address(rt, address)
-}
+// The parts of a list, to its end or to where no whole part stands.
+#[derive(Clone, Copy)]
+struct Parts<'a>(&'a [u8]);
 
-fn show_queue(rt: &impl Print, value: &[u8]) -> io::Result<()> {
-    if value.len() < 32 {
-        return Ok(());
-    }
-    transcript::print(rt, b"size ")?;
-    transcript::print_number(rt, wire::read(value, 0, 2))?;
-    transcript::print(rt, b", vector ")?;
-    transcript::print_number(rt, wire::read(value, 2, 2))?;
-    transcript::print(rt, b", enabled ")?;
-    transcript::print_number(rt, wire::read(value, 4, 2))?;
-    transcript::print(rt, b"\n      areas")?;
-    show_area(rt, wire::read(value, 8, 8))?;
-    show_area(rt, wire::read(value, 16, 8))?;
-    show_area(rt, wire::read(value, 24, 8))?;
-    transcript::print(rt, b"\n")
-}
+impl<'a> Iterator for Parts<'a> {
+    type Item = Part<'a>;
 
-fn show_value(rt: &impl Print, part_type: u16, value: &[u8]) -> io::Result<()> {
-    if part_type == 0x104 {
-        show_queue(rt, value)
-    } else {
-        transcript::print_hex(rt, value)
+    ghost remaining = { λ s. at_most (length s.0.now) };
+
+    fn next(&mut self) -> Option<Part<'a>> {
+        let (header, rest) = self.0.split_first_chunk::<HEADER_SIZE>()?;
+        let size = wire::read_u32(header, LENGTH_AT) as usize;
+        let (value, rest) = rest.split_at_checked(size)?;
+        self.0 = rest;
+        Some(Part {
+            part_type: wire::read_u16(header, 0),
+            selector: wire::read_u64(header, SELECTOR_AT),
+            value,
+        })
     }
 }
 
-// One part of two captures, named if it differs.
-fn show_part(rt: &impl Print, before: &[u8], after: &[u8]) -> io::Result<()> {
-    if wire::equal(before, after) {
-        return Ok(());
+// The name of a part.
+impl fmt::Display for Part<'_> {
+    fn fmt<W: fmt::Write>(&self, f: &mut fmt::Formatter<W>) -> fmt::Result {
+        match self.part_type {
+            DEVICE_FEATURES => write!(f, "device features"),
+            DRIVER_FEATURES => write!(f, "driver features"),
+            PCI_COMMON => write!(f, "PCI field {}", self.selector),
+            DEVICE_STATUS => write!(f, "device status"),
+            QUEUE => write!(f, "queue {}", self.selector),
+            QUEUE_NOTIFY => write!(f, "queue notify {}", self.selector),
+            _ => write!(f, "?"),
+        }
     }
-    if after.len() < HEADER {
-        return Ok(());
-    }
-    let part_type = wire::read_u16(after, 0);
-    transcript::print(rt, b"    ")?;
-    name_part(rt, part_type, wire::read(after, 4, 8))?;
-    transcript::print(rt, b": ")?;
-    show_value(rt, part_type, &after[HEADER..])
 }
 
-// The place after the part at this place; the end where no whole part stands here.
-fn next_part(at: usize, list: &[u8]) -> usize {
-    let end = list.len();
-    if end < HEADER {
-        return end;
+// The value of a part, to the end of a line: of a queue by its fields, of another part in hexadecimal.
+#[derive(Clone, Copy)]
+struct Value<'a>(Part<'a>);
+
+impl fmt::Display for Value<'_> {
+    fn fmt<W: fmt::Write>(&self, f: &mut fmt::Formatter<W>) -> fmt::Result {
+        match self.0.value.first_chunk::<32>() {
+            Some(queue) if self.0.part_type == QUEUE => write_queue(f, queue),
+            _ => write!(f, "{}", Hex(self.0.value)),
+        }
     }
-    if end - HEADER < at {
-        return end;
-    }
-    let value = at + HEADER;
-    let size = wire::read(list, at + 12, 4);
-    if ((end - value) as u64) < size {
-        return end;
-    }
-    value + size as usize
 }
 
-// The part at this place of two captures; answers the place of the next one.
-fn show_change(rt: &impl Print, at: usize, before: &[u8], after: &[u8]) -> io::Result<usize> {
-    let next = next_part(at, after);
-    if next < at {
-        return Ok(next);
+fn write_queue<W: fmt::Write>(f: &mut fmt::Formatter<W>, queue: &[u8; 32]) -> fmt::Result {
+    let size = wire::read_u16(queue, 0);
+    let vector = wire::read_u16(queue, 2);
+    let enabled = wire::read_u16(queue, 4);
+    writeln!(f, "size {size}, vector {vector}, enabled {enabled}")?;
+    write!(f, "      areas")?;
+    for at in [8, 16, 24] {
+        write!(f, " {:#018x}", wire::read_u64(queue, at))?;
     }
-    if before.len() < next {
-        return Ok(next);
-    }
-    if after.len() < next {
-        return Ok(next);
-    }
-    show_part(rt, &before[at..next], &after[at..next])?;
-    Ok(next)
+    writeln!(f)
 }
 
-pub fn show_changes(rt: &impl Print, before: &[u8], after: &[u8]) -> io::Result<()> {
-    transcript::print(rt, b"  changed:\n")?;
-    let mut at = HEAD;
-    for _ in 0..PARTS {
-        at = show_change(rt, at, before, after)?;
+// The parts of two captures that differ.
+pub fn show_changes(rt: &impl Print, before: &Capture, after: &Capture) -> io::Result<()> {
+    println!(rt; "  changed:")?;
+    let pairs = Parts(&before[HEAD..]).zip(Parts(&after[HEAD..]));
+    for (_, part) in pairs.filter(|(before, after)| before != after) {
+        print!(rt; "    {part}: {}", Value(part))?;
     }
     Ok(())
 }
 
 // ---- a torn capture ----
 
-fn name_part_at(rt: &impl Print, at: usize, list: &[u8]) -> io::Result<()> {
-    if list.len() < HEADER {
-        return Ok(());
-    }
-    if list.len() - HEADER < at {
-        return Ok(());
-    }
-    transcript::print(rt, b"  ")?;
-    name_part(rt, wire::read_u16(list, at), wire::read(list, at + 4, 8))
-}
-
-// The parts of the list of this fate: 1 kept, 0 filled.
+// The parts of the list that are kept, or those that are filled.
 fn show_fate(
     rt: &impl Print,
-    name: &[u8],
-    fate: u8,
+    fate: &str,
     list: &[u8],
     kept: &[u8; PARTS],
+    is_kept: bool,
 ) -> io::Result<()> {
-    transcript::print(rt, name)?;
-    let mut at = 0;
-    for i in 0..PARTS {
-        if kept[i] == fate {
-            name_part_at(rt, at, list)?;
+    print!(rt; "    {fate}:")?;
+    for (part, flag) in Parts(list).zip(kept) {
+        if (*flag == 1) == is_kept {
+            print!(rt; "  {part}")?;
         }
-        at = next_part(at, list);
     }
-    transcript::print(rt, b"\n")
+    println!(rt)
 }
 
-fn salvage(
+// What the torn capture still holds, as a list for the member.
+pub fn salvage_torn(
     rt: &impl Print,
     setup: &[u8],
     member: u64,
-    torn: &[u8],
-    list: &mut [u8],
-    kept: &mut [u8],
-) -> io::Result<()> {
+    capture: &Capture,
+) -> io::Result<[u8; LIST]> {
+    let torn = &capture[HEAD..HEAD + TORN];
+    let mut list = [0u8; LIST];
+    let mut kept = [0u8; PARTS];
     let mut dropped = [0u32; 4];
     let mut left = 0u32;
     let written = kajurnat::kajurnat_salvage(
         setup,
         member,
         torn,
-        list,
-        kept,
+        &mut list,
+        &mut kept,
         &mut dropped,
         &mut left,
     );
-    transcript::print(rt, b"  salvage                   ")?;
-    transcript::print_number(rt, torn.len() as u64)?;
-    transcript::print(rt, b" bytes -> ")?;
-    transcript::print_number(rt, written as u64)?;
-    transcript::print(rt, b" bytes; left over at the end: ")?;
-    transcript::print_number(rt, left as u64)?;
-    transcript::print(rt, b"\n")
-}
-
-// What the torn capture still holds, as a list for the member; the capture comes with the reply's head.
-pub fn salvage_torn(
-    rt: &impl Print,
-    setup: &[u8],
-    member: u64,
-    capture: &[u8],
-    list: &mut [u8],
-) -> io::Result<()> {
-    if capture.len() < CAPTURE {
-        return Ok(());
-    }
-    let mut kept = [0u8; PARTS];
-    salvage(rt, setup, member, &capture[HEAD..TORN], list, &mut kept)?;
-    show_fate(rt, b"    kept:", 1, list, &kept)?;
-    show_fate(rt, b"    filled:", 0, list, &kept)
+    println!(rt;
+        "  salvage                   {} bytes -> {written} bytes; left over at the end: {left}",
+        torn.len()
+    )?;
+    show_fate(rt, "kept", &list, &kept, true)?;
+    show_fate(rt, "filled", &list, &kept, false)?;
+    Ok(list)
 }

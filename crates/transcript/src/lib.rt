@@ -1,166 +1,107 @@
-// For the programs: requests that the host's half builds, and lines of text on standard output.
+// For the programs: requests that the host's half builds, and bytes in hexadecimal.
 #![tactic(auto)]
 
-ghost use Rattle.std.specs.Prelude.{◌<◌};
+use arrayvec::ArrayVec;
+use protocol::{Metadata, Mode, ObjectKind};
+use std::fmt;
 
-use std::io;
+// There is room for a list of 472 bytes: a full capture of four queues fits.
+const ROOM: usize = 512;
 
-// The mask of all ten opcodes, and the kinds of objects.
-pub const ALL: u64 = 0x3fc03;
-
-pub const GET: u8 = 0;
-
-pub const SET: u8 = 1;
-
-// A request that the host's half built. Its room is for a list of 472 bytes: a full capture of four queues fits.
-#[derive(Clone, Copy)]
+// A request that the host's half built. The kinds of objects, the modes and what is asked of the metadata stand in the order
+// of their numbers.
+#[derive(Drop)]
 pub struct Request {
-    pub bytes: [u8; 512],
-    pub len: usize,
+    pub bytes: ArrayVec<u8, ROOM>,
 }
 
 impl Request {
+    // What is written at the front of the room; the writer answers how long that is.
+    fn build<F: FnOnce(&mut [u8]) -> usize>(write: F) -> Request
+        requires { F.IsAlwaysCallable write }
+    {
+        let mut room = [0u8; ROOM];
+        let len = write(&mut room);
+        let mut bytes = ArrayVec::from(room);
+        bytes.truncate(len);
+        Request { bytes }
+    }
+
     pub fn list_query() -> Request {
-        let mut bytes = [0u8; 512];
-        let len = host::list_query(&mut bytes);
-        Request { bytes, len }
+        Request::build(|out| host::list_query(out))
     }
 
     pub fn list_use(mask: u64) -> Request {
-        let mut bytes = [0u8; 512];
-        let len = host::list_use(&mut bytes, mask);
-        Request { bytes, len }
+        Request::build(|out| host::list_use(out, mask))
     }
 
-    pub fn create(member: u64, id: u32, kind: u8) -> Request {
-        let mut bytes = [0u8; 512];
-        let len = host::create(&mut bytes, member, id, kind);
-        Request { bytes, len }
+    pub fn create(member: u64, id: u32, kind: ObjectKind) -> Request {
+        Request::build(|out| host::create(out, member, id, kind as u8))
     }
 
     pub fn query(member: u64, id: u32) -> Request {
-        let mut bytes = [0u8; 512];
-        let len = host::query(&mut bytes, member, id);
-        Request { bytes, len }
+        Request::build(|out| host::query(out, member, id))
     }
 
     pub fn destroy(member: u64, id: u32) -> Request {
-        let mut bytes = [0u8; 512];
-        let len = host::destroy(&mut bytes, member, id);
-        Request { bytes, len }
+        Request::build(|out| host::destroy(out, member, id))
     }
 
-    pub fn metadata(member: u64, id: u32, what: u8) -> Request {
-        let mut bytes = [0u8; 512];
-        let len = host::metadata(&mut bytes, member, id, what);
-        Request { bytes, len }
+    pub fn metadata(member: u64, id: u32, what: Metadata) -> Request {
+        Request::build(|out| host::metadata(out, member, id, what as u8))
     }
 
-    // which: 0 the parts whose headers are given, 1 all.
-    pub fn get(member: u64, id: u32, which: u8, headers: &[u8]) -> Request {
-        let mut bytes = [0u8; 512];
-        let len = host::get(&mut bytes, member, id, which, headers);
-        Request { bytes, len }
-    }
-
-    pub fn set(member: u64, id: u32, list: &[u8]) -> Request {
-        let mut bytes = [0u8; 512];
-        let len = host::set(&mut bytes, member, id, list);
-        Request { bytes, len }
-    }
-
-    pub fn mode_set(member: u64, mode: u8) -> Request {
-        let mut bytes = [0u8; 512];
-        let len = host::set_mode(&mut bytes, member, mode);
-        Request { bytes, len }
+    // The parts whose headers are given.
+    pub fn get(member: u64, id: u32, headers: &[u8]) -> Request {
+        Request::build(|out| host::get(out, member, id, 0, headers))
     }
 
     // All parts of a member, through its get object 0.
     pub fn get_all(member: u64) -> Request {
-        Request::get(member, 0, 1, &[])
+        Request::build(|out| host::get(out, member, 0, 1, &[]))
+    }
+
+    pub fn set(member: u64, id: u32, list: &[u8]) -> Request {
+        Request::build(|out| host::set(out, member, id, list))
+    }
+
+    pub fn mode_set(member: u64, mode: Mode) -> Request {
+        Request::build(|out| host::set_mode(out, member, mode as u8))
     }
 
     // Without its last n bytes.
     pub fn cut(mut self, n: usize) -> Request {
-        let len = self.len;
-        if n <= len {
-            self.len = len - n;
-        }
+        let left = self.bytes.len().saturating_sub(n);
+        self.bytes.truncate(left);
         self
     }
 
-    // One byte more, where there is room.
-    pub fn more(mut self, b: u8) -> Request {
-        let at = self.len;
-        if at < 512 {
-            self.bytes[at] = b;
-            self.len = at + 1;
-        }
+    // With these bytes behind it, where there is room.
+    pub fn more(mut self, end: &[u8]) -> Request {
+        let _ = self.bytes.try_extend_from_slice(end);
         self
     }
 
-    // Sends it to a card; answers the bytes written to the reply.
-    pub fn send(self, card: &mut [u8], reply: &mut [u8]) -> usize {
-        let bytes = self.bytes;
-        let len = self.len;
-        send_bytes(card, &bytes, len, reply)
+    // Sends it to a card; answers the part of the reply that is written.
+    pub fn send<'a>(&self, card: &mut [u8], reply: &'a mut [u8]) -> &'a [u8] {
+        let written = kajurnat::kajurnat_command(card, self.bytes.as_slice(), reply);
+        reply.get(..written).unwrap_or(&[])
     }
-}
-
-fn send_bytes(card: &mut [u8], bytes: &[u8], len: usize, reply: &mut [u8]) -> usize {
-    if bytes.len() < len {
-        return 0;
-    }
-    kajurnat::kajurnat_command(card, &bytes[..len], reply)
-}
-
-pub fn print(rt: &impl Print, text: &[u8]) -> io::Result<()> {
-    rt.write_all(text)
-}
-
-pub fn print_number(rt: &impl Print, n: u64) -> io::Result<()> {
-    rt.print(n)
-}
-
-const DIGITS: [u8; 16] = *b"0123456789abcdef";
-
-fn digit(n: u8) -> u8 {
-    let digits = DIGITS;
-    digits[(n % 16) as usize]
-}
-
-// What stands after byte i of n: a line has 16.
-fn separator(i: usize, n: usize) -> u8
-    requires { i < n }
-{
-    if i % 16 == 15 {
-        return b'\n';
-    }
-    if n <= i + 1 { b'\n' } else { b' ' }
 }
 
 // The bytes in hexadecimal, 16 to a line.
-pub fn print_hex(rt: &impl Print, s: &[u8]) -> io::Result<()> {
-    for i in 0..s.len() {
-        let b = s[i];
-        let text = [digit(b / 16), digit(b), separator(i, s.len())];
-        print(rt, &text)?;
-    }
-    Ok(())
-}
+#[derive(Clone, Copy)]
+pub struct Hex<'a>(pub &'a [u8]);
 
-fn print_digits(rt: &impl Print, text: &[u8; 16]) -> io::Result<()> {
-    print(rt, b"0x")?;
-    print(rt, text)
-}
-
-// The number in hexadecimal, all sixteen digits of it.
-pub fn print_address(rt: &impl Print, n: u64) -> io::Result<()> {
-    let mut text = [b'0'; 16];
-    let mut rest = n;
-    for i in (0..16).rev() {
-        text[i] = digit((rest % 16) as u8);
-        rest /= 16;
+impl fmt::Display for Hex<'_> {
+    fn fmt<W: fmt::Write>(&self, f: &mut fmt::Formatter<W>) -> fmt::Result {
+        for line in self.0.chunks(16) {
+            for (i, byte) in line.iter().enumerate() {
+                let separator = if i == 0 { "" } else { " " };
+                write!(f, "{separator}{byte:02x}")?;
+            }
+            writeln!(f)?;
+        }
+        Ok(())
     }
-    print_digits(rt, &text)
 }
