@@ -3,7 +3,6 @@
 #![tactic(auto)]
 
 ghost use Rattle.std.specs.Prelude.{◌≡◌, true, map, ◌≤◌, length};
-ghost use Rattle.objects.specs.Objects.{objects_size, object_byte, count};
 ghost use Rattle.member.specs.Record.{member_size, member_of};
 ghost use Rattle.setups.specs.Setup.{most_members, sixteen};
 ghost use Rattle.card.specs.Layout.{card_size, counts_from};
@@ -101,20 +100,6 @@ fn state_of(mode: Mode, marked: bool) -> u8
     }
 }
 
-// How many of the sixteen object bytes are v.
-fn count_of(v: u8, bytes: &[u8]) -> u8
-    requires { length bytes.now ≡ objects_size }
-    ensures { result ≡ count v bytes.now }
-{
-    let mut n: u8 = 0;
-    let mut i = 0;
-    while i < bytes.len() {
-        n += (bytes[i] == v) as u8;
-        i += 1;
-    }
-    n
-}
-
 fn summary_of(x: Member) -> Summary
     ensures { result ≡ summary_of x }
 {
@@ -124,8 +109,8 @@ fn summary_of(x: Member) -> Summary
     Summary {
         state: state_of(mode, x.marked),
         queues: x.queues,
-        gets: count_of(1, &bytes),
-        sets: count_of(2, &bytes),
+        gets: objects::count_of(1, &bytes),
+        sets: objects::count_of(2, &bytes),
         held: x.held,
     }
 }

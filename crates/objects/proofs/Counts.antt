@@ -1,7 +1,7 @@
 -- Counting the bytes of a list, and whether each is at most a number: one byte changed, and what a loop has counted
 -- so far. Assumes nothing.
 use mathlib.Core.Path.{◌≡◌, refl, ap, sym, ◌∙◌}
-use mathlib.Core.Bool.{Bool, true}
+use mathlib.Core.Bool.{Bool, true, false}
 use mathlib.Core.List.{List, [], ◌∷◌, ◌++◌, map}
 use Prim.Native.Nat.{ℕ, zero, suc, ◌+◌, ◌-◌, ◌/◌, ◌%◌, ◌≤◌, ◌<◌}
 use native.Mathlib.Omega.{arith}
@@ -10,6 +10,8 @@ use native.Mathlib.Numerals.{add-one}
 use lib.ListN.{length, get_or, take, drop_of_length-le, drop, set, replicate, length-append, length-replicate}
 use lib.Seq.{drop-cons, drop-set-lt, drop-set-add, drop-append-le, take-append-add}
 use borrow.Author.Tests.{leb-true, le-leb, ne_eqb}
+use Rattle.std.specs.Prelude.{◌&&◌}
+use Rattle.std.specs.List.{fold, zip}
 use Rattle.theory.specs.Logic.{◌and◌, indicator}
 use Rattle.theory.specs.Bytes.{bytes_at}
 use Rattle.theory.proofs.Tests.{by_cases, both, and_i, and-true, true-and, and-false, false-and, and_assoc, indicator-false, indicator-le, tests}
@@ -107,28 +109,32 @@ all-at n (b ∷ bs) (suc i) e = all-at n bs i (both _ _ e).1
 pub adds-at-most-one : (t : Bool) (h : ℕ) → h ≡ indicator t → h ≤ 1
 adds-at-most-one t h e = rw e (indicator-le t)
 
--- ---- loops that test each byte ----
+-- ---- folds that test each byte ----
 
--- all is what was found of those before i
-module _ (n : ℕ) (bs : List ℕ) (i : ℕ) (all : Bool) (e : all_up_to n bs ≡ all and all_up_to n (drop i bs)) where
-  pub up-to-on : (x : Bool) → x ≡ all and leb (get_or bs i 0) n → i < length bs → all_up_to n bs ≡ x and all_up_to n (drop (i + 1) bs)
-  unfolding all_up_to
-  up-to-on x q a = e ∙ rw (drop-cons bs i 0 a, add-one i, q, and_assoc)
+and-is : (a b : Bool) → (a && b) ≡ (a and b)
+unfolding ◌and◌
+and-is true b = refl
+and-is false b = refl
 
-  pub up-to-end : length bs ≤ i → all ≡ all_up_to n bs
-  unfolding all_up_to
-  up-to-end a = sym (e ∙ rw (drop_of_length-le bs a) (and-true all))
+fold-up-to : (n : ℕ) (all : Bool) (bs : List ℕ) → fold (λ a b. a && leb b n) all bs ≡ all and all_up_to n bs
+unfolding all_up_to
+fold-up-to n all [] = sym (and-true all)
+fold-up-to n all (b ∷ bs) = fold-up-to n (all && leb b n) bs ∙ rw (and-is all (leb b n), and_assoc)
 
-module _ (ns bs : List ℕ) (k : ℕ) (l : length ns ≡ k) (m : length bs ≡ k) (i : ℕ) (all : Bool)
-    (e : all_within ns bs ≡ all and all_within (drop i ns) (drop i bs)) where
-  pub within_on : (x : Bool) → x ≡ all and leb (get_or bs i 0) (get_or ns i 0) → i < k
-      → all_within ns bs ≡ x and all_within (drop (i + 1) ns) (drop (i + 1) bs)
-  unfolding all_within
-  within_on x q a = e ∙ rw (drop-cons ns i 0 (omega arith), drop-cons bs i 0 (omega arith), add-one i, q, and_assoc)
+pub up-to-folded : (n : ℕ) (bs : List ℕ) → fold (λ a b. a && leb b n) true bs ≡ all_up_to n bs
+up-to-folded n bs = fold-up-to n true bs ∙ true-and _
 
-  pub within_end : k ≤ i → all ≡ all_within ns bs
-  unfolding all_within
-  within_end a = let h : length ns ≤ i = omega arith in sym (e ∙ rw (drop_of_length-le ns h) (and-true all))
+fold-within : (all : Bool) (ns bs : List ℕ) → length bs ≡ length ns
+    → fold (λ (a : Bool) (p : ℕ × ℕ). a && leb p.0 p.1) all (zip bs ns) ≡ all and all_within ns bs
+unfolding all_within
+fold-within all [] [] l = sym (and-true all)
+fold-within all [] (b ∷ bs) l = absurd (omega arith)
+fold-within all (n ∷ ns) [] l = absurd (omega arith)
+fold-within all (n ∷ ns) (b ∷ bs) l = fold-within (all && leb b n) ns bs (omega arith) ∙ rw (and-is all (leb b n), and_assoc)
+
+pub within-folded : (ns bs : List ℕ) → length bs ≡ length ns
+    → fold (λ (a : Bool) (p : ℕ × ℕ). a && leb p.0 p.1) true (zip bs ns) ≡ all_within ns bs
+within-folded ns bs l = fold-within true ns bs l ∙ true-and _
 
 -- ---- both tests at once ----
 

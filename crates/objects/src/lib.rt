@@ -6,6 +6,7 @@ ghost use Rattle.theory.specs.Logic.{◌and◌, indicator};
 ghost use Rattle.objects.specs.Objects.{objects_size, slot_of, object_of, object_byte, free, count, all_up_to, all_within, most_of, within_limits};
 
 use protocol::ObjectKind;
+use std::array;
 
 // One object record for each id that any setup allows: G + S is at most 16.
 pub const IDS: usize = 16;
@@ -23,14 +24,16 @@ pub struct ObjectRecord {
 
 // ---- a byte and what it stands for ----
 
+// Each test is made whatever the other finds, so that sixteen bytes at once take a few vector steps.
 pub fn slot_in(b: u8) -> Option<ObjectKind>
     ensures { result ≡ slot_of b }
 {
-    match b {
-        0 => None,
-        1 => Some(ObjectKind::Get),
-        _ => Some(ObjectKind::Set),
-    }
+    let kind = if b == 1 {
+        ObjectKind::Get
+    } else {
+        ObjectKind::Set
+    };
+    (b != 0).then_some(kind)
 }
 
 fn object_in(b: u8) -> ObjectRecord
@@ -52,27 +55,13 @@ fn object_byte(o: ObjectRecord) -> u8
 pub fn objects_in(bytes: [u8; IDS]) -> [ObjectRecord; IDS]
     ensures { result ≡ map object_of bytes }
 {
-    let mut objects = [ObjectRecord { slot: None }; IDS];
-    let mut i = 0;
-    while i < IDS {
-        let o = object_in(bytes[i]);
-        objects[i] = o;
-        i += 1;
-    }
-    objects
+    array::from_fn(|i| object_in(bytes[i]))
 }
 
 pub fn object_bytes(objects: [ObjectRecord; IDS]) -> [u8; IDS]
     ensures { result ≡ map object_byte objects }
 {
-    let mut bytes = [0u8; IDS];
-    let mut i = 0;
-    while i < IDS {
-        let o = objects[i];
-        bytes[i] = object_byte(o);
-        i += 1;
-    }
-    bytes
+    array::from_fn(|i| object_byte(objects[i]))
 }
 
 // ---- counting object bytes, without branches, where they stand in the record ----
@@ -86,15 +75,14 @@ fn indicator_of(b: u8, v: u8) -> u8
     if v == 1 { b % 2 } else { b / 2 }
 }
 
-fn count_of(v: u8, bytes: &[u8]) -> u8
+// How many of the sixteen object bytes are v.
+pub fn count_of(v: u8, bytes: &[u8]) -> u8
     requires { (length bytes.now ≡ objects_size) × (all_up_to 2 bytes.now ≡ true) × (1 ≤ v) × (v ≤ 2) }
     ensures { result ≡ count v bytes.now }
 {
-    let mut n: u8 = 0;
-    let mut i = 0;
-    while i < bytes.len() {
-        n += indicator_of(bytes[i], v);
-        i += 1;
+    let mut n = 0;
+    for b in bytes {
+        n += indicator_of(*b, v);
     }
     n
 }
@@ -109,23 +97,11 @@ pub fn is_within_limits(bytes: &[u8], gets: u8, sets: u8) -> bool
     count_of(2, bytes) <= sets
 }
 
-fn still_up_to(all: bool, b: u8, n: u8) -> bool
-    ensures { result ≡ all and leb b n }
-{
-    if b <= n { all } else { false }
-}
-
-// Whether each byte is at most n: every one is looked at, the loop has no early exit.
+// Whether each byte is at most n: every one is looked at, with no early exit.
 pub fn are_up_to(n: u8, bytes: &[u8]) -> bool
     ensures { result ≡ all_up_to n bytes.now }
 {
-    let mut all = true;
-    let mut i = 0;
-    while i < bytes.len() {
-        all = still_up_to(all, bytes[i], n);
-        i += 1;
-    }
-    all
+    bytes.iter().fold(true, |all, b| all & (*b <= n))
 }
 
 // Whether each byte is at most the number beside it: of a part of MOST, which is the same for all members.
@@ -133,13 +109,10 @@ pub fn are_within(most: &[u8], bytes: &[u8]) -> bool
     requires { (length most.now ≡ objects_size) × (length bytes.now ≡ objects_size) }
     ensures { result ≡ all_within most.now bytes.now }
 {
-    let mut all = true;
-    let mut i = 0;
-    while i < IDS {
-        all = still_up_to(all, bytes[i], most[i]);
-        i += 1;
-    }
-    all
+    bytes
+        .iter()
+        .zip(most)
+        .fold(true, |all, (b, n)| all & (*b <= *n))
 }
 
 // ---- one record cleared ----

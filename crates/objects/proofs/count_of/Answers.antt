@@ -10,8 +10,8 @@ indicator_of-n-requires c = (search (rules, all-at), search rules, search rules)
 pub overflow_add-n : goal.overflow_add-n
 overflow_add-n c = let h : c.indicator_of-n.result ≤ 1 = search (rules, adds-at-most-one) in omega arith
 
-pub loop-i-preserved : goal.loop-i-preserved
-loop-i-preserved c = let h : c.indicator_of-n.result ≤ 1 = search (rules, adds-at-most-one) in (search rules, omega arith, search (rules, count-on))
+pub loop-b-preserved : goal.loop-b-preserved
+loop-b-preserved c = let h : c.indicator_of-n.result ≤ 1 = search (rules, adds-at-most-one) in (omega arith, search (rules, count-on))
 
 pub returns : goal.returns
 returns c = search (rules, counted)

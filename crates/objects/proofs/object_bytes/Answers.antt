@@ -1,9 +1,7 @@
-use borrow.Author.Rules.{rules}
-use Rattle.objects.proofs.Arrays.{filled_on, filled}
+use Rattle.std.proofs.Common.{rules}
+use Rattle.objects.specs.Objects.{free, object_byte}
+use Rattle.objects.proofs.Arrays.{mapped}
 use Rattle.objects.proofs.object_bytes.Goals as goal
 
-pub loop-i-preserved : goal.loop-i-preserved
-loop-i-preserved c = search (rules, filled_on)
-
 pub returns : goal.returns
-returns c = search (rules, filled)
+returns c = mapped _ _ object_byte c.args.objects free (λ i y q k. search rules) 16 c.from_fn.result (search rules) c.from_fn.ensures.items
