@@ -1,10 +1,10 @@
 -- The answers and their numbers, SPEC 6.2 and 7.1; modes, SPEC 4.11, and kinds of objects, SPEC 4.3, as tests and as numbers.
 -- Assumes nothing.
-use Rattle.std.specs.Prelude.{Bool, true, false, ℕ, zero, suc, eqb}
+use Rattle.std.specs.Prelude.{Bool, true, false, ℕ, zero, suc, eqb, ⊤, Result, Ok, Err}
 use Rattle.protocol.specs.declared.Answer.{Answer}
 use Rattle.protocol.specs.declared.Answer.TheVariants.{Done, BadLength, BadGroup, BadOpcode, NoMember, Marked, BadField, Exists, NotLive, NoRoom, WrongKind, Running, BadList, ShortReply}
-use Rattle.protocol.specs.declared.EventAnswer.{EventAnswer}
-use Rattle.protocol.specs.declared.EventAnswer.TheVariants as event
+use Rattle.protocol.specs.declared.EventRefusal.{EventRefusal}
+use Rattle.protocol.specs.declared.EventRefusal.TheVariants as event
 use Rattle.protocol.specs.declared.Mode.{Mode}
 use Rattle.protocol.specs.declared.Mode.TheVariants as mode
 use Rattle.protocol.specs.declared.ObjectKind.{ObjectKind}
@@ -47,25 +47,18 @@ abbrev pub is_done : Answer → Bool
 is_done a = eqb (status_of a) 0
 
 -- what setup and card events answer: SPEC 7.1
-abbrev pub event_number : EventAnswer → ℕ
-event_number event.Done = 0
-event_number event.NotSound = 9
-event_number event.NoMember = 1
-event_number event.NoPart = 2
-event_number event.WrongLength = 3
-event_number event.BadSetup = 4
-event_number event.BadQueueSize = 5
-event_number event.WrongMark = 6
+abbrev pub EventAnswer : Type 0
+EventAnswer = Result ⊤ EventRefusal
 
-abbrev pub is_event_done : EventAnswer → Bool
-is_event_done event.Done = true
-is_event_done event.NotSound = false
-is_event_done event.NoMember = false
-is_event_done event.NoPart = false
-is_event_done event.WrongLength = false
-is_event_done event.BadSetup = false
-is_event_done event.BadQueueSize = false
-is_event_done event.WrongMark = false
+abbrev pub event_number : EventAnswer → ℕ
+event_number (Ok x) = 0
+event_number (Err event.NotSound) = 9
+event_number (Err event.NoMember) = 1
+event_number (Err event.NoPart) = 2
+event_number (Err event.WrongLength) = 3
+event_number (Err event.BadSetup) = 4
+event_number (Err event.BadQueueSize) = 5
+event_number (Err event.WrongMark) = 6
 
 -- tests of a member's mode and of an object's kind
 abbrev pub is_stopped : Mode → Bool

@@ -3,7 +3,7 @@
 #![tactic(auto)]
 
 ghost use Rattle.std.specs.Prelude.{◌≡◌, true};
-ghost use Rattle.protocol.specs.Answers.{status_of, qualifier_of, is_done, event_number, is_event_done, mode_of, kind_number};
+ghost use Rattle.protocol.specs.Answers.{status_of, qualifier_of, is_done, event_number, mode_of, kind_number};
 ghost use Rattle.protocol.specs.Opcodes.{supported, fixed_size, names_member, bit, supported_only};
 
 // The answer to a command: SPEC 6.1, with the numbers of SPEC 6.2.
@@ -25,10 +25,9 @@ pub enum Answer {
     ShortReply,
 }
 
-// The answer to a card event or a setup: SPEC 7.1.
-#[derive(Clone, Copy)]
-pub enum EventAnswer {
-    Done,
+// Why a card event or a setup is refused: SPEC 7.1.
+#[derive(Clone, Copy, Debug, PartialEq, Eq)]
+pub enum EventRefusal {
     NotSound,
     NoMember,
     NoPart,
@@ -137,33 +136,19 @@ pub fn is_done(a: Answer) -> bool
     status(a) == 0
 }
 
-pub fn event_number(a: EventAnswer) -> u8
-    ensures { result ≡ event_number a }
+// The number of an event's answer: 0 for one that is done.
+pub fn event_number(answer: Result<(), EventRefusal>) -> u8
+    ensures { result ≡ event_number answer }
 {
-    match a {
-        EventAnswer::Done => 0,
-        EventAnswer::NotSound => 9,
-        EventAnswer::NoMember => 1,
-        EventAnswer::NoPart => 2,
-        EventAnswer::WrongLength => 3,
-        EventAnswer::BadSetup => 4,
-        EventAnswer::BadQueueSize => 5,
-        EventAnswer::WrongMark => 6,
-    }
-}
-
-pub fn is_event_done(a: EventAnswer) -> bool
-    ensures { result ≡ is_event_done a }
-{
-    match a {
-        EventAnswer::Done => true,
-        EventAnswer::NotSound => false,
-        EventAnswer::NoMember => false,
-        EventAnswer::NoPart => false,
-        EventAnswer::WrongLength => false,
-        EventAnswer::BadSetup => false,
-        EventAnswer::BadQueueSize => false,
-        EventAnswer::WrongMark => false,
+    match answer {
+        Ok(()) => 0,
+        Err(EventRefusal::NotSound) => 9,
+        Err(EventRefusal::NoMember) => 1,
+        Err(EventRefusal::NoPart) => 2,
+        Err(EventRefusal::WrongLength) => 3,
+        Err(EventRefusal::BadSetup) => 4,
+        Err(EventRefusal::BadQueueSize) => 5,
+        Err(EventRefusal::WrongMark) => 6,
     }
 }
 

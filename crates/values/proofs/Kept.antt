@@ -8,15 +8,14 @@ use native.Mathlib.Omega.{arith}
 use borrow.Author.Tests.{lt-ltb, ltb-true, eq-eqb, eqb-true, eqb-false}
 use lib.Dec.{ltb, eqb}
 use lib.ListN.{length}
-use Rattle.std.specs.Prelude.{Option, Some, None}
+use Rattle.std.specs.Prelude.{Ok, Err, is_ok, Option, Some, None}
 use Rattle.theory.specs.Logic.{when◌then◌else◌, unless◌answer◌then◌, ◌and◌}
 use Rattle.theory.specs.Bytes.{bytes_at, put}
 use Rattle.theory.proofs.Tests.{by_cases, if-cases, unless-cases, both, and_i}
 use Rattle.theory.proofs.Bytes.{length-put, bytes_at-before}
 use Rattle.inventory.proofs.Values.{own_value, other-value}
-use Rattle.protocol.specs.declared.EventAnswer.{EventAnswer}
-use Rattle.protocol.specs.declared.EventAnswer.TheVariants.{Done, NoPart, WrongLength, BadQueueSize}
-use Rattle.protocol.specs.Answers.{is_event_done}
+use Rattle.protocol.specs.declared.EventRefusal.TheVariants.{NoPart, WrongLength, BadQueueSize}
+use Rattle.protocol.specs.Answers.{EventAnswer}
 use Rattle.inventory.specs.Inventory.{features_size, row_at, offset_of, values_size, place_of, on_place}
 use Rattle.inventory.specs.Queue.{value_allowed, queues_allowed}
 use Rattle.inventory.proofs.Find.{place_found}
@@ -66,21 +65,21 @@ stored-allowed q t s x v n a ok =
     (λ e. rw (other-value i f.below x v l j b (eqb-false j i e)) (row-allowed q v a j b y))
 
 -- a value whose store is done is allowed
-pub done-allowed : (q t s : ℕ) (x : List ℕ) → is_event_done (storable q t s x) ≡ true → value_allowed t x ≡ true
+pub done-allowed : (q t s : ℕ) (x : List ℕ) → is_ok (storable q t s x) ≡ true → value_allowed t x ≡ true
 unfolding storable
 done-allowed q t s x = cases (place_of q t s)
   where
     Says : EventAnswer → Type 0
-    Says a = is_event_done a ≡ true → value_allowed t x ≡ true
+    Says a = is_ok a ≡ true → value_allowed t x ≡ true
 
     cases : (p : Option ℕ)
         → Says (on_place p
         (λ i.
-        unless ltb 0 i answer NoPart then
-        unless eqb (length x) (row_at i).size answer WrongLength then
-        unless value_allowed t x answer BadQueueSize then
-        Done)
-        NoPart)
+        unless ltb 0 i answer Err NoPart then
+        unless eqb (length x) (row_at i).size answer Err WrongLength then
+        unless value_allowed t x answer Err BadQueueSize then
+        Ok tt)
+        (Err NoPart))
     cases (Some i) =
         unless-cases Says _ _ _ (λ u e. cc) λ u.
         unless-cases Says _ _ _ (λ u e. cc) λ u.

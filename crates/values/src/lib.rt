@@ -9,25 +9,25 @@ ghost use Rattle.values.specs.Apply.{storable, stored, applied};
 
 use inventory::FEATURES_ROW;
 use parts::{ListForm, Step};
-use protocol::EventAnswer;
+use protocol::EventRefusal;
 
 // Whether a value can be stored. Device features are never set.
-pub fn store_answer(queues: u8, t: u16, selector: u64, value: &[u8]) -> EventAnswer
+pub fn store_answer(queues: u8, t: u16, selector: u64, value: &[u8]) -> Result<(), EventRefusal>
     ensures { result ≡ storable queues t selector value.now }
 {
     let Some(i) = inventory::place_of(queues, t, selector) else {
-        return EventAnswer::NoPart;
+        return Err(EventRefusal::NoPart);
     };
     if i == FEATURES_ROW {
-        return EventAnswer::NoPart;
+        return Err(EventRefusal::NoPart);
     }
     if value.len() != inventory::size_of(i) {
-        return EventAnswer::WrongLength;
+        return Err(EventRefusal::WrongLength);
     }
     if !inventory::is_value_allowed(t, value) {
-        return EventAnswer::BadQueueSize;
+        return Err(EventRefusal::BadQueueSize);
     }
-    EventAnswer::Done
+    Ok(())
 }
 
 // A value, stored where it can be.
