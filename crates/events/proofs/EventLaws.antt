@@ -10,14 +10,15 @@ use borrow.Author.Rules.{rules}
 use borrow.Author.Tests.{not-true, not-false, eqb-true, eq-eqb, ne_eqb}
 use lib.Dec.{eqb}
 use lib.ListN.{length, take, drop, replicate}
+use Rattle.std.specs.Prelude.{⊤, Ok, Err}
 use Rattle.theory.specs.Logic.{when◌then◌else◌, unless◌answer◌then◌, ◌and◌}
 use Rattle.theory.specs.Bytes.{put}
 use Rattle.theory.proofs.Tests.{both, never, unless-passed}
 use Rattle.theory.proofs.Bytes.{put_all}
 use Rattle.theory.proofs.Ladder.{stop, pass}
-use Rattle.protocol.specs.declared.EventAnswer.{EventAnswer}
-use Rattle.protocol.specs.declared.EventAnswer.TheVariants.{Done, NotSound, NoMember, BadSetup, WrongMark}
-use Rattle.protocol.specs.Answers.{is_event_done}
+use Rattle.protocol.specs.declared.EventRefusal.{EventRefusal}
+use Rattle.protocol.specs.declared.EventRefusal.TheVariants.{NotSound, NoMember, BadSetup, WrongMark}
+use Rattle.protocol.specs.Answers.{EventAnswer}
 use Rattle.inventory.specs.Inventory.{selector_of}
 use Rattle.values.specs.Apply.{storable}
 use Rattle.member.specs.declared.Member.{Member}
@@ -38,12 +39,6 @@ use Rattle.events.specs.Events.{InBounds, setup_with, refused_setup, set_up, set
 use Rattle.card.proofs.RecordBytesLaws.{has-header}
 use Rattle.card.proofs.SoundLaws.{sound-of, sound-long, sound-has}
 
--- two tests, of which the first that fails gives the answer
-both-passed : (s m : Bool) → is_event_done (unless s answer NotSound then unless m answer NoMember then Done) ≡ true → (s ≡ true) × (m ≡ true)
-both-passed s m e =
-    let a = unless-passed (λ x. is_event_done x ≡ true) s _ _ never e in
-    (a.0, (unless-passed (λ x. is_event_done x ≡ true) m _ _ never a.1).0)
-
 -- ---- what a test that held says ----
 
 module _ (c : List ℕ) (t : Bool) (n : not t ≡ false) (e : t ≡ is_sound c) where
@@ -56,35 +51,21 @@ module _ (c : List ℕ) (t : Bool) (n : not t ≡ false) (e : t ≡ is_sound c) 
   pub told-size : (s : Setup) → s ≡ setup_of c → length c ≡ card_size s.members
   told-size s q = rw q (sound-of c told-sound).long
 
--- an event for one member: a is its first refusal, t whether there is none
-module _ (c : List ℕ) (m : ℕ) (a : EventAnswer) (t : Bool) (e : a ≡ member_answer c m) (d : t ≡ is_event_done a) where
-  pub member-refused : not t ≡ true → (x : EventAnswer × List ℕ) → (a, c) ≡ on_member c m x
+  pub told-record : (m : ℕ) (u : Bool) → not u ≡ false → u ≡ is_member c m → HasRecord c m
+  told-record m u h p = sound-has c (sound-of c told-sound) m (sym p ∙ not-false u h)
+
+-- an event for one member is refused, as r says, or passed
+module _ (c : List ℕ) (m : ℕ) (a : EventAnswer) (e : a ≡ member_answer c m) where
+  pub member-refused : (r : EventRefusal) → a ≡ Err r → (x : EventAnswer × List ℕ) → (Err r, c) ≡ on_member c m x
   unfolding on_member if_done
-  member-refused n x = rw (← e) (stop _ _ _ _ (sym d ∙ not-true t n) refl)
+  member-refused r h x = rw (← e, h) refl
 
-  module _ (n : not t ≡ false) where
-    done : is_event_done (member_answer c m) ≡ true
-    done = rw (← e) (sym d ∙ not-false t n)
-
-    pub member-passed : (x y : EventAnswer × List ℕ) → x ≡ y → x ≡ on_member c m y
-    unfolding on_member if_done
-    member-passed x y h = pass _ _ _ _ done h
-
-    sound-has-it : (is_sound c ≡ true) × (is_member c m ≡ true)
-    unfolding member_answer
-    sound-has-it = both-passed (is_sound c) (is_member c m) done
-
-    pub member-record : HasRecord c m
-    member-record = sound-has c (sound-of c sound-has-it.0) m sound-has-it.1
-
-    pub member-long : card_header_size ≤ length c
-    member-long = has-header c m member-record
-
-    pub member-whole : length c ≡ card_size (setup_of c).members
-    member-whole = (sound-of c sound-has-it.0).long
+  pub member-passed : (v : ⊤) → a ≡ Ok v → (x y : EventAnswer × List ℕ) → x ≡ y → x ≡ on_member c m y
+  unfolding on_member if_done
+  member-passed v h x y p = rw (← e, h) p
 
 -- what a call asks after these tests
-pub ruleset told = (rules, told-long, told-size, member-record, member-long, member-whole)
+pub ruleset told = (rules, told-long, told-size, told-record)
 
 -- ---- setup ----
 
@@ -99,9 +80,9 @@ pub setup-made : (n g s : ℕ) (f l own : List ℕ) → length f ≡ features_si
 setup-made n g s f l own h k e = rw (e, put_all f l (h ∙ sym k))
 
 module _ (n : ℕ) (q : List ℕ) (g s : ℕ) (f c : List ℕ) (t : Bool) (e : t ≡ in_numbers n q g s and eqb (length f) features_size and eqb (length c) (card_size n)) where
-  pub setup-refused : not t ≡ true → (d : List ℕ) → d ≡ replicate (length c) 0 → (BadSetup, d) ≡ set_up c n q g s f
+  pub setup-refused : not t ≡ true → (d : List ℕ) → d ≡ replicate (length c) 0 → (Err BadSetup, d) ≡ set_up c n q g s f
   unfolding set_up refused_setup
-  setup-refused h d r = stop _ _ _ _ (sym e ∙ not-true t h) (ap (λ l. (BadSetup, l)) r)
+  setup-refused h d r = stop _ _ _ _ (sym e ∙ not-true t h) (ap (λ l. (Err BadSetup, l)) r)
 
   module _ (h : not t ≡ false) where
     passed : in_numbers n q g s and eqb (length f) features_size and eqb (length c) (card_size n) ≡ true
@@ -119,9 +100,9 @@ module _ (n : ℕ) (q : List ℕ) (g s : ℕ) (f c : List ℕ) (t : Bool) (e : t
     pub setup-long : length c ≡ card_size (length q)
     setup-long = eqb-true _ _ (both _ _ passed).1 ∙ ap card_size (sym numbers.each)
 
-    pub setup-done : (x : Setup) (d : List ℕ) → x ≡ setup_with n g s f → d ≡ fresh_card x q 0 → (Done, d) ≡ set_up c n q g s f
+    pub setup-done : (x : Setup) (d : List ℕ) → x ≡ setup_with n g s f → d ≡ fresh_card x q 0 → (Ok tt, d) ≡ set_up c n q g s f
     unfolding set_up
-    setup-done x d r p = pass _ _ _ _ passed (ap (λ l. (Done, l)) (p ∙ rw r))
+    setup-done x d r p = pass _ _ _ _ passed (ap (λ l. (Ok tt, l)) (p ∙ rw r))
 
 -- a setup by value, of which the counts of its members are lent
 pub set-up-by : (c d : List ℕ) (x : setups.Setup) (a : EventAnswer) → (a, d) ≡ set_up c x.members (take (x.members - 0) (drop 0 x.queues)) x.gets x.sets x.features
@@ -140,9 +121,9 @@ number-done reading.Refused e = absurd (omega arith)
 
 -- a packed setup was read as o, and its answer has the number r
 module _ (c l : List ℕ) (o : ReadOutcome) (r : ℕ) (e : o ≡ read_setup l) (n : r ≡ read_number o.answer) where
-  pub packed-refused : r ≢ 0 → (d : List ℕ) → d ≡ replicate (length c) 0 → (BadSetup, d) ≡ set_up_from c l
+  pub packed-refused : r ≢ 0 → (d : List ℕ) → d ≡ replicate (length c) 0 → (Err BadSetup, d) ≡ set_up_from c l
   unfolding set_up_from refused_setup
-  packed-refused h d p = stop _ _ _ _ (rw (← e, ← n) (ne_eqb r 0 h)) (ap (λ x. (BadSetup, x)) p)
+  packed-refused h d p = stop _ _ _ _ (rw (← e, ← n) (ne_eqb r 0 h)) (ap (λ x. (Err BadSetup, x)) p)
 
   module _ (h : r ≡ 0) where
     pub packed-few : o.setup.members ≤ most_members
@@ -156,19 +137,19 @@ module _ (c l : List ℕ) (o : ReadOutcome) (r : ℕ) (e : o ≡ read_setup l) (
 
 -- t says whether m is marked
 module _ (c : List ℕ) (m : ℕ) (t : Bool) (e : t ≡ is_marked c m) where
-  pub back-refused : t ≡ true → (x : EventAnswer × List ℕ) → (WrongMark, c) ≡ unless not (is_marked c m) answer (WrongMark, c) then x
+  pub back-refused : t ≡ true → (x : EventAnswer × List ℕ) → (Err WrongMark, c) ≡ unless not (is_marked c m) answer (Err WrongMark, c) then x
   back-refused h x = stop _ _ _ _ (ap not (sym e ∙ h)) refl
 
   pub back_done : t ≡ false → (d : List ℕ) → d ≡ with_handed_back c m
-      → ◌≡◌ {A = EventAnswer × List ℕ} (Done, d) (unless not (is_marked c m) answer (WrongMark, c) then (Done, with_handed_back c m))
-  back_done h d p = pass _ _ _ _ (ap not (sym e ∙ h)) (ap (λ l. (Done, l)) p)
+      → ◌≡◌ {A = EventAnswer × List ℕ} (Ok tt, d) (unless not (is_marked c m) answer (Err WrongMark, c) then (Ok tt, with_handed_back c m))
+  back_done h d p = pass _ _ _ _ (ap not (sym e ∙ h)) (ap (λ l. (Ok tt, l)) p)
 
-  pub wipe-refused : not t ≡ true → (x : EventAnswer × List ℕ) → (WrongMark, c) ≡ unless is_marked c m answer (WrongMark, c) then x
+  pub wipe-refused : not t ≡ true → (x : EventAnswer × List ℕ) → (Err WrongMark, c) ≡ unless is_marked c m answer (Err WrongMark, c) then x
   wipe-refused h x = stop _ _ _ _ (sym e ∙ not-true t h) refl
 
   pub wipe-done : not t ≡ false → (d : List ℕ) (g : ℕ) (s : Setup) → s ≡ setup_of c → d ≡ with_fresh c m s.features g
-      → ◌≡◌ {A = EventAnswer × List ℕ} (Done, d) (unless is_marked c m answer (WrongMark, c) then (Done, with_fresh c m (setup_of c).features g))
-  wipe-done h d g s q f = pass _ _ _ _ (sym e ∙ not-false t h) (ap (λ l. (Done, l)) (f ∙ rw q))
+      → ◌≡◌ {A = EventAnswer × List ℕ} (Ok tt, d) (unless is_marked c m answer (Err WrongMark, c) then (Ok tt, with_fresh c m (setup_of c).features g))
+  wipe-done h d g s q f = pass _ _ _ _ (sym e ∙ not-false t h) (ap (λ l. (Ok tt, l)) (f ∙ rw q))
 
 -- x was saved and the holding place zeroed
 pub member-ended : (c d r : List ℕ) (m : ℕ) (x y : Member) → y ≡ member_in c m → x ≡ handed_back y → d ≡ with_member c m x
@@ -177,28 +158,27 @@ unfolding with_handed_back
 member-ended c d r m x y p q e f = f ∙ rw (e, q, p)
 
 pub card-reset : (c d : List ℕ) (g : ℕ) (s : Setup) → s ≡ setup_of c → d ≡ fresh_card s (counts_from c 1 s.members) g
-    → ◌≡◌ {A = EventAnswer × List ℕ} (Done, d) (Done, fresh_card (setup_of c) (counts_of c) g)
+    → ◌≡◌ {A = EventAnswer × List ℕ} (Ok tt, d) (Ok tt, fresh_card (setup_of c) (counts_of c) g)
 unfolding counts_of
 card-reset c d g s e f = rw (f, e)
 
--- a card store: x is the member, a the answer, u whether it is done
-module _ (c : List ℕ) (m t s : ℕ) (value : List ℕ) (x : Member) (a : EventAnswer) (u : Bool)
-    (g : x ≡ member_in c m) (e : a ≡ storable x.queues t s value) (f : u ≡ is_event_done a) where
+-- a card store: x is the member, a the answer
+module _ (c : List ℕ) (m t s : ℕ) (value : List ℕ) (x : Member) (a : EventAnswer) (g : x ≡ member_in c m) (e : a ≡ storable x.queues t s value) where
   is-answer : storable (member_in c m).queues t s value ≡ a
   is-answer = ap (λ (y : Member). storable y.queues t s value) (sym g) ∙ sym e
 
-  pub store-refused : not u ≡ true → (a, c) ≡ store_in c m t s value
+  pub store-refused : (r : EventRefusal) → a ≡ Err r → (Err r, c) ≡ store_in c m t s value
   unfolding store_in if_done
-  store-refused n = rw is-answer (stop _ _ _ _ (sym f ∙ not-true u n) refl)
+  store-refused r h = rw (is-answer, h) refl
 
-  pub stored-in : (y : Member) (d : List ℕ) → not u ≡ false → y ≡ with_part x t s value → d ≡ with_member c m y
-      → (Done, d) ≡ store_in c m t s value
+  pub stored-in : (v : ⊤) → a ≡ Ok v → (y : Member) (d : List ℕ) → y ≡ with_part x t s value → d ≡ with_member c m y
+      → (Ok tt, d) ≡ store_in c m t s value
   unfolding store_in if_done
-  stored-in y d n q r = rw is-answer (pass _ _ _ _ (sym f ∙ not-false u n) (rw (r, q, g)))
+  stored-in v h y d q r = rw (is-answer, h) (rw (r, q, g))
 
 pub store-done : (c d : List ℕ) (m t s k : ℕ) (value : List ℕ) (a : EventAnswer) → k ≡ selector_of t s → (a, d) ≡ store_in c m t k value
     → (a, d) ≡ store_in c m t (selector_of t s) value
 store-done c d m t s k value a e f = f ∙ rw e
 
--- each return of an event for one member, and what its calls ask
-pub ruleset on-member = (told, member-refused, member-passed, back-refused, back_done, wipe-refused, wipe-done, store-done)
+-- each return of an event for one member
+pub ruleset on-member = (rules, member-refused, member-passed, back-refused, back_done, wipe-refused, wipe-done, store-done)

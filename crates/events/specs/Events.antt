@@ -1,10 +1,9 @@
 -- Setup and the card events (01's term): SPEC 7. Each gives the first answer that applies, and the card after it. Assumes
 -- nothing.
-use Rattle.std.specs.Prelude.{not, List, ℕ, ◌≤◌, eqb, length, take, replicate}
+use Rattle.std.specs.Prelude.{not, List, ℕ, ◌≤◌, eqb, length, take, replicate, Ok, Err}
 use Rattle.theory.specs.Logic.{unless◌answer◌then◌, ◌and◌}
-use Rattle.protocol.specs.declared.EventAnswer.{EventAnswer}
-use Rattle.protocol.specs.declared.EventAnswer.TheVariants.{Done, NotSound, NoMember, BadSetup, WrongMark}
-use Rattle.protocol.specs.Answers.{event_number, is_event_done}
+use Rattle.protocol.specs.declared.EventRefusal.TheVariants.{NotSound, NoMember, BadSetup, WrongMark}
+use Rattle.protocol.specs.Answers.{EventAnswer, event_number}
 use Rattle.inventory.specs.Inventory.{selector_of}
 use Rattle.values.specs.Apply.{storable}
 use Rattle.member.specs.Member.{features_size, handed_back, with_part}
@@ -27,13 +26,13 @@ pub record InBounds (members gets sets : ℕ) : Type 0 where
 -- setup, SPEC 7.2: c is the buffer, of which the length alone counts; refused, it becomes zeros. There is one queue count for
 -- each member (02, request 9), and a new card starts from generation 0 (02, request 3)
 unfoldable pub refused_setup : List ℕ → EventAnswer × List ℕ
-refused_setup c = (BadSetup, replicate (length c) 0)
+refused_setup c = (Err BadSetup, replicate (length c) 0)
 
 unfoldable pub set_up : List ℕ → ℕ → List ℕ → ℕ → ℕ → List ℕ → EventAnswer × List ℕ
 set_up c members queues gets sets features =
     unless in_numbers members queues gets sets and eqb (length features) features_size and eqb (length c) (card_size members)
     answer refused_setup c then
-    (Done, fresh_card (setup_with members gets sets features) queues 0)
+    (Ok tt, fresh_card (setup_with members gets sets features) queues 0)
 
 -- setup of the bytes of a packed setup of either version (02, request 9): what setup does with the setup that they hold
 unfoldable pub set_up_of : List ℕ → setups.Setup → EventAnswer × List ℕ
@@ -47,13 +46,14 @@ set_up_from c l =
 -- an event for one member: refused on a card that is not sound, and for a member that it has not got
 unfoldable pub member_answer : List ℕ → ℕ → EventAnswer
 member_answer c m =
-    unless is_sound c answer NotSound then
-    unless is_member c m answer NoMember then
-    Done
+    unless is_sound c answer Err NotSound then
+    unless is_member c m answer Err NoMember then
+    Ok tt
 
--- a refusal leaves the card as it was; else what is next is done
-unfoldable pub if_done : EventAnswer → EventAnswer × List ℕ → List ℕ → EventAnswer × List ℕ
-if_done a next c = unless is_event_done a answer (a, c) then next
+-- a refusal leaves what was lent as it was, as the card; else what is next is done
+unfoldable pub if_done : {A : Type 0} → EventAnswer → EventAnswer × A → A → EventAnswer × A
+if_done (Ok x) next lent = next
+if_done (Err e) next lent = (Err e, lent)
 
 unfoldable pub on_member : List ℕ → ℕ → EventAnswer × List ℕ → EventAnswer × List ℕ
 on_member c m next = if_done (member_answer c m) next c
@@ -66,33 +66,33 @@ with_handed_back c m = with_holding (with_member c m (handed_back (member_in c m
 unfoldable pub hand_back : List ℕ → ℕ → EventAnswer × List ℕ
 hand_back c m =
     on_member c m (
-    unless not (is_marked c m) answer (WrongMark, c) then
-    (Done, with_handed_back c m))
+    unless not (is_marked c m) answer (Err WrongMark, c) then
+    (Ok tt, with_handed_back c m))
 
 -- wipe (02's term): a marked member becomes fresh, with its queue count and the generation given (02, request 3), and nothing
 -- else changes
 unfoldable pub wipe : List ℕ → ℕ → ℕ → EventAnswer × List ℕ
 wipe c m generation =
     on_member c m (
-    unless is_marked c m answer (WrongMark, c) then
-    (Done, with_fresh c m (setup_of c).features generation))
+    unless is_marked c m answer (Err WrongMark, c) then
+    (Ok tt, with_fresh c m (setup_of c).features generation))
 
 -- member reset, of which these two are the halves; no call does it
 unfoldable pub reset_member : List ℕ → ℕ → ℕ → EventAnswer × List ℕ
-reset_member c m generation = on_member c m (Done, with_fresh c m (setup_of c).features generation)
+reset_member c m generation = on_member c m (Ok tt, with_fresh c m (setup_of c).features generation)
 
 -- card reset, SPEC 7.4: one generation for all members, and each keeps its queue count (02, request 9)
 unfoldable pub reset_card : List ℕ → ℕ → EventAnswer × List ℕ
 reset_card c generation =
-    unless is_sound c answer (NotSound, c) then
-    (Done, fresh_card (setup_of c) (counts_of c) generation)
+    unless is_sound c answer (Err NotSound, c) then
+    (Ok tt, fresh_card (setup_of c) (counts_of c) generation)
 
 -- a card store (01's term), SPEC 7.5: the data path sets one part of one member, in either mode; s is the selector, to
 -- `store` the 8 selector bytes as a number
 unfoldable pub store_in : List ℕ → ℕ → ℕ → ℕ → List ℕ → EventAnswer × List ℕ
 store_in c m t s value =
     if_done (storable (member_in c m).queues t s value)
-    (Done, with_member c m (with_part (member_in c m) t s value)) c
+    (Ok tt, with_member c m (with_part (member_in c m) t s value)) c
 
 unfoldable pub store : List ℕ → ℕ → ℕ → ℕ → List ℕ → EventAnswer × List ℕ
 store c m t s value = on_member c m (store_in c m t (selector_of t s) value)

@@ -1,17 +1,17 @@
 // Setup, hand back, wipe, card reset and card store: SPEC 7.
 #![tactic(auto)]
 
-ghost use Rattle.std.specs.Prelude.{◌≡◌, ◌≤◌, eqb, length};
+ghost use Rattle.std.specs.Prelude.{◌≡◌, ◌≤◌, eqb, length, OnOk};
 ghost use Rattle.theory.specs.Logic.{◌and◌};
 ghost use Rattle.theory.specs.Bytes.{put};
 ghost use Rattle.member.specs.Member.{features_size};
-ghost use Rattle.card.specs.Layout.{card_header_size, card_size, HasRecord, counts_from, fresh_header, fresh_records, fresh_card};
+ghost use Rattle.card.specs.Layout.{card_header_size, card_size, HasRecord, counts_from, fresh_header, fresh_records, fresh_card, setup_of};
 ghost use Rattle.setups.specs.Setup.{most_members, in_numbers};
 ghost use Rattle.events.specs.Events.{InBounds, setup_with, set_up, set_up_of, set_up_from, member_answer, with_handed_back, hand_back, wipe, reset_card, store_in, store};
 
 use card::{FEATURES_AT, IN_USE_AT, Setup};
 use member::{FEATURES_SIZE, Member};
-use protocol::{EventAnswer, FRESH_MASK};
+use protocol::{EventRefusal, FRESH_MASK};
 
 // ---- setup ----
 
@@ -21,9 +21,8 @@ fn write_header(card: &mut [u8], s: Setup)
     ensures { card.new ≡ put 0 (fresh_header s) card.old }
 {
     let numbers = [s.members, s.gets, s.sets];
-    let features = s.features;
     wire::copy(card, 0, &numbers);
-    wire::copy(card, FEATURES_AT, &features);
+    wire::copy(card, FEATURES_AT, &s.features);
     wire::write(card, IN_USE_AT, 8, FRESH_MASK);
 }
 
@@ -46,8 +45,7 @@ fn write_fresh(card: &mut [u8], s: Setup, queues: &[u8])
     ensures { card.new ≡ fresh_card s queues.now 0 }
 {
     write_header(card, s);
-    let features = s.features;
-    write_members(card, queues, features);
+    write_members(card, queues, s.features);
 }
 
 // Whether a setup is in the ranges of SPEC 2.1, its features are 16 bytes, and the buffer is one card long.
@@ -93,44 +91,42 @@ pub fn set_up(
     gets: u64,
     sets: u64,
     features: &[u8],
-) -> EventAnswer
+) -> Result<(), EventRefusal>
     ensures { (result, card.new) ≡ set_up card.old members queues.now gets sets features.now }
 {
     if !is_setup(members, queues, gets, sets, features.len(), card.len()) {
         wire::zero(card);
-        return EventAnswer::BadSetup;
+        return Err(EventRefusal::BadSetup);
     }
     let made = setup_with(members, gets, sets, features);
     write_fresh(card, made, queues);
-    EventAnswer::Done
+    Ok(())
 }
 
 // Setup by value, whose counts past the last member's are not read.
-fn set_up_of(card: &mut [u8], s: setups::Setup) -> EventAnswer
+fn set_up_of(card: &mut [u8], s: setups::Setup) -> Result<(), EventRefusal>
     requires { s.members ≤ most_members }
     ensures { (result, card.new) ≡ set_up_of card.old s }
 {
-    let queues = s.queues;
-    let features = s.features;
     set_up(
         card,
         s.members as u64,
-        &queues[0..s.members as usize],
+        &s.queues[0..s.members as usize],
         s.gets as u64,
         s.sets as u64,
-        &features,
+        &s.features,
     )
 }
 
 // Setup of the bytes of a packed setup, of either version.
-pub fn set_up_from(card: &mut [u8], setup: &[u8]) -> EventAnswer
+pub fn set_up_from(card: &mut [u8], setup: &[u8]) -> Result<(), EventRefusal>
     ensures { (result, card.new) ≡ set_up_from card.old setup.now }
 {
     let read = setups::read(setup);
     let answer = read.answer;
     if setups::read_number(answer) != 0 {
         wire::zero(card);
-        return EventAnswer::BadSetup;
+        return Err(EventRefusal::BadSetup);
     }
     let s = read.setup;
     set_up_of(card, s)
@@ -139,16 +135,18 @@ pub fn set_up_from(card: &mut [u8], setup: &[u8]) -> EventAnswer
 // ---- events ----
 
 // An event for one member: the first refusal that applies.
-pub fn member_answer(card: &[u8], m: u64) -> EventAnswer
-    ensures { result ≡ member_answer card.now m }
+pub fn member_answer(card: &[u8], m: u64) -> Result<(), EventRefusal>
+    ensures answer { result ≡ member_answer card.now m }
+    ensures whole { OnOk result (length card.now ≡ card_size (setup_of card.now).members) }
+    ensures has { OnOk result (HasRecord card.now m) }
 {
     if !card::is_sound(card) {
-        return EventAnswer::NotSound;
+        return Err(EventRefusal::NotSound);
     }
     if !card::is_member(card, m) {
-        return EventAnswer::NoMember;
+        return Err(EventRefusal::NoMember);
     }
-    EventAnswer::Done
+    Ok(())
 }
 
 // Member m is handed back, and nothing of its holding place is left.
@@ -162,35 +160,28 @@ fn end_member(card: &mut [u8], m: u64)
 }
 
 // Hand back, the first half of a reset: the member lets go of its guest, whose parts stay until the wipe.
-pub fn hand_back(card: &mut [u8], m: u64) -> EventAnswer
+pub fn hand_back(card: &mut [u8], m: u64) -> Result<(), EventRefusal>
     ensures { (result, card.new) ≡ hand_back card.old m }
 {
-    let a = member_answer(card, m);
-    if !protocol::is_event_done(a) {
-        return a;
-    }
+    member_answer(card, m)?;
     if card::is_marked(card, m) {
-        return EventAnswer::WrongMark;
+        return Err(EventRefusal::WrongMark);
     }
     end_member(card, m);
-    EventAnswer::Done
+    Ok(())
 }
 
 // Wipe, the second half: a marked member is fresh, with its queue count and this generation, and nothing else changes.
-pub fn wipe(card: &mut [u8], m: u64, generation: u32) -> EventAnswer
+pub fn wipe(card: &mut [u8], m: u64, generation: u32) -> Result<(), EventRefusal>
     ensures { (result, card.new) ≡ wipe card.old m generation }
 {
-    let a = member_answer(card, m);
-    if !protocol::is_event_done(a) {
-        return a;
-    }
+    member_answer(card, m)?;
     if !card::is_marked(card, m) {
-        return EventAnswer::WrongMark;
+        return Err(EventRefusal::WrongMark);
     }
     let s = card::setup_of(card);
-    let fresh = s.features;
-    card::reset_record(card, m, fresh, generation);
-    EventAnswer::Done
+    card::reset_record(card, m, s.features, generation);
+    Ok(())
 }
 
 // The records of members 1 to n become fresh, each with the queue count that it has.
@@ -211,43 +202,36 @@ fn rewrite(card: &mut [u8], s: Setup, generation: u32)
     ensures { card.new ≡ fresh_card s (counts_from card.old 1 s.members) generation }
 {
     write_header(card, s);
-    let features = s.features;
-    reset_members(card, s.members as u64, features, generation);
+    reset_members(card, s.members as u64, s.features, generation);
 }
 
 // Reset of the whole card: as after setup, with this generation for all members.
-pub fn reset_card(card: &mut [u8], generation: u32) -> EventAnswer
+pub fn reset_card(card: &mut [u8], generation: u32) -> Result<(), EventRefusal>
     ensures { (result, card.new) ≡ reset_card card.old generation }
 {
     if !card::is_sound(card) {
-        return EventAnswer::NotSound;
+        return Err(EventRefusal::NotSound);
     }
     let s = card::setup_of(card);
     rewrite(card, s, generation);
-    EventAnswer::Done
+    Ok(())
 }
 
 // One part of member m is set, with the selector bytes that its type names.
-fn store_in(card: &mut [u8], m: u64, t: u16, selector: u64, value: &[u8]) -> EventAnswer
+fn store_in(card: &mut [u8], m: u64, t: u16, selector: u64, value: &[u8]) -> Result<(), EventRefusal>
     requires { HasRecord card.old m }
     ensures { (result, card.new) ≡ store_in card.old m t selector value.now }
 {
     let x = card::load_member(card, m);
-    let a = values::store_answer(x.queues, t, selector, value);
-    if !protocol::is_event_done(a) {
-        return a;
-    }
+    values::store_answer(x.queues, t, selector, value)?;
     card::save_member(card, m, x.store(t, selector, value));
-    EventAnswer::Done
+    Ok(())
 }
 
 // A card store, SPEC 7.5: the data path sets one part of one member, in either mode.
-pub fn store(card: &mut [u8], m: u64, t: u16, selector: u64, value: &[u8]) -> EventAnswer
+pub fn store(card: &mut [u8], m: u64, t: u16, selector: u64, value: &[u8]) -> Result<(), EventRefusal>
     ensures { (result, card.new) ≡ store card.old m t selector value.now }
 {
-    let a = member_answer(card, m);
-    if !protocol::is_event_done(a) {
-        return a;
-    }
+    member_answer(card, m)?;
     store_in(card, m, t, inventory::selector_of(t, selector), value)
 }

@@ -1,12 +1,11 @@
 -- What the card's own firmware reads of it, SPEC 14: a part, a member, its configuration, the setup. Each gives the first answer
 -- that applies, as a card store does, and what is then in the numbers and buffers lent to it; refused, they are as they were.
 -- The card is lent, and no call here changes it. Assumes nothing.
-use Rattle.std.specs.Prelude.{Bool, List, [], map, ℕ, eqb, length, Some}
+use Rattle.std.specs.Prelude.{Bool, List, [], map, ℕ, eqb, length, Ok, Err, is_ok, Some}
 use Rattle.theory.specs.Logic.{when◌then◌else◌, unless◌answer◌then◌}
-use Rattle.protocol.specs.declared.EventAnswer.{EventAnswer}
-use Rattle.protocol.specs.declared.EventAnswer.TheVariants.{Done, NoPart, WrongLength}
+use Rattle.protocol.specs.declared.EventRefusal.TheVariants.{NoPart, WrongLength}
 use Rattle.protocol.specs.declared.Mode.{Mode}
-use Rattle.protocol.specs.Answers.{event_number, is_event_done}
+use Rattle.protocol.specs.Answers.{EventAnswer, event_number}
 use Rattle.inventory.specs.Inventory.{row_at, value_of, selector_of, place_of, on_place}
 use Rattle.protocol.specs.declared.ObjectKind.TheVariants.{Get, Set}
 use Rattle.objects.specs.Objects.{slot_byte, object_byte, count}
@@ -15,12 +14,8 @@ use Rattle.member.specs.Record.{mode_byte}
 use Rattle.setups.specs.Writing.{written}
 use Rattle.card.specs.Layout.{configuration_size, setup_of, member_in, counts_of, configuration_in, generation_in}
 use Rattle.card.specs.Sound.{is_sound}
-use Rattle.events.specs.Events.{member_answer}
+use Rattle.events.specs.Events.{member_answer, if_done}
 use Rattle.loads.specs.declared.Summary.{Summary}
-
--- a refusal leaves what was lent as it was; else what is next is given
-unfoldable pub if_answered : {A : Type 0} → EventAnswer → EventAnswer × A → A → EventAnswer × A
-if_answered a next lent = unless is_event_done a answer (a, lent) then next
 
 -- the answer as its number
 abbrev pub numbered_of : {A : Type 0} → EventAnswer × A → ℕ × A
@@ -37,17 +32,17 @@ unfoldable pub load_in : Member → ℕ → ℕ → List ℕ → EventAnswer × 
 load_in x t s buffer =
     on_place (place_of x.queues t s)
     (λ i.
-    unless eqb (length buffer) (row_at i).size answer (WrongLength, buffer) then
-    (Done, value_of x.values i))
-    (NoPart, buffer)
+    unless eqb (length buffer) (row_at i).size answer (Err WrongLength, buffer) then
+    (Ok tt, value_of x.values i))
+    (Err NoPart, buffer)
 
 -- s is the 8 selector bytes as a number, as for a store
 unfoldable pub load : List ℕ → ℕ → ℕ → ℕ → List ℕ → EventAnswer × List ℕ
-load c m t s buffer = if_answered (member_answer c m) (load_in (member_in c m) t (selector_of t s) buffer) buffer
+load c m t s buffer = if_done (member_answer c m) (load_in (member_in c m) t (selector_of t s) buffer) buffer
 
 -- the value where it stands in the record, for a caller that borrows the card: none where there is no such part
 unfoldable pub lent : List ℕ → ℕ → ℕ → ℕ → List ℕ
-lent c m t s = unless is_event_done (member_answer c m) answer [] then part_of (member_in c m) t (selector_of t s)
+lent c m t s = unless is_ok (member_answer c m) answer [] then part_of (member_in c m) t (selector_of t s)
 
 -- ---- a member ----
 
@@ -78,18 +73,18 @@ abbrev pub numbers_of : Summary → Numbers
 numbers_of s = (s.state, (s.queues, (s.gets, (s.sets, s.held))))
 
 unfoldable pub member_told : List ℕ → ℕ → Numbers → EventAnswer × Numbers
-member_told c m numbers = if_answered (member_answer c m) (Done, numbers_of (summary_of (member_in c m))) numbers
+member_told c m numbers = if_done (member_answer c m) (Ok tt, numbers_of (summary_of (member_in c m))) numbers
 
 -- ---- its configuration ----
 
 -- into 12 bytes, and the generation
 unfoldable pub configuration_for : List ℕ → ℕ → List ℕ × ℕ → EventAnswer × (List ℕ × ℕ)
 configuration_for c m (buffer, generation) =
-    unless eqb (length buffer) configuration_size answer (WrongLength, (buffer, generation)) then
-    (Done, (configuration_in c m, generation_in c m))
+    unless eqb (length buffer) configuration_size answer (Err WrongLength, (buffer, generation)) then
+    (Ok tt, (configuration_in c m, generation_in c m))
 
 unfoldable pub configuration_told : List ℕ → ℕ → List ℕ × ℕ → EventAnswer × (List ℕ × ℕ)
-configuration_told c m lent = if_answered (member_answer c m) (configuration_for c m lent) lent
+configuration_told c m lent = if_done (member_answer c m) (configuration_for c m lent) lent
 
 -- ---- the setup ----
 

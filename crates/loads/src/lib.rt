@@ -10,7 +10,7 @@ ghost use Rattle.loads.specs.Loads.{part_of, load_in, load, lent, state_of, summ
 
 use card::CONFIGURATION_SIZE;
 use member::Member;
-use protocol::{EventAnswer, Mode};
+use protocol::{EventRefusal, Mode};
 use setups::MOST_MEMBERS;
 
 // A member in numbers: its state, 0 running, 1 stopped, 2 marked; its queue count; its live get and set objects; 0, or one
@@ -40,29 +40,26 @@ fn part_in<'a>(bytes: &'a [u8], t: u16, selector: u64) -> &'a [u8]
 }
 
 // It is copied out where the buffer is as long. No part's value is empty.
-fn load_in(bytes: &[u8], t: u16, selector: u64, value: &mut [u8]) -> EventAnswer
+fn load_in(bytes: &[u8], t: u16, selector: u64, value: &mut [u8]) -> Result<(), EventRefusal>
     requires { length bytes.now ≡ member_size }
     ensures { (result, value.new) ≡ load_in (member_of bytes.now) t selector value.old }
 {
     let own = part_in(bytes, t, selector);
     if own.len() == 0 {
-        return EventAnswer::NoPart;
+        return Err(EventRefusal::NoPart);
     }
     if value.len() != own.len() {
-        return EventAnswer::WrongLength;
+        return Err(EventRefusal::WrongLength);
     }
     wire::copy(value, 0, own);
-    EventAnswer::Done
+    Ok(())
 }
 
 // One part of one member, whatever its state is; selector is the eight selector bytes as a number.
-pub fn load(card: &[u8], m: u64, t: u16, selector: u64, value: &mut [u8]) -> EventAnswer
+pub fn load(card: &[u8], m: u64, t: u16, selector: u64, value: &mut [u8]) -> Result<(), EventRefusal>
     ensures { (result, value.new) ≡ load card.now m t selector value.old }
 {
-    let a = events::member_answer(card, m);
-    if !protocol::is_event_done(a) {
-        return a;
-    }
+    events::member_answer(card, m)?;
     load_in(
         card::member_bytes(card, m),
         t,
@@ -75,8 +72,7 @@ pub fn load(card: &[u8], m: u64, t: u16, selector: u64, value: &mut [u8]) -> Eve
 pub fn lend<'a>(card: &'a [u8], m: u64, t: u16, selector: u64) -> &'a [u8]
     ensures { result.now ≡ lent card.now m t selector }
 {
-    let a = events::member_answer(card, m);
-    if !protocol::is_event_done(a) {
+    if events::member_answer(card, m).is_err() {
         return &card[0..0];
     }
     part_in(
@@ -103,11 +99,9 @@ fn state_of(mode: Mode, marked: bool) -> u8
 fn summary_of(x: Member) -> Summary
     ensures { result ≡ summary_of x }
 {
-    let mode = x.mode;
-    let objects = x.objects;
-    let bytes = objects::object_bytes(objects);
+    let bytes = objects::object_bytes(x.objects);
     Summary {
-        state: state_of(mode, x.marked),
+        state: state_of(x.mode, x.marked),
         queues: x.queues,
         gets: objects::count_of(1, &bytes),
         sets: objects::count_of(2, &bytes),
@@ -124,38 +118,32 @@ pub fn member(
     gets: &mut u8,
     sets: &mut u8,
     held: &mut u16,
-) -> EventAnswer
+) -> Result<(), EventRefusal>
     ensures { (result, (state.new, (queues.new, (gets.new, (sets.new, held.new))))) ≡ member_told card.now m (state.old, (queues.old, (gets.old, (sets.old, held.old)))) }
 {
-    let a = events::member_answer(card, m);
-    if !protocol::is_event_done(a) {
-        return a;
-    }
+    events::member_answer(card, m)?;
     let s = summary_of(card::load_member(card, m));
     *state = s.state;
     *queues = s.queues;
     *gets = s.gets;
     *sets = s.sets;
     *held = s.held;
-    EventAnswer::Done
+    Ok(())
 }
 
 // ---- its configuration ----
 
 // The twelve bytes and the generation.
-pub fn configuration(card: &[u8], m: u64, bytes: &mut [u8], generation: &mut u32) -> EventAnswer
+pub fn configuration(card: &[u8], m: u64, bytes: &mut [u8], generation: &mut u32) -> Result<(), EventRefusal>
     ensures { (result, (bytes.new, generation.new)) ≡ configuration_told card.now m (bytes.old, generation.old) }
 {
-    let a = events::member_answer(card, m);
-    if !protocol::is_event_done(a) {
-        return a;
-    }
+    events::member_answer(card, m)?;
     if bytes.len() != CONFIGURATION_SIZE {
-        return EventAnswer::WrongLength;
+        return Err(EventRefusal::WrongLength);
     }
     wire::copy(bytes, 0, card::configuration(card, m));
     *generation = card::generation(card, m);
-    EventAnswer::Done
+    Ok(())
 }
 
 // ---- the setup ----
@@ -184,13 +172,12 @@ pub fn setup_of(card: &[u8], setup: &mut [u8]) -> usize
     }
     let s = card::setup_of(card);
     let counts = counts_of(card, s.members as u64);
-    let features = s.features;
     setups::write(
         setup,
         s.members as u64,
         &counts[0..s.members as usize],
         s.gets as u64,
         s.sets as u64,
-        &features,
+        &s.features,
     )
 }

@@ -1,7 +1,7 @@
 use borrow.Author.Rules.{rules}
 use Rattle.theory.proofs.Ladder.{ladder}
 use Rattle.events.specs.Events.{member_answer}
-use Rattle.events.proofs.EventLaws.{told-long}
+use Rattle.events.proofs.EventLaws.{told-long, told-size, told-record}
 use Rattle.events.proofs.member_answer.Goals as goal
 
 pub is_sound-requires : goal.is_sound-requires
@@ -20,6 +20,12 @@ pub returns-then-not-is_member : goal.returns-then-not-is_member
 unfolding member_answer
 returns-then-not-is_member c = search ladder
 
-pub returns : goal.returns
+pub returns-clause-answer : goal.returns-clause-answer
 unfolding member_answer
-returns c = search ladder
+returns-clause-answer c = search ladder
+
+pub returns-clause-whole : goal.returns-clause-whole
+returns-clause-whole c = search (rules, told-size)
+
+pub returns-clause-has : goal.returns-clause-has
+returns-clause-has c = search (rules, told-record)
