@@ -7,12 +7,11 @@ use Prim.Native.Nat.{ℕ, zero, suc, ◌≤◌}
 use borrow.Author.Tests.{eqb-true}
 use lib.Dec.{eqb, leb}
 use lib.ListN.{length, get_or}
+use Rattle.std.specs.Prelude.{Ok, Err, is_ok}
 use Rattle.theory.specs.Logic.{when◌then◌else◌, unless◌answer◌then◌, ◌or◌, within}
-use Rattle.theory.proofs.Tests.{both, by_cases}
+use Rattle.theory.proofs.Tests.{both}
 use Rattle.protocol.specs.declared.Answer.TheVariants.{Marked}
-use Rattle.protocol.specs.declared.EventAnswer.{EventAnswer}
-use Rattle.protocol.specs.declared.EventAnswer.TheVariants.{Done}
-use Rattle.protocol.specs.Answers.{event_number, is_event_done}
+use Rattle.protocol.specs.Answers.{EventAnswer, event_number}
 use Rattle.protocol.specs.Opcodes.{names_member}
 use Rattle.frame.specs.declared.Ask.TheVariants.{Refused}
 use Rattle.frame.specs.Frame.{opcode_of, group_of, target_of}
@@ -150,18 +149,24 @@ module _ (c : List ℕ) (m : ℕ) (s : is_sound c ≡ true) (h : is_member c m �
     abbrev z : Member
     z = with_part x t (selector_of t k) value
 
-    -- a store before the hand back, and one after it
-    stored-first : store c m t k value ≡ if_done a (Done, with_member c m z) c
+    -- a store before the hand back, and one after it, that answer v
+    abbrev first : EventAnswer → EventAnswer × List ℕ
+    first v = if_done v (Ok tt, with_member c m z) c
+
+    abbrev later : EventAnswer → EventAnswer × List ℕ
+    later v = if_done v (Ok tt, with_member (with_handed_back c m) m (handed_back z)) (with_handed_back c m)
+
+    stored-first : store c m t k value ≡ first a
     unfolding store store_in unless◌answer◌then◌
     stored-first = rw (on-sound c m _ s, h)
 
-    stored-later : store (with_handed_back c m) m t k value ≡ if_done a (Done, with_member (with_handed_back c m) m (handed_back z)) (with_handed_back c m)
+    stored-later : store (with_handed_back c m) m t k value ≡ later a
     unfolding store store_in unless◌answer◌then◌
     stored-later =
         let i : is_member (with_handed_back c m) m ≡ true = rw back-setup h in
         rw (on-sound (with_handed_back c m) m _ (back-sound c m 0 s h u), i, back-member c m s h)
 
-    later-over : is_event_done a ≡ true → with_member (with_handed_back c m) m (handed_back z) ≡ (step (with_member c m z) (hand_back m)).0
+    later-over : is_ok a ≡ true → with_member (with_handed_back c m) m (handed_back z) ≡ (step (with_member c m z) (hand_back m)).0
     unfolding with_handed_back
     later-over d =
         let sz : SoundIn c z = sound-part _ _ _ x sound-x t (selector_of t k) value (done-allowed _ t (selector_of t k) value d) in
@@ -169,20 +174,21 @@ module _ (c : List ℕ) (m : ℕ) (s : is_sound c ≡ true) (h : is_member c m �
         ∙ rw (member-over c m (handed_back x) (handed_back z) (sound-handed-back _ _ _ z sz).shaped)
         (sym (back-over z sz (sym (marked-is c m h) ∙ u)))
 
-    later-card : (if_done a (Done, with_member (with_handed_back c m) m (handed_back z)) (with_handed_back c m)).1
-        ≡ (step (if_done a (Done, with_member c m z) c).1 (hand_back m)).0
-    unfolding if_done unless◌answer◌then◌
-    later-card = by_cases (is_event_done a) (λ d. rw d (later-over d)) (λ d. rw d (sym (back-card c m 0 s h u)))
+    later-card : (v : EventAnswer) → v ≡ a → (later v).1 ≡ (step (first v).1 (hand_back m)).0
+    unfolding if_done
+    later-card (Ok x) e = later-over (ap is_ok (sym e))
+    later-card (Err r) e = sym (back-card c m 0 s h u)
 
-    later-answer : (if_done a (Done, with_member (with_handed_back c m) m (handed_back z)) (with_handed_back c m)).0 ≡ (if_done a (Done, with_member c m z) c).0
-    unfolding if_done unless◌answer◌then◌
-    later-answer = by_cases (is_event_done a) (λ d. rw d) (λ d. rw d)
+    later-answer : (v : EventAnswer) → (later v).0 ≡ (first v).0
+    unfolding if_done
+    later-answer (Ok x) = refl
+    later-answer (Err r) = refl
 
     stored-alike : StoredAlike c m t k value
     unfolding step
     stored-alike = record {
-      answer = rw (back-card c m 0 s h u, stored-later, stored-first) (ap (λ (y : EventAnswer). answered (event_number y)) later-answer);
-      card = rw (back-card c m 0 s h u, stored-later, stored-first) later-card;
+      answer = rw (back-card c m 0 s h u, stored-later, stored-first) (ap (λ (y : EventAnswer). answered (event_number y)) (later-answer a));
+      card = rw (back-card c m 0 s h u, stored-later, stored-first) (later-card a refl);
     }
 
 pub stores-work : StoresWork

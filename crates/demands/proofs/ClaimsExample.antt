@@ -6,7 +6,7 @@ use mathlib.Core.List.{List, [], ◌∷◌}
 use Prim.Native.Nat.{ℕ, ◌<◌}
 use native.Mathlib.Omega.{arith}
 use lib.ListN.{length, get_or, replicate}
-use Rattle.protocol.specs.declared.EventAnswer.TheVariants.{Done}
+use Rattle.std.specs.Prelude.{Ok}
 use Rattle.protocol.specs.Answers.{event_number}
 use Rattle.card.specs.Layout.{card_size}
 use Rattle.card.specs.Sound.{is_sound}
@@ -35,12 +35,12 @@ refused-command : refused (step example_card (send (request 0x0a 1 1 []))).1 ≡
 unfolding model
 refused-command = refl
 
-setup-done : (set_up (replicate (card_size 2) 0) 2 (1 ∷ 1 ∷ []) 1 1 (replicate 16 0)).0 ≡ Done
+setup-done : (set_up (replicate (card_size 2) 0) 2 (1 ∷ 1 ∷ []) 1 1 (replicate 16 0)).0 ≡ Ok tt
 unfolding model
 setup-done = refl
 
 -- a card of no members
-setup-refused : (set_up (replicate (card_size 2) 0) 0 [] 1 1 (replicate 16 0)).0 ≢ Done
+setup-refused : (set_up (replicate (card_size 2) 0) 0 [] 1 1 (replicate 16 0)).0 ≢ Ok tt
 unfolding model
 setup-refused e = let z : ◌≡◌ {A = ℕ} 4 0 = ap event_number e in omega arith
 

@@ -8,12 +8,12 @@ use lib.Dec.{eqb}
 use borrow.Author.Tests.{eqb-true, eqb-false}
 use Rattle.theory.proofs.Tests.{by_cases, unless-cases, within_low}
 use Rattle.wire.specs.Le.{le}
-use Rattle.protocol.specs.declared.EventAnswer.{EventAnswer}
 use Rattle.member.specs.declared.Member.{Member}
 use Rattle.member.specs.Record.{member_size, holding_size, member_bytes}
 use Rattle.card.specs.Layout.{member_bytes_at, configuration_at, configuration_size, generation_at, generation_size, holding_at, is_member, record_bytes, with_in_use, with_member, configuration_in, generation_in, with_holding, no_bytes}
 use Rattle.card.proofs.RecordBytesLaws.{bytes-before, bytes_after, bytes-other}
 use Rattle.card.proofs.HeaderLaws.{bytes-with-use}
+use Rattle.protocol.specs.Answers.{EventAnswer}
 use Rattle.events.specs.Events.{with_handed_back, hand_back as hand_back_of, store_in, store}
 use Rattle.events.proofs.Cases.{if-done-cases, on-member-cases}
 use Rattle.frame.specs.declared.Ask.{Ask}

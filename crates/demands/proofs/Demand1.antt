@@ -8,14 +8,13 @@ use native.Mathlib.Omega.{arith}
 use lib.Dec.{leb}
 use lib.ListN.{length, replicate, length-append}
 use borrow.Author.Tests.{lt-leb, eqb-true}
+use Rattle.std.specs.Prelude.{Ok}
 use Rattle.theory.specs.Logic.{◌and◌}
 use Rattle.theory.proofs.Tests.{by_cases, both, unless-cases, false-and, and-false}
 use Rattle.theory.proofs.Bytes.{put-nil, put_front}
 use Rattle.theory.proofs.Lists.{get_or-same}
 use Rattle.protocol.specs.declared.Answer.{Answer}
-use Rattle.protocol.specs.declared.EventAnswer.{EventAnswer}
-use Rattle.protocol.specs.declared.EventAnswer.TheVariants.{Done}
-use Rattle.protocol.specs.Answers.{is_done, event_number}
+use Rattle.protocol.specs.Answers.{EventAnswer, is_done, event_number}
 use Rattle.card.specs.Layout.{setup_of, counts_of}
 use Rattle.card.specs.Sound.{is_sound}
 use Rattle.card.proofs.HeaderLaws.{members-read}
@@ -66,14 +65,14 @@ pub sets-up : SetsUp
 unfolding set_up refused_setup
 sets-up = record {
   done = λ b n q g s f.
-      unless-cases (λ (y : EventAnswer × List ℕ). y.0 ≡ Done → (is_sound y.1 ≡ true) × (setup_of y.1 ≡ setup_with n g s f) × (counts_of y.1 ≡ q)) _ _ _
+      unless-cases (λ (y : EventAnswer × List ℕ). y.0 ≡ Ok tt → (is_sound y.1 ≡ true) × (setup_of y.1 ≡ setup_with n g s f) × (counts_of y.1 ≡ q)) _ _ _
       (λ t e. absurd (omega (arith, ap event_number e)))
       (λ t e.
       let p = both _ _ (both _ _ t).0 in
       let l = eqb-true _ _ p.1 in
       (is-sound _ (sound-fresh-card (setup_with n g s f) q 0 p.0 l), setup-fresh (setup_with n g s f) q 0 l, counts-fresh (setup_with n g s f) q 0 l p.0));
   refused = λ b n q g s f.
-      unless-cases (λ (y : EventAnswer × List ℕ). y.0 ≢ Done → y.1 ≡ replicate (length b) 0) _ _ _
+      unless-cases (λ (y : EventAnswer × List ℕ). y.0 ≢ Ok tt → y.1 ≡ replicate (length b) 0) _ _ _
       (λ t e. refl) (λ t e. absurd (e refl));
   zeros = zeros-unsound;
 }

@@ -8,12 +8,12 @@ use native.Mathlib.Omega.{arith}
 use lib.Dec.{eqb}
 use lib.ListN.{length}
 use borrow.Author.Tests.{eqb-true, eqb-false}
-use Rattle.theory.specs.Logic.{unless◌answer◌then◌}
+use Rattle.std.specs.Prelude.{Ok, Err}
 use Rattle.theory.proofs.Tests.{by_cases, within_low, within-high}
-use Rattle.protocol.specs.Answers.{is_event_done}
 use Rattle.values.specs.Apply.{storable}
 use Rattle.member.specs.Record.{member_size, holding_size, member_bytes}
-use Rattle.member.specs.Member.{handed_back}
+use Rattle.protocol.specs.Answers.{EventAnswer}
+use Rattle.member.specs.Member.{handed_back, with_part}
 use Rattle.card.specs.Layout.{member_bytes_at, holding_at, card_size, setup_of, is_member, member_in, with_member, is_marked, with_holding, no_bytes, with_record}
 use Rattle.card.specs.Sound.{is_sound}
 use Rattle.card.proofs.RecordBytesLaws.{has-record}
@@ -31,12 +31,16 @@ module _ (m : ℕ) (low : 1 ≤ m) (c : List ℕ) (whole : length c ≡ card_siz
   pub store-answers : (t s : ℕ) (value : List ℕ)
       → ((store_in (mask m c) k t s value).0 ≡ (store_in c k t s value).0)
       × (mask m (store_in (mask m c) k t s value).1 ≡ mask m (store_in c k t s value).1)
-  unfolding store_in if_done unless◌answer◌then◌
-  store-answers t s value =
-      rw (record-other c m _ 0 k low l n)
-      (by_cases (is_event_done (storable (member_in c k).queues t s value))
-      (λ d. rw d (refl, mask-member m low c whole k _ l n))
-      (λ d. rw d (refl, mask-mask m low c whole)))
+  unfolding store_in if_done
+  store-answers t s value = rw (record-other c m _ 0 k low l n) (cases (storable (member_in c k).queues t s value))
+    where
+      -- an event that answers a, on the card c
+      After : EventAnswer → List ℕ → EventAnswer × List ℕ
+      After a c₁ = if_done a (Ok tt, with_member c₁ k (with_part (member_in c k) t s value)) c₁
+
+      cases : (a : EventAnswer) → ((After a (mask m c)).0 ≡ (After a c).0) × (mask m (After a (mask m c)).1 ≡ mask m (After a c).1)
+      cases (Ok x) = (refl, mask-member m low c whole k _ l n)
+      cases (Err r) = (refl, mask-mask m low c whole)
 
   pub back-other : mask m (with_handed_back (mask m c) k) ≡ mask m (with_handed_back c k)
   unfolding with_handed_back

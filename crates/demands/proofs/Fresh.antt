@@ -7,10 +7,11 @@ use native.Mathlib.Omega.{arith}
 use borrow.Author.Tests.{eqb-true, eq-eqb, ne_eqb}
 use lib.Dec.{eqb}
 use lib.ListN.{length, get_or, replicate}
+use Rattle.std.specs.Prelude.{Err, Ok}
 use Rattle.theory.specs.Logic.{unless◌answer◌then◌, ◌and◌}
 use Rattle.theory.proofs.Tests.{by_cases, both, and_i}
 use Rattle.theory.proofs.Lists.{get_or-same}
-use Rattle.protocol.specs.declared.EventAnswer.TheVariants.{Done, BadSetup}
+use Rattle.protocol.specs.declared.EventRefusal.TheVariants.{BadSetup}
 use Rattle.std.specs.Prelude.{None}
 use Rattle.objects.specs.Objects.{free}
 use Rattle.member.specs.declared.Member.{Member}
@@ -82,13 +83,13 @@ module _ (b : List ℕ) (members : ℕ) (q : List ℕ) (gets sets : ℕ) (featur
   setup-right h l = and_i _ _ (and_i _ _ (good-numbers members q gets sets features h) (eq-eqb _ _ h.long)) (eq-eqb _ _ l)
 
   setup-done : GoodSetup members q gets sets features → length b ≡ 27 + 1266 * members
-      → set_up b members q gets sets features ≡ (Done, fresh_card (setup_with members gets sets features) q 0)
+      → set_up b members q gets sets features ≡ (Ok tt, fresh_card (setup_with members gets sets features) q 0)
   unfolding set_up unless◌answer◌then◌
   setup-done h l = rw (setup-right h l)
 
   -- whatever rules out that the tests hold
   setup-refused : (GoodSetup members q gets sets features → length b ≡ 27 + 1266 * members → ⊥)
-      → set_up b members q gets sets features ≡ (BadSetup, replicate (length b) 0)
+      → set_up b members q gets sets features ≡ (Err BadSetup, replicate (length b) 0)
   unfolding set_up refused_setup unless◌answer◌then◌
   setup-refused f =
       by_cases (in_numbers members q gets sets and eqb (length features) features_size and eqb (length b) (card_size members))
@@ -120,7 +121,7 @@ module _ (b l : List ℕ) where
       let r = rw e at (claims.in_range l (rw e)) in
       numbers-good _ _ _ _ _ (numbers-in _ _ _ _ r.numbers) r.features
 
-  from-refused : (read_number (read_setup l).answer ≡ 0 → ⊥) → set_up_from b l ≡ (BadSetup, replicate (length b) 0)
+  from-refused : (read_number (read_setup l).answer ≡ 0 → ⊥) → set_up_from b l ≡ (Err BadSetup, replicate (length b) 0)
   unfolding set_up_from refused_setup unless◌answer◌then◌
   from-refused n = rw (ne_eqb _ 0 n)
 
@@ -145,7 +146,7 @@ module _ (c : List ℕ) (g : ℕ) (s : is_sound c ≡ true) (h : g < 4294967296)
     unfolding is_marked
     marked-member = (both _ _ u).0
 
-    wiped : wipe_of c m g ≡ (Done, with_fresh c m (setup_of c).features g)
+    wiped : wipe_of c m g ≡ (Ok tt, with_fresh c m (setup_of c).features g)
     unfolding wipe_of unless◌answer◌then◌
     wiped = rw (on-sound c m _ s, marked-member, u)
 

@@ -4,10 +4,9 @@ use mathlib.Core.Bool.{true, false}
 use mathlib.Core.List.{List}
 use Prim.Native.Nat.{ℕ}
 use native.Mathlib.Omega.{arith}
+use Rattle.std.specs.Prelude.{Ok}
 use Rattle.theory.specs.Logic.{unless◌answer◌then◌}
-use Rattle.protocol.specs.declared.EventAnswer.{EventAnswer}
-use Rattle.protocol.specs.declared.EventAnswer.TheVariants.{Done}
-use Rattle.protocol.specs.Answers.{event_number}
+use Rattle.protocol.specs.Answers.{EventAnswer, event_number}
 use Rattle.member.specs.declared.Member.{Member}
 use Rattle.member.proofs.Record.{Shaped, fresh-shaped}
 use Rattle.member.specs.Record.{member_size, holding_size, member_bytes}
@@ -31,7 +30,7 @@ module _ (c : List ℕ) (m g : ℕ) (s : is_sound c ≡ true) (h : is_member c m
   abbrev f : List ℕ
   f = (setup_of c).features
 
-  back_is : hand_back_of c m ≡ (Done, with_handed_back c m)
+  back_is : hand_back_of c m ≡ (Ok tt, with_handed_back c m)
   unfolding hand_back_of unless◌answer◌then◌
   back_is = rw (on-sound c m _ s, h, u)
 
@@ -54,11 +53,11 @@ module _ (c : List ℕ) (m g : ℕ) (s : is_sound c ≡ true) (h : is_member c m
       rw (back-queues m c (sound-of c s).long h)
       (covered _ (fresh-shaped _ f (features-long c (omega (arith, sound-long c (sound-of c s))))))
 
-  wipe-is : wipe_of (with_handed_back c m) m g ≡ (Done, with_fresh c m f g)
+  wipe-is : wipe_of (with_handed_back c m) m g ≡ (Ok tt, with_fresh c m f g)
   unfolding wipe_of unless◌answer◌then◌
   wipe-is = rw (on-sound (with_handed_back c m) m _ back-sound, back-setup m c, h, back-marked m c (sound-of c s).long h, back-covered)
 
-  reset-is : reset_member c m g ≡ (Done, with_fresh c m f g)
+  reset-is : reset_member c m g ≡ (Ok tt, with_fresh c m f g)
   unfolding reset_member unless◌answer◌then◌
   reset-is = rw (on-sound c m _ s, h)
 

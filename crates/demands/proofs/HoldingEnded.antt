@@ -1,14 +1,15 @@
 -- Finish, drop, a feed that is too long, hand back, wipe and a reset of the card leave no holding place. Assumes nothing.
-use mathlib.Core.Path.{◌≡◌, refl, ap, sym, ◌∙◌}
+use mathlib.Core.Path.{◌≡◌, refl, ap, ◌∙◌}
 use mathlib.Core.Bool.{true, false}
 use mathlib.Core.List.{List}
 use Prim.Native.Nat.{ℕ, ◌-◌}
 use native.Mathlib.Omega.{arith}
+use borrow.Author.Tests.{not-false, eqb-true}
 use lib.ListN.{get_or}
-use Rattle.theory.proofs.Tests.{unless-cases, within_low, within-high, never}
-use Rattle.protocol.specs.declared.EventAnswer.{EventAnswer}
-use Rattle.protocol.specs.declared.EventAnswer.TheVariants as event
-use Rattle.protocol.specs.Answers.{event_number, is_event_done}
+use Rattle.std.specs.Prelude.{Err, is_ok}
+use Rattle.theory.proofs.Tests.{unless-cases, within_low, within-high}
+use Rattle.protocol.specs.declared.EventRefusal.TheVariants.{NotSound, WrongMark}
+use Rattle.protocol.specs.Answers.{EventAnswer, event_number}
 use Rattle.member.specs.declared.Member.{Member}
 use Rattle.member.specs.Record.{member_of}
 use Rattle.member.specs.Member.{fresh_of}
@@ -20,7 +21,7 @@ use Rattle.card.proofs.FreshLaws.{member-bytes-fresh}
 use Rattle.card.proofs.CountLaws.{counts-long}
 use Rattle.card.proofs.SoundLaws.{Sound, sound-of, sound-long, sound-has}
 use Rattle.events.specs.Events.{hand_back as hand_back_of, wipe as wipe_of, reset_card}
-use Rattle.events.proofs.Cases.{on-member-cases}
+use Rattle.events.proofs.Cases.{on-member-cases, number-zero}
 use Rattle.demands.specs.Calls.{answered, refused, step}
 use Rattle.demands.specs.Holding.{HoldingEnded}
 use Rattle.demands.proofs.Between.{back-member}
@@ -31,16 +32,9 @@ Ends : ℕ → EventAnswer × List ℕ → Type 0
 Ends m y = refused (answered (event_number y.0)) ≡ false → (member_in y.1 m).held ≡ 0
 
 -- a refusal is none
-refusal-ends : (m : ℕ) (c : List ℕ) (a : EventAnswer) → is_event_done a ≡ false → Ends m (a, c)
+refusal-ends : (m : ℕ) (c : List ℕ) (a : EventAnswer) → is_ok a ≡ false → Ends m (a, c)
 unfolding Ends refused
-refusal-ends m c event.Done d e = never (sym d)
-refusal-ends m c event.NotSound d e = never (sym e)
-refusal-ends m c event.NoMember d e = never (sym e)
-refusal-ends m c event.NoPart d e = never (sym e)
-refusal-ends m c event.WrongLength d e = never (sym e)
-refusal-ends m c event.BadSetup d e = never (sym e)
-refusal-ends m c event.BadQueueSize d e = never (sym e)
-refusal-ends m c event.WrongMark d e = never (sym e)
+refusal-ends m c a d e = absurd (number-zero a d (eqb-true _ 0 (not-false _ e)))
 
 fresh-ends : (c : List ℕ) (g m : ℕ) → Sound c → is_member c m ≡ true → (member_in (fresh_card (setup_of c) (counts_of c) g) m).held ≡ 0
 unfolding member_in fresh_of counts_of
@@ -58,12 +52,12 @@ holding-ended = record {
   feeds = λ c m x s h. feed-ends c m s h x;
   hand_backs = λ c m.
       on-member-cases c m _ (Ends m) (refusal-ends m c) λ s h.
-      unless-cases (Ends m) _ _ _ (λ t. refusal-ends m c event.WrongMark refl) (λ t e. ap (λ (x : Member). x.held) (back-member c m s h));
+      unless-cases (Ends m) _ _ _ (λ t. refusal-ends m c (Err WrongMark) refl) (λ t e. ap (λ (x : Member). x.held) (back-member c m s h));
   wipes = λ c m g.
       on-member-cases c m _ (Ends m) (refusal-ends m c) λ s h.
-      unless-cases (Ends m) _ _ _ (λ t. refusal-ends m c event.WrongMark refl) (λ t e.
+      unless-cases (Ends m) _ _ _ (λ t. refusal-ends m c (Err WrongMark) refl) (λ t e.
       ap (λ (x : Member). x.held) (member-with-record c m _ g
       (fresh-shaped _ (setup_of c).features (features-long c (omega (arith, sound-long c (sound-of c s))))) (sound-has c (sound-of c s) m h)));
   card_resets = λ c g m h.
-      unless-cases (Ends m) _ _ _ (λ t. refusal-ends m c event.NotSound refl) (λ t e. fresh-ends c g m (sound-of c t) h);
+      unless-cases (Ends m) _ _ _ (λ t. refusal-ends m c (Err NotSound) refl) (λ t e. fresh-ends c g m (sound-of c t) h);
 }

@@ -9,7 +9,7 @@ use lib.Dec.{eqb}
 use borrow.Author.Tests.{eqb-true, eqb-false}
 use Rattle.theory.proofs.Tests.{by_cases, within_low}
 use Rattle.protocol.specs.declared.ChangeOp.{ChangeOp}
-use Rattle.protocol.specs.declared.EventAnswer.{EventAnswer}
+use Rattle.protocol.specs.Answers.{EventAnswer}
 use Rattle.member.specs.declared.Member.{Member}
 use Rattle.member.specs.Record.{member_size, holding_size, member_of, member_bytes}
 use Rattle.member.specs.Objects.{with_object}

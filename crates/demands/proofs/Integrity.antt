@@ -11,7 +11,7 @@ use Rattle.theory.proofs.Tests.{unless-cases}
 use Rattle.theory.proofs.Bytes.{take-before, drop-after, length-bytes_at-le}
 use Rattle.wire.specs.Le.{bytes}
 use Rattle.protocol.specs.declared.Answer.{Answer}
-use Rattle.protocol.specs.declared.EventAnswer.{EventAnswer}
+use Rattle.protocol.specs.Answers.{EventAnswer}
 use Rattle.protocol.specs.declared.ObjectKind.{ObjectKind}
 use Rattle.protocol.specs.declared.ChangeOp.TheVariants.{SetParts}
 use Rattle.std.specs.Prelude.{Option, Some, None}

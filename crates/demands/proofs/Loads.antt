@@ -8,15 +8,13 @@ use native.Mathlib.Omega.{arith}
 use borrow.Author.Tests.{ltb-true, eqb-true, eq-eqb, ne_eqb, lt-ltb}
 use lib.Dec.{leb, ltb, eqb}
 use lib.ListN.{length, get_or, length-append}
-use Rattle.std.specs.Prelude.{Option, Some, None}
+use Rattle.std.specs.Prelude.{Err, Ok, is_ok, Option, Some, None}
 use Rattle.theory.specs.Logic.{when◌then◌else◌, unless◌answer◌then◌, ◌and◌}
 use Rattle.theory.proofs.Tests.{by_cases, both, never, unless-cases, within-high}
 use Rattle.wire.specs.Le.{bytes}
 use Rattle.protocol.specs.declared.Answer.TheVariants as answer
-use Rattle.protocol.specs.declared.EventAnswer.{EventAnswer}
-use Rattle.protocol.specs.declared.EventAnswer.TheVariants as event
-use Rattle.protocol.specs.declared.EventAnswer.TheVariants.{Done, NotSound, NoMember, NoPart, WrongLength, BadQueueSize}
-use Rattle.protocol.specs.Answers.{event_number, is_event_done}
+use Rattle.protocol.specs.declared.EventRefusal.TheVariants.{NotSound, NoMember, NoPart, WrongLength, BadQueueSize}
+use Rattle.protocol.specs.Answers.{EventAnswer, event_number}
 use Rattle.inventory.specs.Inventory.{row_at, value_of, selector_of, place_of, on_place}
 use Rattle.inventory.specs.Queue.{value_allowed}
 use Rattle.inventory.proofs.Find.{place_found}
@@ -40,9 +38,10 @@ use Rattle.card.proofs.MemberLaws.{setup-with-member, member-same}
 use Rattle.card.proofs.HeaderLaws.{features-long}
 use Rattle.card.proofs.CountLaws.{counts-numbers}
 use Rattle.card.proofs.SoundLaws.{sound-of, sound-long, sound-has, sound-member-in}
+use Rattle.events.proofs.Cases.{if-done-on, if-done-off, number-zero}
 use Rattle.events.specs.Events.{member_answer, if_done, on_member, store, store_in}
 use Rattle.reply.specs.Reply.{head_of}
-use Rattle.loads.specs.Loads.{if_answered, part_of, load_in, load, lent, member_told, configuration_for, configuration_told, setup_of_card}
+use Rattle.loads.specs.Loads.{part_of, load_in, load, lent, member_told, configuration_for, configuration_told, setup_of_card}
 use Rattle.loads.proofs.PartLaws.{load-cases}
 use Rattle.staging.proofs.PartsSet.{parts_set_of, respond-parts-set}
 use Rattle.demands.specs.Calls.{card_store, step}
@@ -58,29 +57,29 @@ use Rattle.demands.proofs.Setting.{settable, valid, small, unmarked, set_is, mem
 
 -- what holds of each refusal, and of what is done on a sound card with the member, holds of the call
 call-cases : {A : Type 0} (c : List ℕ) (m : ℕ) (x : EventAnswer × A) (l : A) (P : EventAnswer × A → Type 0)
-    → ((a : EventAnswer) → is_event_done a ≡ false → is_sound c and is_member c m ≡ false → P (a, l))
-    → (is_sound c ≡ true → is_member c m ≡ true → P x) → P (if_answered (member_answer c m) x l)
-unfolding if_answered member_answer unless◌answer◌then◌ ◌and◌
+    → ((a : EventAnswer) → is_ok a ≡ false → is_sound c and is_member c m ≡ false → P (a, l))
+    → (is_sound c ≡ true → is_member c m ≡ true → P x) → P (if_done (member_answer c m) x l)
+unfolding if_done member_answer unless◌answer◌then◌ ◌and◌
 call-cases c m x l P f g =
     by_cases (is_sound c)
-    (λ s. rw s (by_cases (is_member c m) (λ h. rw h (g s h)) (λ h. rw h (f NoMember refl (rw (s, h))))))
-    (λ s. rw s (f NotSound refl (rw s)))
+    (λ s. rw s (by_cases (is_member c m) (λ h. rw h (g s h)) (λ h. rw h (f (Err NoMember) refl (rw (s, h))))))
+    (λ s. rw s (f (Err NotSound) refl (rw s)))
 
 -- on a sound card with the member
 pub call-on : {A : Type 0} (c : List ℕ) (m : ℕ) (x : EventAnswer × A) (l : A) → is_sound c ≡ true → is_member c m ≡ true
-    → if_answered (member_answer c m) x l ≡ x
-unfolding if_answered member_answer unless◌answer◌then◌
+    → if_done (member_answer c m) x l ≡ x
+unfolding if_done member_answer unless◌answer◌then◌
 call-on c m x l s h = rw (s, h)
 
 -- ---- exactly when each answers 0 ----
 
 load-in-done : (x : Member) (t s : ℕ) (b : List ℕ)
-    → is_event_done (load_in x t s b).0 ≡ on_place (place_of x.queues t s) (λ i. eqb (length b) (row_at i).size) false
+    → is_ok (load_in x t s b).0 ≡ on_place (place_of x.queues t s) (λ i. eqb (length b) (row_at i).size) false
 unfolding load_in unless◌answer◌then◌
 load-in-done x t s b = cases (place_of x.queues t s)
   where
     cases : (p : Option ℕ)
-        → is_event_done (on_place {A = EventAnswer × List ℕ} p (λ i. unless eqb (length b) (row_at i).size answer (WrongLength, b) then (Done, value_of x.values i)) (NoPart, b)).0
+        → is_ok (on_place {A = EventAnswer × List ℕ} p (λ i. unless eqb (length b) (row_at i).size answer (Err WrongLength, b) then (Ok tt, value_of x.values i)) (Err NoPart, b)).0
         ≡ on_place p (λ i. eqb (length b) (row_at i).size) false
     cases (Some i) = by_cases (eqb (length b) (row_at i).size) (λ e. rw e) (λ e. rw e)
     cases None = refl
@@ -106,12 +105,12 @@ pub answered-exactly : AnsweredExactly
 unfolding load member_told configuration_told configuration_for loadable unless◌answer◌then◌ ◌and◌
 answered-exactly = record {
   loads = λ c m t s b.
-      call-cases c m _ b (λ y. is_event_done y.0 ≡ loadable c m t s (length b))
+      call-cases c m _ b (λ y. is_ok y.0 ≡ loadable c m t s (length b))
       (λ a d e. rw e d)
       (λ e h. rw (e, h) (load-in-done (member_in c m) t (selector_of t s) b));
-  members = λ c m l. call-cases c m _ l (λ y. is_event_done y.0 ≡ is_sound c and is_member c m) (λ a d e. rw e d) (λ e h. rw (e, h) refl);
+  members = λ c m l. call-cases c m _ l (λ y. is_ok y.0 ≡ is_sound c and is_member c m) (λ a d e. rw e d) (λ e h. rw (e, h) refl);
   configurations = λ c m b g.
-      call-cases c m _ (b, g) (λ y. is_event_done y.0 ≡ is_sound c and is_member c m and eqb (length b) configuration_size)
+      call-cases c m _ (b, g) (λ y. is_ok y.0 ≡ is_sound c and is_member c m and eqb (length b) configuration_size)
       (λ a d e. rw e d) (λ e h. rw (e, h) (by_cases (eqb (length b) configuration_size) (λ k. rw k) (λ k. rw k)));
   setups = setup-done;
 }
@@ -119,22 +118,22 @@ answered-exactly = record {
 -- ---- a refusal writes nothing; what is loaded is what is lent ----
 
 -- what is done, or leaves what was lent
-load-in-kept : (x : Member) (t s : ℕ) (b : List ℕ) → is_event_done (load_in x t s b).0 ≡ false → (load_in x t s b).1 ≡ b
+load-in-kept : (x : Member) (t s : ℕ) (b : List ℕ) → is_ok (load_in x t s b).0 ≡ false → (load_in x t s b).1 ≡ b
 load-in-kept x t s b =
-    load-cases x t s b (λ v y. is_event_done y.0 ≡ false → y.1 ≡ b)
-    (λ i p. unless-cases (λ (y : EventAnswer × List ℕ). is_event_done y.0 ≡ false → y.1 ≡ b) _ _ _ (λ u e. refl) (λ u e. never (sym e)))
+    load-cases x t s b (λ v y. is_ok y.0 ≡ false → y.1 ≡ b)
+    (λ i p. unless-cases (λ (y : EventAnswer × List ℕ). is_ok y.0 ≡ false → y.1 ≡ b) _ _ _ (λ u e. refl) (λ u e. never (sym e)))
     (λ p e. refl)
 
-load-in-lent : (x : Member) (t s : ℕ) (b : List ℕ) → is_event_done (load_in x t s b).0 ≡ true → (load_in x t s b).1 ≡ part_of x t s
+load-in-lent : (x : Member) (t s : ℕ) (b : List ℕ) → is_ok (load_in x t s b).0 ≡ true → (load_in x t s b).1 ≡ part_of x t s
 load-in-lent x t s b =
-    load-cases x t s b (λ v y. is_event_done y.0 ≡ true → y.1 ≡ v)
-    (λ i p. unless-cases (λ (y : EventAnswer × List ℕ). is_event_done y.0 ≡ true → y.1 ≡ value_of x.values i) _ _ _ (λ u e. never e) (λ u e. refl))
+    load-cases x t s b (λ v y. is_ok y.0 ≡ true → y.1 ≡ v)
+    (λ i p. unless-cases (λ (y : EventAnswer × List ℕ). is_ok y.0 ≡ true → y.1 ≡ value_of x.values i) _ _ _ (λ u e. never e) (λ u e. refl))
     (λ p e. never e)
 
-configuration-kept : (c : List ℕ) (m : ℕ) (l : List ℕ × ℕ) → is_event_done (configuration_for c m l).0 ≡ false → (configuration_for c m l).1 ≡ l
+configuration-kept : (c : List ℕ) (m : ℕ) (l : List ℕ × ℕ) → is_ok (configuration_for c m l).0 ≡ false → (configuration_for c m l).1 ≡ l
 unfolding configuration_for
 configuration-kept c m (b, g) =
-    unless-cases (λ (y : EventAnswer × (List ℕ × ℕ)). is_event_done y.0 ≡ false → y.1 ≡ (b, g)) _ _ _ (λ u e. refl) (λ u e. never (sym e))
+    unless-cases (λ (y : EventAnswer × (List ℕ × ℕ)). is_ok y.0 ≡ false → y.1 ≡ (b, g)) _ _ _ (λ u e. refl) (λ u e. never (sym e))
 
 setup-kept : (c b : List ℕ) → (setup_of_card c b).0 ≡ 0 → (setup_of_card c b).1 ≡ b
 unfolding setup_of_card
@@ -146,17 +145,17 @@ pub refused-unwritten : RefusedUnwritten
 unfolding load member_told configuration_told
 refused-unwritten = record {
   loads = λ c m t s b.
-      call-cases c m _ b (λ y. is_event_done y.0 ≡ false → y.1 ≡ b) (λ a d e k. refl) (λ e h. load-in-kept (member_in c m) t (selector_of t s) b);
-  members = λ c m l. call-cases c m _ l (λ y. is_event_done y.0 ≡ false → y.1 ≡ l) (λ a d e k. refl) (λ e h k. never (sym k));
+      call-cases c m _ b (λ y. is_ok y.0 ≡ false → y.1 ≡ b) (λ a d e k. refl) (λ e h. load-in-kept (member_in c m) t (selector_of t s) b);
+  members = λ c m l. call-cases c m _ l (λ y. is_ok y.0 ≡ false → y.1 ≡ l) (λ a d e k. refl) (λ e h k. never (sym k));
   configurations = λ c m l.
-      call-cases c m _ l (λ y. is_event_done y.0 ≡ false → y.1 ≡ l) (λ a d e k. refl) (λ e h. configuration-kept c m l);
+      call-cases c m _ l (λ y. is_ok y.0 ≡ false → y.1 ≡ l) (λ a d e k. refl) (λ e h. configuration-kept c m l);
   setups = setup-kept;
 }
 
 pub load-is-lent : LoadIsLent
 unfolding load lent member_answer unless◌answer◌then◌
 load-is-lent c m t s b =
-    call-cases c m _ b (λ y. is_event_done y.0 ≡ true → y.1 ≡ lent c m t s)
+    call-cases c m _ b (λ y. is_ok y.0 ≡ true → y.1 ≡ lent c m t s)
     (λ a d e k. never (sym d ∙ k))
     (λ e h k. rw (e, h) (load-in-lent (member_in c m) t (selector_of t s) b k))
 
@@ -170,20 +169,9 @@ module _ (d : List ℕ) (m : ℕ) (s : is_sound d ≡ true) (h : is_member d m �
 
 -- of a part that it has
 load-in-at : (y : Member) (t s i : ℕ) (b : List ℕ) → place_of y.queues t s ≡ Some i → length b ≡ (row_at i).size
-    → load_in y t s b ≡ (Done, value_of y.values i)
+    → load_in y t s b ≡ (Ok tt, value_of y.values i)
 unfolding load_in unless◌answer◌then◌
 load-in-at y t s i b p l = rw (p, eq-eqb _ _ l)
-
--- a number of an answer that is 0 is that of what is done
-pub number-zero : (a : EventAnswer) → is_event_done a ≡ false → event_number a ≡ 0 → ⊥
-number-zero event.Done e n = never (sym e)
-number-zero event.NotSound e n = absurd (omega arith)
-number-zero event.NoMember e n = absurd (omega arith)
-number-zero event.NoPart e n = absurd (omega arith)
-number-zero event.WrongLength e n = absurd (omega arith)
-number-zero event.BadSetup e n = absurd (omega arith)
-number-zero event.BadQueueSize e n = absurd (omega arith)
-number-zero event.WrongMark e n = absurd (omega arith)
 
 -- the part of a store that is done
 pub record Storable (q t s : ℕ) (x : List ℕ) : Type 0 where
@@ -192,21 +180,21 @@ pub record Storable (q t s : ℕ) (x : List ℕ) : Type 0 where
   pub later : 0 < row
   pub fits : length x ≡ (row_at row).size
 
-storable-at : (q t s : ℕ) (x : List ℕ) → is_event_done (storable q t s x) ≡ true → Storable q t s x
+storable-at : (q t s : ℕ) (x : List ℕ) → is_ok (storable q t s x) ≡ true → Storable q t s x
 unfolding storable
 storable-at q t s x = cases (place_of q t s) refl
   where
     Says : EventAnswer → Type 0
-    Says a = is_event_done a ≡ true → Storable q t s x
+    Says a = is_ok a ≡ true → Storable q t s x
 
     cases : (p : Option ℕ) → place_of q t s ≡ p
         → Says (on_place p
         (λ i.
-        unless ltb 0 i answer NoPart then
-        unless eqb (length x) (row_at i).size answer WrongLength then
-        unless value_allowed t x answer BadQueueSize then
-        Done)
-        NoPart)
+        unless ltb 0 i answer Err NoPart then
+        unless eqb (length x) (row_at i).size answer Err WrongLength then
+        unless value_allowed t x answer Err BadQueueSize then
+        Ok tt)
+        (Err NoPart))
     cases (Some i) e =
         unless-cases Says _ _ _ (λ u k. never k) λ u.
         unless-cases Says _ _ _ (λ v k. never k) λ v.
@@ -223,18 +211,18 @@ module _ (c : List ℕ) (m t s : ℕ) (x : List ℕ) where
     pub sound : is_sound c ≡ true
     pub here : is_member c m ≡ true
     pub part : Storable (member_in c m).queues t (selector_of t s) x
-    pub card : store c m t s x ≡ (Done, with_member c m stored_member)
+    pub card : store c m t s x ≡ (Ok tt, with_member c m stored_member)
 
   stored-in : event_number (store c m t s x).0 ≡ 0 → StoredIn
   unfolding store store_in on_member if_done member_answer unless◌answer◌then◌
   stored-in n =
       by_cases (is_sound c)
       (λ e. by_cases (is_member c m)
-      (λ h. by_cases (is_event_done (storable (member_in c m).queues t (selector_of t s) x))
-      (λ d. record { sound = e; here = h; part = storable-at _ t (selector_of t s) x d; card = rw (e, h, d) refl })
-      (λ d. absurd (number-zero (storable (member_in c m).queues t (selector_of t s) x) d (rw (e, h, d) at n))))
-      (λ h. absurd (number-zero NoMember refl (rw (e, h) at n))))
-      (λ e. absurd (number-zero NotSound refl (rw e at n)))
+      (λ h. by_cases (is_ok (storable (member_in c m).queues t (selector_of t s) x))
+      (λ d. record { sound = e; here = h; part = storable-at _ t (selector_of t s) x d; card = rw (e, h) (if-done-on _ _ _ d) })
+      (λ d. absurd (number-zero (storable (member_in c m).queues t (selector_of t s) x) d (rw (e, h, if-done-off _ _ _ d) at n))))
+      (λ h. absurd (number-zero (Err NoMember) refl (rw (e, h) at n))))
+      (λ e. absurd (number-zero (Err NotSound) refl (rw e at n)))
 
   module _ (z : StoredIn) where
     shaped : Shaped stored_member
@@ -264,7 +252,7 @@ load_stored c m t s x e b l =
     rw z.card
     (load-on _ m (stored-sound c m t s x z) (rw setup-with-member z.here) _ (stored-member c m t s x z) t s b
     ∙ load-in-at _ t (selector_of t s) z.part.row b z.part.place (l ∙ z.part.fits)
-    ∙ ap (λ v. (Done, v)) (stored-value c m t s x z))
+    ∙ ap (λ v. (Ok tt, v)) (stored-value c m t s x z))
 
 -- ---- after a list that is set ----
 
@@ -301,11 +289,11 @@ loadable-at q t s n = cases (place_of q t s) refl
     cases None e k = never k
 
 module _ (c : List ℕ) (m : ℕ) (s : is_sound c ≡ true) (h : is_member c m ≡ true) (t k : ℕ) (b : List ℕ) where
-  loads-part : is_event_done (load c m t k b).0 ≡ true → Loadable (member_in c m).queues t (selector_of t k) (length b)
+  loads-part : is_ok (load c m t k b).0 ≡ true → Loadable (member_in c m).queues t (selector_of t k) (length b)
   unfolding loadable
   loads-part d = loadable-at _ _ _ _ (both _ _ (sym (answered-exactly.loads c m t k b) ∙ d)).1
 
-  load_value : (p : Loadable (member_in c m).queues t (selector_of t k) (length b)) → load c m t k b ≡ (Done, value_of (member_in c m).values p.row)
+  load_value : (p : Loadable (member_in c m).queues t (selector_of t k) (length b)) → load c m t k b ≡ (Ok tt, value_of (member_in c m).values p.row)
   load_value p = load-on c m s h (member_in c m) refl t k b ∙ load-in-at (member_in c m) t (selector_of t k) p.row b p.place p.fits
 
 -- in the member after the list stands the list's value, or the one before
@@ -322,9 +310,9 @@ module _ (c : List ℕ) (m j : ℕ) (x : Settable c m j) (list : List ℕ)
       (applied-at _ p.row few f.below f.there (parts_of Parts list) (member_in c m).values w.shaped.long (accepts _ _ _ a))
 
   part-set : load_in (member_set c m j x list a) t (selector_of t s) b
-      ≡ (Done, value_or t (selector_of t s) (parts_of Parts list) (value_of (member_in c m).values p.row))
+      ≡ (Ok tt, value_or t (selector_of t s) (parts_of Parts list) (value_of (member_in c m).values p.row))
   unfolding member_set
-  part-set = load-in-at _ t (selector_of t s) p.row b p.place p.fits ∙ ap (λ v. (Done, v)) row-set
+  part-set = load-in-at _ t (selector_of t s) p.row b p.place p.fits ∙ ap (λ v. (Ok tt, v)) row-set
 
 pub load_set : LoadSet
 load_set c m j x list short r h e t s b d =

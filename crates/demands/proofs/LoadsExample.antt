@@ -6,12 +6,11 @@ use mathlib.Core.List.{List, [], ◌∷◌, ◌++◌}
 use Prim.Native.Nat.{ℕ, ◌+◌, ◌≤◌}
 use native.Mathlib.Omega.{arith}
 use lib.ListN.{length, take, drop, replicate}
+use Rattle.std.specs.Prelude.{Ok, is_ok}
 use Rattle.theory.specs.Bytes.{same}
 use Rattle.theory.specs.Machine.{run}
 use Rattle.theory.proofs.Tests.{same_true}
 use Rattle.protocol.specs.declared.Answer.TheVariants as answer
-use Rattle.protocol.specs.declared.EventAnswer.TheVariants.{Done}
-use Rattle.protocol.specs.Answers.{is_event_done}
 use Rattle.inventory.specs.Inventory.{selector_of}
 use Rattle.parts.specs.declared.ListForm.TheVariants.{Parts}
 use Rattle.parts.specs.List.{parts_of, value_or, longest_list}
@@ -20,7 +19,7 @@ use Rattle.setups.specs.Writing.{count_fields, are_equal, fields_of, packed_setu
 use Rattle.card.specs.Layout.{card_size, record_size, record_at, is_member, member_in, is_marked}
 use Rattle.card.specs.Sound.{is_sound}
 use Rattle.reply.specs.Reply.{head_of}
-use Rattle.loads.specs.Loads.{if_answered, part_of, load_in, load, lent, state_of, live_of, summary_of, member_told, configuration_for, configuration_told, setup_of_card}
+use Rattle.loads.specs.Loads.{part_of, load_in, load, lent, state_of, live_of, summary_of, member_told, configuration_for, configuration_told, setup_of_card}
 use Rattle.demands.specs.Calls.{Call, hand_back, wipe, card_store, answered, step, of_wipe}
 use Rattle.demands.specs.Claims.{DifferAtMost}
 use Rattle.demands.specs.Examples.{example_card, all_used, create, set_mode, header, header_bytes}
@@ -33,7 +32,7 @@ use Rattle.demands.proofs.LoadsFresh.{load-wiped, setup-again, loads-isolated}
 
 -- what computes here besides the model
 unfoldable pub loads : Unit {0}
-unfolding model if_answered part_of load_in load lent state_of live_of summary_of member_told configuration_for configuration_told setup_of_card
+unfolding model part_of load_in load lent state_of live_of summary_of member_told configuration_for configuration_told setup_of_card
     widths joined big_endian packed count_fields are_equal fields_of packed_setup placed written counts_card
 loads = tt
 
@@ -49,7 +48,7 @@ is-stored : (step example_card stores_status).1 ≡ answered 0
 unfolding loads a_status stores_status
 is-stored = refl
 
-stored : load (step example_card (card_store 1 0x103 0 a_status)).0 1 0x103 0 (0xee ∷ []) ≡ (Done, a_status)
+stored : load (step example_card (card_store 1 0x103 0 a_status)).0 1 0x103 0 (0xee ∷ []) ≡ (Ok tt, a_status)
 unfolding stores_status a_status
 stored = load_stored example_card 1 0x103 0 a_status is-stored (0xee ∷ []) refl
 
@@ -78,17 +77,17 @@ short : length a_list ≤ longest_list
 unfolding example
 short = omega arith
 
-loads-features : is_event_done (load settable_card 1 0x101 0 (replicate 16 0)).0 ≡ true
+loads-features : is_ok (load settable_card 1 0x101 0 (replicate 16 0)).0 ≡ true
 unfolding example
 loads-features = refl
 
-loads-status : is_event_done (load settable_card 1 0x103 0 (0 ∷ [])).0 ≡ true
+loads-status : is_ok (load settable_card 1 0x103 0 (0 ∷ [])).0 ≡ true
 unfolding example
 loads-status = refl
 
 -- the part that the list has, and one that it has not got
 set : load (set_list settable_card 1 1 a_list 8).0 1 0x101 0 (replicate 16 0)
-    ≡ (Done, value_or 0x101 (selector_of 0x101 0) (parts_of Parts a_list) (load settable_card 1 0x101 0 (replicate 16 0)).1)
+    ≡ (Ok tt, value_or 0x101 (selector_of 0x101 0) (parts_of Parts a_list) (load settable_card 1 0x101 0 (replicate 16 0)).1)
 set = load_set settable_card 1 1 is-settable a_list short 8 (omega arith) is_set 0x101 0 (replicate 16 0) loads-features
 
 set_value : value_or 0x101 (selector_of 0x101 0) (parts_of Parts a_list) (load settable_card 1 0x101 0 (replicate 16 0)).1 ≡ replicate 16 0x55
@@ -96,7 +95,7 @@ unfolding example value_or
 set_value = refl
 
 kept : load (set_list settable_card 1 1 a_list 8).0 1 0x103 0 (0 ∷ [])
-    ≡ (Done, value_or 0x103 (selector_of 0x103 0) (parts_of Parts a_list) (load settable_card 1 0x103 0 (0 ∷ [])).1)
+    ≡ (Ok tt, value_or 0x103 (selector_of 0x103 0) (parts_of Parts a_list) (load settable_card 1 0x103 0 (0 ∷ [])).1)
 kept = load_set settable_card 1 1 is-settable a_list short 8 (omega arith) is_set 0x103 0 (0 ∷ []) loads-status
 
 kept-value : value_or 0x103 (selector_of 0x103 0) (parts_of Parts a_list) (load settable_card 1 0x103 0 (0 ∷ [])).1 ≡ a_status

@@ -9,6 +9,7 @@ use native.Mathlib.Omega.{arith}
 use borrow.Author.Tests.{eq-eqb}
 use lib.ListN.{length, take, length-append}
 use lib.Seq.{take_at, drop_at, take_all}
+use Rattle.std.specs.Prelude.{Err, Ok}
 use Rattle.theory.specs.Logic.{when◌then◌else◌, unless◌answer◌then◌, ◌and◌, indicator}
 use Rattle.theory.specs.Bytes.{bytes_at}
 use Rattle.theory.specs.Machine.{Observation, replied, exposed, trace, run, seen}
@@ -16,9 +17,8 @@ use Rattle.theory.proofs.Tests.{by_cases}
 use Rattle.theory.proofs.Bytes.{bytes_at-bytes_at}
 use Rattle.wire.specs.Le.{le, bytes}
 use Rattle.wire.proofs.Le.{length-bytes, le_bytes}
-use Rattle.protocol.specs.declared.EventAnswer.{EventAnswer}
-use Rattle.protocol.specs.declared.EventAnswer.TheVariants.{Done, NotSound, NoMember, WrongMark}
-use Rattle.protocol.specs.Answers.{event_number}
+use Rattle.protocol.specs.declared.EventRefusal.TheVariants.{NotSound, NoMember, WrongMark}
+use Rattle.protocol.specs.Answers.{EventAnswer, event_number}
 use Rattle.objects.specs.Objects.{count}
 use Rattle.member.specs.declared.Member.{Member}
 use Rattle.member.specs.Record.{holding_size}
@@ -34,6 +34,7 @@ use Rattle.card.proofs.RecordLaws.{no-configuration-long, setup-with-record, mem
 use Rattle.card.proofs.HeaderLaws.{features-long}
 use Rattle.card.proofs.CountLaws.{counts-numbers}
 use Rattle.card.proofs.SoundLaws.{sound-of, sound-long, sound-has}
+use Rattle.events.proofs.Cases.{number-zero}
 use Rattle.events.specs.Events.{set_up, set_up_from, member_answer, if_done, on_member, wipe as wipe_of, reset_card}
 use Rattle.loads.specs.Loads.{load, lent, state_of, live_of, summary_of, numbers_of, member_told, configuration_for, configuration_told, setup_of_card}
 use Rattle.demands.specs.Calls.{wipe, step, names}
@@ -43,7 +44,7 @@ use Rattle.demands.proofs.Sound.{stays-sound}
 use Rattle.demands.proofs.Demand1.{sets-up}
 use Rattle.demands.proofs.QueuesKept.{set-up-from-packed}
 use Rattle.demands.proofs.Isolation.{number_of, isolation}
-use Rattle.demands.proofs.Loads.{call-on, number-zero, load-on}
+use Rattle.demands.proofs.Loads.{call-on, load-on}
 
 -- ---- after a wipe ----
 
@@ -104,7 +105,7 @@ module _ (c : List ℕ) (m g : ℕ) where
   record WipedIn : Type 0 where
     sound : is_sound c ≡ true
     here : is_member c m ≡ true
-    card : wipe_of c m g ≡ (Done, with_fresh c m (setup_of c).features g)
+    card : wipe_of c m g ≡ (Ok tt, with_fresh c m (setup_of c).features g)
 
   wiped-in : event_number (wipe_of c m g).0 ≡ 0 → WipedIn
   unfolding wipe_of on_member if_done member_answer unless◌answer◌then◌
@@ -113,9 +114,9 @@ module _ (c : List ℕ) (m g : ℕ) where
       (λ e. by_cases (is_member c m)
       (λ h. by_cases (is_marked c m)
       (λ k. record { sound = e; here = h; card = rw (e, h, k) refl })
-      (λ k. absurd (number-zero WrongMark refl (rw (e, h, k) at n))))
-      (λ h. absurd (number-zero NoMember refl (rw (e, h) at n))))
-      (λ e. absurd (number-zero NotSound refl (rw e at n)))
+      (λ k. absurd (number-zero (Err WrongMark) refl (rw (e, h, k) at n))))
+      (λ h. absurd (number-zero (Err NoMember) refl (rw (e, h) at n))))
+      (λ e. absurd (number-zero (Err NotSound) refl (rw e at n)))
 
   module _ (z : WipedIn) (l : g < 2 ^ 32) where
     abbrev d : List ℕ
@@ -143,7 +144,7 @@ module _ (c : List ℕ) (m g : ℕ) where
     reads-fresh = record {
       parts = load-on d m sound-after here-after fresh (member-with-record c m fresh g shaped has);
       member = λ n.
-          call-on d m _ n sound-after here-after ∙ rw (member-with-record c m fresh g shaped has) (ap (λ y. (Done, y)) fresh-numbers);
+          call-on d m _ n sound-after here-after ∙ rw (member-with-record c m fresh g shaped has) (ap (λ y. (Ok tt, y)) fresh-numbers);
       configuration = λ b n k.
           call-on d m _ (b, n) sound-after here-after
           ∙ rw (eq-eqb _ _ k, configuration-made c m fresh g shaped has, generation-made c m fresh g shaped has l);
@@ -170,7 +171,7 @@ module _ (c b d : List ℕ) (n : ℕ) (w : ◌≡◌ {A = ℕ × List ℕ} (n, d
     abbrev again : EventAnswer × List ℕ
     again = set_up x (setup_of c).members (counts_of c) (setup_of c).gets (setup_of c).sets (setup_of c).features
 
-    again-is : again ≡ (Done, fresh_card (setup_of c) (counts_of c) 0)
+    again-is : again ≡ (Ok tt, fresh_card (setup_of c) (counts_of c) 0)
     unfolding set_up unless◌answer◌then◌ ◌and◌
     again-is =
         let s = sound-of c setup-sound in

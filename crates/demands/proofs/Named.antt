@@ -11,8 +11,8 @@ use lib.ListN.{length}
 use borrow.Author.Tests.{eqb-true, eq-eqb}
 use Rattle.theory.specs.Logic.{◌and◌, within}
 use Rattle.theory.proofs.Tests.{inside, unless-cases, true-and, false-and, and-false, never}
-use Rattle.protocol.specs.declared.EventAnswer.{EventAnswer}
 use Rattle.protocol.specs.Opcodes.{names_member}
+use Rattle.protocol.specs.Answers.{EventAnswer}
 use Rattle.member.specs.declared.Member.{Member}
 use Rattle.member.specs.Record.{member_size, holding_size, member_bytes}
 use Rattle.member.specs.Member.{with_held}

@@ -9,7 +9,6 @@ use lib.Dec.{eqb}
 use lib.ListN.{length}
 use Rattle.theory.specs.Logic.{unless◌answer◌then◌}
 use Rattle.theory.proofs.Tests.{by_cases, unless-cases, within_low, within-high}
-use Rattle.protocol.specs.declared.EventAnswer.{EventAnswer}
 use Rattle.member.specs.declared.Member.{Member}
 use Rattle.member.specs.Record.{holding_size}
 use Rattle.member.specs.Member.{features_size, fresh_of}
@@ -25,6 +24,7 @@ use Rattle.card.proofs.HeaderLaws.{features-long}
 use Rattle.card.proofs.RecordLaws.{record-other, member-with-record}
 use Rattle.card.proofs.CountLaws.{count-other, count-behind, count-with-use, count-with-member, counts-long, counts-at, count-fresh}
 use Rattle.card.proofs.SoundLaws.{Sound, sound-of, sound-long, sound-has, sound-member-in}
+use Rattle.protocol.specs.Answers.{EventAnswer}
 use Rattle.events.specs.Events.{set_up_of, set_up_from, with_handed_back, hand_back as hand_back_of, wipe as wipe_of, reset_card}
 use Rattle.events.proofs.Cases.{on-member-cases}
 use Rattle.frame.specs.declared.Ask.{Ask}

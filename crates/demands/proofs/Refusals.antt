@@ -11,8 +11,7 @@ use Rattle.theory.proofs.Tests.{by_cases, unless-cases, and-false, never}
 use Rattle.wire.specs.Le.{le, bytes, number}
 use Rattle.protocol.specs.declared.Answer.{Answer}
 use Rattle.protocol.specs.declared.Answer.TheVariants.{Done, BadLength, BadGroup, BadOpcode, NoMember, Marked, BadField, Exists, NotLive, NoRoom, WrongKind, Running, BadList, ShortReply}
-use Rattle.protocol.specs.declared.EventAnswer.{EventAnswer}
-use Rattle.protocol.specs.Answers.{status_of, is_done, event_number}
+use Rattle.protocol.specs.Answers.{EventAnswer, status_of, is_done, event_number}
 use Rattle.card.specs.Sound.{is_sound}
 use Rattle.events.specs.Events.{hand_back as hand_back_of, wipe as wipe_of, reset_card, store_in, store}
 use Rattle.events.proofs.Cases.{if-done-cases, on-unsound, on-member-cases}

@@ -5,11 +5,11 @@ use mathlib.Core.List.{List}
 use Prim.Native.Nat.{ℕ}
 use native.Mathlib.Omega.{arith}
 use Rattle.theory.proofs.Tests.{within_low, unless-cases}
-use Rattle.protocol.specs.declared.EventAnswer.{EventAnswer}
 use Rattle.values.proofs.Kept.{done-allowed}
 use Rattle.member.proofs.Sound.{sound-part, sound-handed-back}
 use Rattle.changes.proofs.Kept.{change-sound}
 use Rattle.card.specs.Layout.{setup_of, is_member, member_in, counts_of, no_bytes}
+use Rattle.protocol.specs.Answers.{EventAnswer}
 use Rattle.events.specs.Events.{with_handed_back, hand_back as hand_back_of, wipe as wipe_of, reset_card, store_in, store}
 use Rattle.events.proofs.Cases.{if-done-cases, on-member-cases}
 use Rattle.card.proofs.HeaderLaws.{features-long}

@@ -7,15 +7,15 @@ use native.Mathlib.Omega.{arith}
 use borrow.Author.Tests.{eqb-true, eq-eqb, ne_eqb, ltb-true, lt-ltb}
 use lib.Dec.{ltb, eqb}
 use lib.ListN.{length, take, drop, length-take}
-use Rattle.std.specs.Prelude.{Option, Some, None}
+use Rattle.std.specs.Prelude.{Ok, Err, Option, Some, None}
 use Rattle.theory.specs.Logic.{unless◌answer◌then◌}
 use Rattle.theory.proofs.Tests.{by_cases, and_i, inside, within_low, within-high, tests}
 use Rattle.theory.proofs.Ladder.{or_left, or_right}
 use Rattle.theory.proofs.Bytes.{put-eq, take-before, drop-after}
 use Rattle.wire.specs.Le.{number}
-use Rattle.protocol.specs.declared.EventAnswer.{EventAnswer}
-use Rattle.protocol.specs.declared.EventAnswer.TheVariants.{Done, NoPart, WrongLength, BadQueueSize}
-use Rattle.protocol.specs.Answers.{event_number, is_event_done}
+use Rattle.protocol.specs.declared.EventRefusal.{EventRefusal}
+use Rattle.protocol.specs.declared.EventRefusal.TheVariants.{NoPart, WrongLength, BadQueueSize}
+use Rattle.protocol.specs.Answers.{EventAnswer, event_number}
 use Rattle.inventory.specs.Inventory.{row_at, values_size, selector_of, place_of}
 use Rattle.inventory.specs.Queue.{power_below, ring_size, queue_allowed, value_allowed}
 use Rattle.inventory.proofs.Rules.{row_within}
@@ -68,24 +68,24 @@ not-allowed t value a b f =
     (by_cases (ring_size (number 0 2 value) (number 4 2 value)) (λ e. absurd (f (is-ring _ _ e))) (λ e. e))
 
 module _ (q : ℕ) (few : q ≤ 4) (t s : ℕ) (value : List ℕ) where
-  storable-none : ((n at : ℕ) → Part q t s n at → ⊥) → storable q t (selector_of t s) value ≡ NoPart
+  storable-none : ((n at : ℕ) → Part q t s n at → ⊥) → storable q t (selector_of t s) value ≡ Err NoPart
   unfolding storable unless◌answer◌then◌
   storable-none f = cases (place_of q t (selector_of t s)) refl
     where
-      cases : (p : Option ℕ) → place_of q t (selector_of t s) ≡ p → storable q t (selector_of t s) value ≡ NoPart
+      cases : (p : Option ℕ) → place_of q t (selector_of t s) ≡ p → storable q t (selector_of t s) value ≡ Err NoPart
       cases (Some i) e =
           rw e (by_cases (ltb 0 i) (λ l. absurd (f _ _ (row-part q few t s i (ltb-true 0 i l) e))) (λ l. rw l))
       cases None e = rw e
 
   module _ (n at : ℕ) (p : Part q t s n at) where
-    other_length : (length value ≡ n → ⊥) → storable q t (selector_of t s) value ≡ WrongLength
+    other_length : (length value ≡ n → ⊥) → storable q t (selector_of t s) value ≡ Err WrongLength
     unfolding storable unless◌answer◌then◌
     other_length f =
         let r = part-row q few p in
         rw (r.place, lt-ltb 0 _ r.later, ne_eqb (length value) (row_at r.index).size (λ e. f (e ∙ r.size)))
 
     right-length : length value ≡ n
-        → storable q t (selector_of t s) value ≡ (unless value_allowed t value answer BadQueueSize then Done)
+        → storable q t (selector_of t s) value ≡ (unless value_allowed t value answer Err BadQueueSize then Ok tt)
     unfolding storable unless◌answer◌then◌
     right-length e =
         let r = part-row q few p in
@@ -115,23 +115,23 @@ module _ (c : List ℕ) (s : is_sound c ≡ true) (m : ℕ) (h : is_member c m �
   module _ (t k : ℕ) (value : List ℕ) where
     -- what is answered is what the member's own queue count gives
     store_is : store c m t k value ≡ if_done (storable (member_in c m).queues t (selector_of t k) value)
-        (Done, with_member c m (with_part (member_in c m) t (selector_of t k) value)) c
+        (Ok tt, with_member c m (with_part (member_in c m) t (selector_of t k) value)) c
     unfolding store store_in unless◌answer◌then◌
     store_is = rw (on-sound c m _ s, h)
 
-    refused-as : (a : EventAnswer) → storable (member_in c m).queues t (selector_of t k) value ≡ a → is_event_done a ≡ false
-        → step c (card_store m t k value) ≡ (c, answered (event_number a))
-    unfolding step if_done unless◌answer◌then◌
-    refused-as a e d = rw (store_is, e, d)
+    refused-as : (r : EventRefusal) → storable (member_in c m).queues t (selector_of t k) value ≡ Err r
+        → step c (card_store m t k value) ≡ (c, answered (event_number (Err r)))
+    unfolding step if_done
+    refused-as r e = rw (store_is, e)
 
     module _ (at : ℕ) (p : Part (member_in c m).queues t k (length value) at) (f : t ≡ 0x104
         → Ring (number 0 2 value) (number 4 2 value)) where
-      is-storable : storable (member_in c m).queues t (selector_of t k) value ≡ Done
+      is-storable : storable (member_in c m).queues t (selector_of t k) value ≡ Ok tt
       unfolding unless◌answer◌then◌
       is-storable = right-length _ few-queues t k value (length value) at p refl ∙ rw (allowed-ring t value f)
 
       after : step c (card_store m t k value) ≡ (with_member c m (with_part (member_in c m) t (selector_of t k) value), answered 0)
-      unfolding step if_done unless◌answer◌then◌
+      unfolding step if_done
       after = rw (store_is, is-storable)
 
       is-stored : Stored c (with_member c m (with_part (member_in c m) t (selector_of t k) value)) m at value
@@ -155,18 +155,17 @@ module _ (c : List ℕ) (s : is_sound c ≡ true) (m : ℕ) (h : is_member c m �
 
     no-ring : {at : ℕ} → Part (member_in c m).queues 0x104 k (length value) at → t ≡ 0x104
         → (Ring (number 0 2 value) (number 4 2 value) → ⊥)
-        → (unless value_allowed t value answer BadQueueSize then Done) ≡ BadQueueSize
+        → ◌≡◌ {A = EventAnswer} (unless value_allowed t value answer Err BadQueueSize then Ok tt) (Err BadQueueSize)
     unfolding unless◌answer◌then◌
     no-ring p a f = rw (not-allowed t value a (queue_long p) f)
 
     pub stores : StoreDone c m t k value
     stores = record {
       done = store-done;
-      no_part = λ f. refused-as NoPart (storable-none _ few-queues t k value f) refl;
-      other_length = λ n at p f. refused-as WrongLength (other_length _ few-queues t k value n at p f) refl;
+      no_part = λ f. refused-as NoPart (storable-none _ few-queues t k value f);
+      other_length = λ n at p f. refused-as WrongLength (other_length _ few-queues t k value n at p f);
       no_ring = λ at p a f.
-          refused-as BadQueueSize
-          (right-length _ few-queues t k value (length value) at (rw a p) refl ∙ no-ring p a f) refl;
+          refused-as BadQueueSize (right-length _ few-queues t k value (length value) at (rw a p) refl ∙ no-ring p a f);
     }
 
 -- one that does not come to the member

@@ -2,8 +2,7 @@
 use Rattle.std.specs.Prelude.{Bool, true, false, not, List, [], ◌∷◌, ℕ, eqb, length}
 use Rattle.theory.specs.Logic.{◌and◌, within}
 use Rattle.wire.specs.Le.{number}
-use Rattle.protocol.specs.declared.EventAnswer.{EventAnswer}
-use Rattle.protocol.specs.Answers.{event_number}
+use Rattle.protocol.specs.Answers.{EventAnswer, event_number}
 use Rattle.protocol.specs.Opcodes.{names_member}
 use Rattle.events.specs.Events.{hand_back as hand_back_of, wipe as wipe_of, reset_card, store}
 use Rattle.frame.specs.Frame.{opcode_of, group_of, target_of}

@@ -3,9 +3,8 @@
 -- that the contracts of the exported functions cite, or over the same without a lent buffer: respond for command_of, answer_of
 -- for message_of. A claim with hypotheses says which example meets them; where no file is named it is in
 -- ../proofs/ClaimsExample.antt. Assumes nothing.
-use Rattle.std.specs.Prelude.{◌≡◌, ◌≢◌, true, false, List, [], ◌∷◌, ◌++◌, ℕ, ◌+◌, ◌≤◌, ◌<◌, length, take, drop, replicate}
+use Rattle.std.specs.Prelude.{◌≡◌, ◌≢◌, true, false, List, [], ◌∷◌, ◌++◌, ℕ, ◌+◌, ◌≤◌, ◌<◌, length, take, drop, replicate, Ok}
 use Rattle.theory.specs.Machine.{trace, run, seen, visible}
-use Rattle.protocol.specs.declared.EventAnswer.TheVariants.{Done}
 use Rattle.frame.specs.Frame.{opcode_of, target_of}
 use Rattle.setups.specs.Claims.{Claims as PackedSetups}
 use Rattle.setups.specs.Examples.{SetupsWritten, SetupsRead, MembersAsked}
@@ -115,11 +114,11 @@ RefusalsChangeNothing = (c : List ℕ) (x : Call) → refused (step c x).1 ≡ t
 -- Setup, done, gives a sound card of this setup, with this queue count for each member; refused, it makes every byte of
 -- the buffer zero, and zeros are not sound: SPEC 7.2. Examples: setup-done, setup-refused
 pub record SetsUp : Type 0 where
-  pub done : (b : List ℕ) (n : ℕ) (q : List ℕ) (g s : ℕ) (f : List ℕ) → (set_up b n q g s f).0 ≡ Done
+  pub done : (b : List ℕ) (n : ℕ) (q : List ℕ) (g s : ℕ) (f : List ℕ) → (set_up b n q g s f).0 ≡ Ok tt
       → (is_sound (set_up b n q g s f).1 ≡ true)
       × (setup_of (set_up b n q g s f).1 ≡ setup_with n g s f)
       × (counts_of (set_up b n q g s f).1 ≡ q)
-  pub refused : (b : List ℕ) (n : ℕ) (q : List ℕ) (g s : ℕ) (f : List ℕ) → (set_up b n q g s f).0 ≢ Done
+  pub refused : (b : List ℕ) (n : ℕ) (q : List ℕ) (g s : ℕ) (f : List ℕ) → (set_up b n q g s f).0 ≢ Ok tt
       → (set_up b n q g s f).1 ≡ replicate (length b) 0
   pub zeros : (n : ℕ) → is_sound (replicate n 0) ≡ false
 

@@ -1,11 +1,9 @@
 -- CALLS FOR THE CARD'S OWN FIRMWARE, SPEC 14: what is claimed of them, and worked examples. They only read, so none is a `Call`.
 -- The hypotheses are met in ../proofs/LoadsExample.antt. Assumes nothing.
-use Rattle.std.specs.Prelude.{◌≡◌, Bool, true, false, not, List, [], ◌∷◌, ◌++◌, ℕ, ◌^◌, ◌≤◌, ◌<◌, leb, eqb, length, take, replicate}
+use Rattle.std.specs.Prelude.{◌≡◌, Bool, true, false, not, List, [], ◌∷◌, ◌++◌, ℕ, ◌^◌, ◌≤◌, ◌<◌, leb, eqb, length, take, replicate, Ok, is_ok}
 use Rattle.theory.specs.Logic.{◌and◌}
 use Rattle.theory.specs.Machine.{run}
 use Rattle.protocol.specs.declared.Answer.TheVariants as answer
-use Rattle.protocol.specs.declared.EventAnswer.TheVariants.{Done}
-use Rattle.protocol.specs.Answers.{is_event_done}
 use Rattle.inventory.specs.Inventory.{row_at, selector_of, place_of, on_place}
 use Rattle.parts.specs.declared.ListForm.TheVariants.{Parts}
 use Rattle.parts.specs.List.{parts_of, value_or, longest_list}
@@ -35,21 +33,21 @@ abbrev pub packed_of : List ℕ → List ℕ
 packed_of c = packed_setup (setup_of c).members (counts_of c) (setup_of c).gets (setup_of c).sets (setup_of c).features
 
 pub record AnsweredExactly : Type 0 where
-  pub loads : (c : List ℕ) (m t s : ℕ) (b : List ℕ) → is_event_done (load c m t s b).0 ≡ loadable c m t s (length b)
-  pub members : (c : List ℕ) (m : ℕ) (l : Numbers) → is_event_done (member_told c m l).0 ≡ is_sound c and is_member c m
+  pub loads : (c : List ℕ) (m t s : ℕ) (b : List ℕ) → is_ok (load c m t s b).0 ≡ loadable c m t s (length b)
+  pub members : (c : List ℕ) (m : ℕ) (l : Numbers) → is_ok (member_told c m l).0 ≡ is_sound c and is_member c m
   pub configurations : (c : List ℕ) (m : ℕ) (b : List ℕ) (g : ℕ)
-      → is_event_done (configuration_told c m (b, g)).0 ≡ is_sound c and is_member c m and eqb (length b) configuration_size
+      → is_ok (configuration_told c m (b, g)).0 ≡ is_sound c and is_member c m and eqb (length b) configuration_size
   pub setups : (c b : List ℕ) → not (eqb (setup_of_card c b).0 0) ≡ is_sound c and leb (length (packed_of c)) (length b)
 
 pub record RefusedUnwritten : Type 0 where
-  pub loads : (c : List ℕ) (m t s : ℕ) (b : List ℕ) → is_event_done (load c m t s b).0 ≡ false → (load c m t s b).1 ≡ b
-  pub members : (c : List ℕ) (m : ℕ) (l : Numbers) → is_event_done (member_told c m l).0 ≡ false → (member_told c m l).1 ≡ l
-  pub configurations : (c : List ℕ) (m : ℕ) (l : List ℕ × ℕ) → is_event_done (configuration_told c m l).0 ≡ false → (configuration_told c m l).1 ≡ l
+  pub loads : (c : List ℕ) (m t s : ℕ) (b : List ℕ) → is_ok (load c m t s b).0 ≡ false → (load c m t s b).1 ≡ b
+  pub members : (c : List ℕ) (m : ℕ) (l : Numbers) → is_ok (member_told c m l).0 ≡ false → (member_told c m l).1 ≡ l
+  pub configurations : (c : List ℕ) (m : ℕ) (l : List ℕ × ℕ) → is_ok (configuration_told c m l).0 ≡ false → (configuration_told c m l).1 ≡ l
   pub setups : (c b : List ℕ) → (setup_of_card c b).0 ≡ 0 → (setup_of_card c b).1 ≡ b
 
 -- What a load copies out is what a caller that borrows the card finds where it stands.
 abbrev pub LoadIsLent : Type 0
-LoadIsLent = (c : List ℕ) (m t s : ℕ) (b : List ℕ) → is_event_done (load c m t s b).0 ≡ true → (load c m t s b).1 ≡ lent c m t s
+LoadIsLent = (c : List ℕ) (m t s : ℕ) (b : List ℕ) → is_ok (load c m t s b).0 ≡ true → (load c m t s b).1 ≡ lent c m t s
 
 -- ---- what a load gives after a change ----
 
@@ -57,23 +55,23 @@ LoadIsLent = (c : List ℕ) (m t s : ℕ) (b : List ℕ) → is_event_done (load
 abbrev pub LoadStored : Type 0
 LoadStored =
     (c : List ℕ) (m t s : ℕ) (value : List ℕ) → (step c (card_store m t s value)).1 ≡ answered 0
-    → (b : List ℕ) → length b ≡ length value → load (step c (card_store m t s value)).0 m t s b ≡ (Done, value)
+    → (b : List ℕ) → length b ≡ length value → load (step c (card_store m t s value)).0 m t s b ≡ (Ok tt, value)
 
 -- Parts set that is done: the list's value of the part, or, where the list has none, what a load gave before. Example: set
 abbrev pub LoadSet : Type 0
 LoadSet =
     (c : List ℕ) (m j : ℕ) → Settable c m j → (list : List ℕ) → length list ≤ longest_list → (r : ℕ) → 8 ≤ r
     → (set_list c m j list r).1 ≡ head_of answer.Done
-    → (t s : ℕ) (b : List ℕ) → is_event_done (load c m t s b).0 ≡ true
-    → load (set_list c m j list r).0 m t s b ≡ (Done, value_or t (selector_of t s) (parts_of Parts list) (load c m t s b).1)
+    → (t s : ℕ) (b : List ℕ) → is_ok (load c m t s b).0 ≡ true
+    → load (set_list c m j list r).0 m t s b ≡ (Ok tt, value_or t (selector_of t s) (parts_of Parts list) (load c m t s b).1)
 
 -- A wipe that answers 0: every part is that of a fresh member, with the card's device features; the member runs, with the queue
 -- count that it had, no live object and no holding place; its configuration is zeros, and its generation the one given. Example:
 -- wiped
 pub record ReadsFresh (c : List ℕ) (m generation : ℕ) (d : List ℕ) : Type 0 where
   pub parts : (t s : ℕ) (b : List ℕ) → load d m t s b ≡ load_in (fresh_of (member_in c m).queues (setup_of c).features) t (selector_of t s) b
-  pub member : (l : Numbers) → member_told d m l ≡ (Done, (0, ((member_in c m).queues, (0, (0, 0)))))
-  pub configuration : (b : List ℕ) (g : ℕ) → length b ≡ configuration_size → configuration_told d m (b, g) ≡ (Done, (no_configuration, generation))
+  pub member : (l : Numbers) → member_told d m l ≡ (Ok tt, (0, ((member_in c m).queues, (0, (0, 0)))))
+  pub configuration : (b : List ℕ) (g : ℕ) → length b ≡ configuration_size → configuration_told d m (b, g) ≡ (Ok tt, (no_configuration, generation))
 
 abbrev pub LoadWiped : Type 0
 LoadWiped =
@@ -85,7 +83,7 @@ LoadWiped =
 -- n bytes were written at the front of a buffer, which is d now. Set up in a buffer x of the card's length they give a sound card
 -- of the same setup and queue counts: the one that a reset of the whole card to generation 0 leaves. Example: again
 pub record SetUpAgain (c x d : List ℕ) (n : ℕ) : Type 0 where
-  pub done : (set_up_from x (take n d)).0 ≡ Done
+  pub done : (set_up_from x (take n d)).0 ≡ Ok tt
   pub card : (set_up_from x (take n d)).1 ≡ (step c (card_reset 0)).0
   pub sound : is_sound (set_up_from x (take n d)).1 ≡ true
   pub setup : setup_of (set_up_from x (take n d)).1 ≡ setup_of c

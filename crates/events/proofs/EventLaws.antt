@@ -13,11 +13,11 @@ use lib.ListN.{length, take, drop, replicate}
 use Rattle.std.specs.Prelude.{⊤, Ok, Err}
 use Rattle.theory.specs.Logic.{when◌then◌else◌, unless◌answer◌then◌, ◌and◌}
 use Rattle.theory.specs.Bytes.{put}
-use Rattle.theory.proofs.Tests.{both, never, unless-passed}
+use Rattle.theory.proofs.Tests.{both}
 use Rattle.theory.proofs.Bytes.{put_all}
 use Rattle.theory.proofs.Ladder.{stop, pass}
 use Rattle.protocol.specs.declared.EventRefusal.{EventRefusal}
-use Rattle.protocol.specs.declared.EventRefusal.TheVariants.{NotSound, NoMember, BadSetup, WrongMark}
+use Rattle.protocol.specs.declared.EventRefusal.TheVariants.{BadSetup, WrongMark}
 use Rattle.protocol.specs.Answers.{EventAnswer}
 use Rattle.inventory.specs.Inventory.{selector_of}
 use Rattle.values.specs.Apply.{storable}
@@ -36,7 +36,6 @@ use Rattle.setups.specs.Reading.{read_number, read_setup}
 use Rattle.setups.proofs.Ranges.{numbers-in}
 use Rattle.setups.proofs.Claims.{claims}
 use Rattle.events.specs.Events.{InBounds, setup_with, refused_setup, set_up, set_up_of, set_up_from, member_answer, if_done, on_member, with_handed_back, store_in}
-use Rattle.card.proofs.RecordBytesLaws.{has-header}
 use Rattle.card.proofs.SoundLaws.{sound-of, sound-long, sound-has}
 
 -- ---- what a test that held says ----

@@ -218,7 +218,13 @@ pub fn reset_card(card: &mut [u8], generation: u32) -> Result<(), EventRefusal>
 }
 
 // One part of member m is set, with the selector bytes that its type names.
-fn store_in(card: &mut [u8], m: u64, t: u16, selector: u64, value: &[u8]) -> Result<(), EventRefusal>
+fn store_in(
+    card: &mut [u8],
+    m: u64,
+    t: u16,
+    selector: u64,
+    value: &[u8],
+) -> Result<(), EventRefusal>
     requires { HasRecord card.old m }
     ensures { (result, card.new) ≡ store_in card.old m t selector value.now }
 {
@@ -229,7 +235,13 @@ fn store_in(card: &mut [u8], m: u64, t: u16, selector: u64, value: &[u8]) -> Res
 }
 
 // A card store, SPEC 7.5: the data path sets one part of one member, in either mode.
-pub fn store(card: &mut [u8], m: u64, t: u16, selector: u64, value: &[u8]) -> Result<(), EventRefusal>
+pub fn store(
+    card: &mut [u8],
+    m: u64,
+    t: u16,
+    selector: u64,
+    value: &[u8],
+) -> Result<(), EventRefusal>
     ensures { (result, card.new) ≡ store card.old m t selector value.now }
 {
     member_answer(card, m)?;

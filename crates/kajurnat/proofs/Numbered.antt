@@ -2,8 +2,7 @@
 use mathlib.Core.Path.{◌≡◌, ap}
 use mathlib.Core.List.{List}
 use Prim.Native.Nat.{ℕ}
-use Rattle.protocol.specs.declared.EventAnswer.{EventAnswer}
-use Rattle.protocol.specs.Answers.{event_number}
+use Rattle.protocol.specs.Answers.{EventAnswer, event_number}
 use Rattle.events.specs.Events.{numbered}
 use Rattle.loads.specs.Loads.{numbered_of}
 

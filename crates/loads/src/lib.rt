@@ -56,7 +56,13 @@ fn load_in(bytes: &[u8], t: u16, selector: u64, value: &mut [u8]) -> Result<(), 
 }
 
 // One part of one member, whatever its state is; selector is the eight selector bytes as a number.
-pub fn load(card: &[u8], m: u64, t: u16, selector: u64, value: &mut [u8]) -> Result<(), EventRefusal>
+pub fn load(
+    card: &[u8],
+    m: u64,
+    t: u16,
+    selector: u64,
+    value: &mut [u8],
+) -> Result<(), EventRefusal>
     ensures { (result, value.new) ≡ load card.now m t selector value.old }
 {
     events::member_answer(card, m)?;
@@ -134,7 +140,12 @@ pub fn member(
 // ---- its configuration ----
 
 // The twelve bytes and the generation.
-pub fn configuration(card: &[u8], m: u64, bytes: &mut [u8], generation: &mut u32) -> Result<(), EventRefusal>
+pub fn configuration(
+    card: &[u8],
+    m: u64,
+    bytes: &mut [u8],
+    generation: &mut u32,
+) -> Result<(), EventRefusal>
     ensures { (result, (bytes.new, generation.new)) ≡ configuration_told card.now m (bytes.old, generation.old) }
 {
     events::member_answer(card, m)?;
