@@ -7,7 +7,7 @@ use Prim.Native.Nat.{ℕ, zero, suc, ◌≤◌}
 use borrow.Author.Tests.{eqb-true}
 use lib.Dec.{eqb, leb}
 use lib.ListN.{length, get_or}
-use Rattle.std.specs.Prelude.{Ok, Err, is_ok}
+use Rattle.std.specs.Prelude.{Ok, Err, is_ok, Option, Some, None}
 use Rattle.theory.specs.Logic.{when◌then◌else◌, unless◌answer◌then◌, ◌or◌, within}
 use Rattle.theory.proofs.Tests.{both}
 use Rattle.protocol.specs.declared.Answer.TheVariants.{Marked}
@@ -19,7 +19,6 @@ use Rattle.frame.specs.Ask.{usable, reaches, attended, framed_of, ask_of}
 use Rattle.inventory.specs.Inventory.{selector_of}
 use Rattle.values.specs.Apply.{storable}
 use Rattle.values.proofs.Kept.{done-allowed}
-use Rattle.std.specs.Prelude.{Option, Some, None}
 use Rattle.objects.specs.declared.ObjectRecord.{ObjectRecord}
 use Rattle.objects.specs.Objects.{slot_byte, object_byte, free, all_up_to}
 use Rattle.member.specs.declared.Member.{Member}

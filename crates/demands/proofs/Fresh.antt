@@ -7,12 +7,11 @@ use native.Mathlib.Omega.{arith}
 use borrow.Author.Tests.{eqb-true, eq-eqb, ne_eqb}
 use lib.Dec.{eqb}
 use lib.ListN.{length, get_or, replicate}
-use Rattle.std.specs.Prelude.{Err, Ok}
+use Rattle.std.specs.Prelude.{Err, Ok, None}
 use Rattle.theory.specs.Logic.{unless◌answer◌then◌, ◌and◌}
 use Rattle.theory.proofs.Tests.{by_cases, both, and_i}
 use Rattle.theory.proofs.Lists.{get_or-same}
 use Rattle.protocol.specs.declared.EventRefusal.TheVariants.{BadSetup}
-use Rattle.std.specs.Prelude.{None}
 use Rattle.objects.specs.Objects.{free}
 use Rattle.member.specs.declared.Member.{Member}
 use Rattle.member.specs.Member.{features_size, fresh_of}
