@@ -1,4 +1,5 @@
 -- What each kind of command comes to, from what the layers below answered. Assumes nothing.
+use Rattle.std.specs.Prelude.{Result, Ok, Err}
 use mathlib.Core.Path.{◌≡◌, sym, ◌∙◌}
 use mathlib.Core.Bool.{Bool, true, false, not}
 use mathlib.Core.List.{List, []}
@@ -23,7 +24,7 @@ use Rattle.card.specs.declared.Setup.{Setup}
 use Rattle.card.specs.Layout.{setup_of, in_use_of, is_member, member_bytes_in, member_in, with_member}
 use Rattle.card.specs.Sound.{is_sound}
 use Rattle.frame.specs.declared.Ask.{Ask}
-use Rattle.frame.specs.declared.Ask.TheVariants.{Refused, QueryList, Read, Change}
+use Rattle.frame.specs.declared.Ask.TheVariants.{QueryList, Read, Change}
 use Rattle.frame.specs.Frame.{asked_list, given_list}
 use Rattle.frame.proofs.Asked.{asked}
 use Rattle.reply.specs.Result.{result_of}
@@ -41,7 +42,7 @@ Left = ℕ × (List ℕ × List ℕ)
 pub read_told : (c r l l' : List ℕ) (m n q : ℕ) (bs list values : List ℕ) (op : ReadOp) (y : Reading)
     → bs ≡ member_bytes_in c m → list ≡ asked_list r → y ≡ read_of list op (member_of bs) → q ≡ (member_of bs).queues → values ≡ (member_of bs).values
     → (n, l') ≡ written (replied y.answer (result_of q list values y.body) (length l)) l
-    → (n, (c, l')) ≡ delivered (conclude c (length l) (perform c r (Read m op))) l
+    → (n, (c, l')) ≡ delivered (conclude c (length l) (perform c r (Ok (Read m op)))) l
 unfolding perform member_in
 read_told c r l l' m n q bs list values op y f g h u v k = kept c _ _ l l' n (k ∙ rw (h, u, v, g, f))
 
@@ -49,42 +50,42 @@ module _ (c r l l' : List ℕ) (m n : ℕ) (s : Setup) (x : Member) (list : List
   module _ (op : ChangeOp) (y : Changed) (g : list ≡ given_list r)
       (h : y ≡ change_of s.gets s.sets list op x)
       (k : (n, l') ≡ written (reply_of y.answer []) l) (room : head_size ≤ length l) (b : Bool) (said : b ≡ is_done y.answer) where
-    pub change-refused : not b ≡ true → (n, (c, l')) ≡ delivered (conclude c (length l) (perform c r (Change m op))) l
+    pub change-refused : not b ≡ true → (n, (c, l')) ≡ delivered (conclude c (length l) (perform c r (Ok (Change m op)))) l
     unfolding perform
     change-refused t = rw (← f, ← e, ← g, ← h) (refused c y.answer l l' n room k b said _ t)
 
     pub change-told : (d : List ℕ) → not b ≡ false → d ≡ with_member c m y.member
-        → (n, (d, l')) ≡ delivered (conclude c (length l) (perform c r (Change m op))) l
+        → (n, (d, l')) ≡ delivered (conclude c (length l) (perform c r (Ok (Change m op)))) l
     unfolding perform
     change-told d t i = rw (← f, ← e, ← g, ← h) (changed c y.answer l l' n room k b said _ d t i)
 
 -- ---- the arms of a command ----
 
-module _ (c r l : List ℕ) (b : Bool) (x a : Ask) (room : head_size ≤ length l) (sound : b ≡ is_sound c) (n : not b ≡ false)
+module _ (c r l : List ℕ) (b : Bool) (x a : Result Ask Answer) (room : head_size ≤ length l) (sound : b ≡ is_sound c) (n : not b ≡ false)
     (e : x ≡ ask_in c r) (f : x ≡ a) where
   pub answered : (y : Left) → y ≡ delivered (conclude c (length l) (perform c r a)) l → y ≡ command_of c r l
   answered y h = heard c r l room (sym sound ∙ not-false b n) y (h ∙ rw (sym f ∙ e))
 
-module _ (c r l l' : List ℕ) (b : Bool) (x : Ask) (k : ℕ) (room : head_size ≤ length l) (sound : b ≡ is_sound c)
+module _ (c r l l' : List ℕ) (b : Bool) (x : Result Ask Answer) (k : ℕ) (room : head_size ≤ length l) (sound : b ≡ is_sound c)
     (n : not b ≡ false) (e : x ≡ ask_in c r) where
-  pub refusal-told : (a : Answer) → x ≡ Refused a → (k, l') ≡ written (reply_of a []) l → (k, (c, l')) ≡ command_of c r l
+  pub refusal-told : (a : Answer) → x ≡ Err a → (k, l') ≡ written (reply_of a []) l → (k, (c, l')) ≡ command_of c r l
   unfolding perform
-  refusal-told a f h = answered c r l b x (Refused a) room sound n e f _ (answer-kept c a l l' k room h)
+  refusal-told a f h = answered c r l b x (Err a) room sound n e f _ (answer-kept c a l l' k room h)
 
-  pub query-told : x ≡ QueryList → (k, l') ≡ written (replied Done (bytes 8 supported_mask) (length l)) l → (k, (c, l')) ≡ command_of c r l
+  pub query-told : x ≡ Ok QueryList → (k, l') ≡ written (replied Done (bytes 8 supported_mask) (length l)) l → (k, (c, l')) ≡ command_of c r l
   unfolding perform
-  query-told f h = answered c r l b x QueryList room sound n e f _ (kept c Done _ l l' k h)
+  query-told f h = answered c r l b x (Ok QueryList) room sound n e f _ (kept c Done _ l l' k h)
 
 -- a member that a request asks for is one of the card's
-module _ (c r : List ℕ) (x : Ask) (m : ℕ) (e : x ≡ ask_in c r) where
-  pub read-member : (op : ReadOp) → x ≡ Read m op → is_member c m ≡ true
+module _ (c r : List ℕ) (x : Result Ask Answer) (m : ℕ) (e : x ≡ ask_in c r) where
+  pub read-member : (op : ReadOp) → x ≡ Ok (Read m op) → is_member c m ≡ true
   unfolding ask_in
   read-member op f =
-      let g = asked (setup_of c).members ((setup_of c).gets + (setup_of c).sets) _ r (in_use_of c) (Read m op) (sym e ∙ f) in
+      let g = asked (setup_of c).members ((setup_of c).gets + (setup_of c).sets) _ r (in_use_of c) (Ok (Read m op)) (sym e ∙ f) in
       inside 1 (setup_of c).members m g.0.low g.0.high
 
-  pub change-member : (op : ChangeOp) → x ≡ Change m op → is_member c m ≡ true
+  pub change-member : (op : ChangeOp) → x ≡ Ok (Change m op) → is_member c m ≡ true
   unfolding ask_in
   change-member op f =
-      let g = asked (setup_of c).members ((setup_of c).gets + (setup_of c).sets) _ r (in_use_of c) (Change m op) (sym e ∙ f) in
+      let g = asked (setup_of c).members ((setup_of c).gets + (setup_of c).sets) _ r (in_use_of c) (Ok (Change m op)) (sym e ∙ f) in
       inside 1 (setup_of c).members m g.0.low g.0.high

@@ -1,4 +1,5 @@
 -- What the reply's writer left, and what becomes of the card: steps 11 and 12. Assumes nothing.
+use Rattle.std.specs.Prelude.{Ok}
 use mathlib.Core.Path.{◌≡◌, refl, ap, sym, ◌∙◌}
 use mathlib.Core.Bool.{Bool, true, false, not}
 use mathlib.Core.List.{List, []}
@@ -51,7 +52,7 @@ module _ (c : List ℕ) (a : Answer) (l l' : List ℕ) (n : ℕ) (room : head_si
 
 -- list use: its reply is 8 bytes, so it always stands
 pub used : (c r l l' d : List ℕ) (mask n : ℕ) → (n, l') ≡ written (reply_of Done []) l → head_size ≤ length l → d ≡ with_in_use c mask
-    → (n, (d, l')) ≡ delivered (conclude c (length l) (perform c r (UseList mask))) l
+    → (n, (d, l')) ≡ delivered (conclude c (length l) (perform c r (Ok (UseList mask)))) l
 unfolding perform
 used c r l l' d mask n e h k = changed c Done l l' n h e true refl (with_in_use c mask) d refl k
 

@@ -1,4 +1,5 @@
 -- A command, as its steps: what is here is all that the other proofs use of the definition of `respond`. Assumes nothing.
+use Rattle.std.specs.Prelude.{Result}
 use mathlib.Core.Path.{◌≡◌, refl}
 use mathlib.Core.Bool.{true, false}
 use mathlib.Core.List.{List, []}
@@ -22,7 +23,7 @@ use Rattle.admin.specs.Command.{ask_in, Effect, perform, conclude, respond}
 abbrev pub NamedIn : List ℕ → List ℕ → ℕ → Type 0
 NamedIn c r m = Named (setup_of c).members (is_marked c (target_of r)) r m
 
-abbrev pub FactsIn : List ℕ → List ℕ → Ask → Type 0
+abbrev pub FactsIn : List ℕ → List ℕ → Result Ask Answer → Type 0
 FactsIn c r a = Facts (setup_of c).members ((setup_of c).gets + (setup_of c).sets) (is_marked c (target_of r)) r a
 
 pub asked_of : (c r : List ℕ) → FactsIn c r (ask_in c r)

@@ -1,5 +1,5 @@
 -- A command, whole: SPEC 6.1. Assumes nothing.
-use Rattle.std.specs.Prelude.{List, [], ℕ, ◌+◌, leb, length}
+use Rattle.std.specs.Prelude.{List, [], ℕ, ◌+◌, leb, length, Result, Ok, Err}
 use Rattle.theory.specs.Logic.{when◌then◌else◌, unless◌answer◌then◌, ◌and◌}
 use Rattle.wire.specs.Le.{bytes}
 use Rattle.protocol.specs.declared.Answer.{Answer}
@@ -14,14 +14,14 @@ use Rattle.reads.specs.Reads.{read_of}
 use Rattle.card.specs.Layout.{setup_of, in_use_of, with_in_use, member_in, with_member, is_marked}
 use Rattle.card.specs.Sound.{is_sound}
 use Rattle.frame.specs.declared.Ask.{Ask}
-use Rattle.frame.specs.declared.Ask.TheVariants.{Refused, QueryList, UseList, Read, Change}
+use Rattle.frame.specs.declared.Ask.TheVariants.{QueryList, UseList, Read, Change}
 use Rattle.frame.specs.Frame.{target_of, asked_list, given_list}
 use Rattle.frame.specs.Ask.{ask_of}
 use Rattle.reply.specs.Result.{result_of}
 use Rattle.reply.specs.Reply.{head_size, final_of, replied, written}
 
 -- steps 2 to 7: what a request asks of this card
-unfoldable pub ask_in : List ℕ → List ℕ → Ask
+unfoldable pub ask_in : List ℕ → List ℕ → Result Ask Answer
 ask_in c r =
     ask_of (setup_of c).members ((setup_of c).gets + (setup_of c).sets) (in_use_of c) (is_marked c (target_of r)) r
 
@@ -41,13 +41,13 @@ abbrev pub changing : List ℕ → ℕ → Changed → Effect
 changing c m x = effect x.answer (with_member c m x.member) []
 
 -- steps 8 to 10
-unfoldable pub perform : List ℕ → List ℕ → Ask → Effect
-perform c r (Refused a) = effect a c []
-perform c r QueryList = effect Done c (bytes 8 supported_mask)
-perform c r (UseList mask) = effect Done (with_in_use c mask) []
-perform c r (Read m op) =
+unfoldable pub perform : List ℕ → List ℕ → Result Ask Answer → Effect
+perform c r (Err a) = effect a c []
+perform c r (Ok QueryList) = effect Done c (bytes 8 supported_mask)
+perform c r (Ok (UseList mask)) = effect Done (with_in_use c mask) []
+perform c r (Ok (Read m op)) =
     reading c (asked_list r) (member_in c m) (read_of (asked_list r) op (member_in c m))
-perform c r (Change m op) =
+perform c r (Ok (Change m op)) =
     changing c m (change_of (setup_of c).gets (setup_of c).sets (given_list r) op (member_in c m))
 
 -- steps 11 and 12: the card after, which a refusal leaves as it was, and the reply

@@ -11,7 +11,7 @@ use frame::Ask;
 use protocol::{Answer, ChangeOp, ReadOp};
 
 // Steps 2 to 7: what a request asks of this card.
-fn asked(card: &[u8], request: &[u8]) -> Ask
+fn asked(card: &[u8], request: &[u8]) -> Result<Ask, Answer>
     requires { is_sound card.now ≡ true }
     ensures { result ≡ ask_in card.now request.now }
 {
@@ -35,7 +35,7 @@ fn from(request: &[u8], at: usize) -> &[u8]
 // Steps 8 to 12 of a command that reads a member.
 fn read_member(card: &[u8], m: u64, op: ReadOp, request: &[u8], reply: &mut [u8]) -> usize
     requires { (is_sound card.now ≡ true) × (is_member card.now m ≡ true) × (head_size ≤ length reply.old) }
-    ensures { (result, (card.now, reply.new)) ≡ delivered (conclude card.now (length reply.old) (perform card.now request.now (Ask.Read m op))) reply.old }
+    ensures { (result, (card.now, reply.new)) ≡ delivered (conclude card.now (length reply.old) (perform card.now request.now (Ok (Ask.Read m op)))) reply.old }
 {
     let bytes = card::member_bytes(card, m);
     let list = from(request, frame::ASKED_AT);
@@ -50,7 +50,7 @@ fn read_member(card: &[u8], m: u64, op: ReadOp, request: &[u8], reply: &mut [u8]
 // Steps 8 to 12 of a command that changes a member.
 fn change_member(card: &mut [u8], m: u64, op: ChangeOp, request: &[u8], reply: &mut [u8]) -> usize
     requires { (is_sound card.old ≡ true) × (is_member card.old m ≡ true) × (head_size ≤ length reply.old) }
-    ensures { (result, (card.new, reply.new)) ≡ delivered (conclude card.old (length reply.old) (perform card.old request.now (Ask.Change m op))) reply.old }
+    ensures { (result, (card.new, reply.new)) ≡ delivered (conclude card.old (length reply.old) (perform card.old request.now (Ok (Ask.Change m op)))) reply.old }
 {
     let s = card::setup_of(card);
     let before = card::load_member(card, m);
@@ -68,7 +68,7 @@ fn change_member(card: &mut [u8], m: u64, op: ChangeOp, request: &[u8], reply: &
 // List use: always a success, since its reply is 8 bytes.
 fn use_list(card: &mut [u8], mask: u64, request: &[u8], reply: &mut [u8]) -> usize
     requires { (is_sound card.old ≡ true) × (head_size ≤ length reply.old) }
-    ensures { (result, (card.new, reply.new)) ≡ delivered (conclude card.old (length reply.old) (perform card.old request.now (Ask.UseList mask))) reply.old }
+    ensures { (result, (card.new, reply.new)) ≡ delivered (conclude card.old (length reply.old) (perform card.old request.now (Ok (Ask.UseList mask)))) reply.old }
 {
     card::set_in_use(card, mask);
     reply::write_answer(Answer::Done, reply)
@@ -85,10 +85,10 @@ pub fn command(card: &mut [u8], request: &[u8], reply: &mut [u8]) -> usize
         return 0;
     }
     match asked(card, request) {
-        Ask::Refused(a) => reply::write_answer(a, reply),
-        Ask::QueryList => reply::write_mask(protocol::SUPPORTED_MASK, reply),
-        Ask::UseList(mask) => use_list(card, mask, request, reply),
-        Ask::Read(m, op) => read_member(card, m, op, request, reply),
-        Ask::Change(m, op) => change_member(card, m, op, request, reply),
+        Err(a) => reply::write_answer(a, reply),
+        Ok(Ask::QueryList) => reply::write_mask(protocol::SUPPORTED_MASK, reply),
+        Ok(Ask::UseList(mask)) => use_list(card, mask, request, reply),
+        Ok(Ask::Read(m, op)) => read_member(card, m, op, request, reply),
+        Ok(Ask::Change(m, op)) => change_member(card, m, op, request, reply),
     }
 }

@@ -1,5 +1,6 @@
 -- REQUEST 10: between the two halves of a reset a marked member is idle, calls for it are refused, and card stores work. Assumes
 -- nothing.
+use Rattle.std.specs.Prelude.{Err}
 use mathlib.Core.Path.{◌≡◌, refl, ap, sym, ◌∙◌}
 use mathlib.Core.Bool.{true, false}
 use mathlib.Core.List.{List, [], ◌∷◌, map}
@@ -13,7 +14,6 @@ use Rattle.theory.proofs.Tests.{both}
 use Rattle.protocol.specs.declared.Answer.TheVariants.{Marked}
 use Rattle.protocol.specs.Answers.{EventAnswer, event_number}
 use Rattle.protocol.specs.Opcodes.{names_member}
-use Rattle.frame.specs.declared.Ask.TheVariants.{Refused}
 use Rattle.frame.specs.Frame.{opcode_of, group_of, target_of}
 use Rattle.frame.specs.Ask.{usable, reaches, attended, framed_of, ask_of}
 use Rattle.inventory.specs.Inventory.{selector_of}
@@ -65,7 +65,7 @@ module _ (c : List ℕ) (m : ℕ) (s : is_sound c ≡ true) (u : is_marked c m �
   abbrev here : is_member c m ≡ true
   here = marked-here c m u
 
-  asked-marked : (r : List ℕ) (room : ℕ) → names m (command r room) ≡ true → usable (in_use_of c) (opcode_of r) ≡ true → ask_in c r ≡ Refused Marked
+  asked-marked : (r : List ℕ) (room : ℕ) → names m (command r room) ≡ true → usable (in_use_of c) (opcode_of r) ≡ true → ask_in c r ≡ Err Marked
   unfolding ask_in ask_of framed_of reaches attended unless◌answer◌then◌ ◌or◌
   asked-marked r room n v =
       let p = named-frame m r room n in

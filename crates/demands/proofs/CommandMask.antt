@@ -1,4 +1,6 @@
 -- What a command that does not name m does to the masked card of Mask.antt. Assumes nothing.
+use Rattle.std.specs.Prelude.{Result, Ok, Err}
+use Rattle.protocol.specs.declared.Answer.{Answer}
 use mathlib.Core.Path.{◌≡◌, refl, sym, ◌∙◌}
 use mathlib.Core.Logic.{◌≢◌}
 use mathlib.Core.Bool.{true, false}
@@ -14,7 +16,7 @@ use Rattle.card.specs.Layout.{card_size, setup_of, member_in}
 use Rattle.card.specs.Sound.{is_sound}
 use Rattle.card.proofs.RecordLaws.{setup-with-record, record-other}
 use Rattle.frame.specs.declared.Ask.{Ask}
-use Rattle.frame.specs.declared.Ask.TheVariants.{Refused, QueryList, UseList, Read, Change}
+use Rattle.frame.specs.declared.Ask.TheVariants.{QueryList, UseList, Read, Change}
 use Rattle.admin.specs.Command.{Effect, perform, respond}
 use Rattle.demands.specs.Calls.{command, names}
 use Rattle.admin.proofs.Respond.{NamedIn, FactsIn, asked_of, last_answer, ended, respond-none, respond-is}
@@ -40,14 +42,14 @@ module _ (m : ℕ) (low : 1 ≤ m) (c : List ℕ) (s : is_sound c ≡ true) (r :
       unmasked : member_in (mask m c) k ≡ member_in c k
       unmasked = record-other c m _ 0 k low f.low another
 
-    perform-alike : (a : Ask) → FactsIn c r a → Alike m (perform (mask m c) r a) (perform c r a)
+    perform-alike : (a : Result Ask Answer) → FactsIn c r a → Alike m (perform (mask m c) r a) (perform c r a)
     unfolding perform
-    perform-alike (Refused a) f = record { outcomes = refl; results = refl; cards = mask-mask m low c whole }
-    perform-alike QueryList f = record { outcomes = refl; results = refl; cards = mask-mask m low c whole }
-    perform-alike (UseList u) f = record { outcomes = refl; results = refl; cards = mask-use m low c whole u }
-    perform-alike (Read k op) f =
+    perform-alike (Err a) f = record { outcomes = refl; results = refl; cards = mask-mask m low c whole }
+    perform-alike (Ok QueryList) f = record { outcomes = refl; results = refl; cards = mask-mask m low c whole }
+    perform-alike (Ok (UseList u)) f = record { outcomes = refl; results = refl; cards = mask-use m low c whole u }
+    perform-alike (Ok (Read k op)) f =
         rw (unmasked k f.0) (record { outcomes = refl; results = refl; cards = mask-mask m low c whole })
-    perform-alike (Change k op) f =
+    perform-alike (Ok (Change k op)) f =
         rw (setup-with-record, unmasked k f.0)
         (record { outcomes = refl; results = refl; cards = mask-member m low c whole k _ f.0.low (another k f.0) })
 

@@ -1,4 +1,6 @@
 -- Commands, card stores, hand backs and the calls of a restore leave every configuration as it was. Assumes nothing.
+use Rattle.std.specs.Prelude.{Result, Ok, Err}
+use Rattle.protocol.specs.declared.Answer.{Answer}
 use mathlib.Core.Path.{◌≡◌, refl, ap, ◌∙◌}
 use mathlib.Core.Bool.{true}
 use mathlib.Core.List.{List}
@@ -17,7 +19,7 @@ use Rattle.protocol.specs.Answers.{EventAnswer}
 use Rattle.events.specs.Events.{with_handed_back, hand_back as hand_back_of, store_in, store}
 use Rattle.events.proofs.Cases.{if-done-cases, on-member-cases}
 use Rattle.frame.specs.declared.Ask.{Ask}
-use Rattle.frame.specs.declared.Ask.TheVariants.{Refused, QueryList, UseList, Read, Change}
+use Rattle.frame.specs.declared.Ask.TheVariants.{QueryList, UseList, Read, Change}
 use Rattle.admin.specs.Command.{perform, respond}
 use Rattle.admin.proofs.Respond.{FactsIn, asked_of, card-cases}
 use Rattle.staging.specs.Staging.{with_held_bytes, without_held, begin_of, feed_of, finish_of, drop_of}
@@ -76,13 +78,13 @@ module _ (c : List ℕ) (m : ℕ) (h : is_member c m ≡ true) where
   low : 1 ≤ m
   low = within_low _ _ m h
 
-  perform_kept : (r : List ℕ) (a : Ask) → FactsIn c r a → SameConfiguration c (perform c r a).card m
+  perform_kept : (r : List ℕ) (a : Result Ask Answer) → FactsIn c r a → SameConfiguration c (perform c r a).card m
   unfolding perform
-  perform_kept r (Refused a) f = kept c m
-  perform_kept r QueryList f = kept c m
-  perform_kept r (UseList mask) f = use_kept c m low mask
-  perform_kept r (Read k op) f = kept c m
-  perform_kept r (Change k op) f = member-kept c m low k f.0.low _
+  perform_kept r (Err a) f = kept c m
+  perform_kept r (Ok QueryList) f = kept c m
+  perform_kept r (Ok (UseList mask)) f = use_kept c m low mask
+  perform_kept r (Ok (Read k op)) f = kept c m
+  perform_kept r (Ok (Change k op)) f = member-kept c m low k f.0.low _
 
   respond-kept : (r : List ℕ) (room : ℕ) → SameConfiguration c (respond c r room).0 m
   respond-kept r room = card-cases c r room (λ d. SameConfiguration c d m) (kept c m) (λ s. perform_kept r _ (asked_of c r))

@@ -1,4 +1,6 @@
 -- Commands and card stores leave every holding place as it was. Assumes nothing.
+use Rattle.std.specs.Prelude.{Result, Ok, Err}
+use Rattle.protocol.specs.declared.Answer.{Answer}
 use mathlib.Core.Path.{◌≡◌, refl, ap, ◌∙◌}
 use mathlib.Core.Logic.{◌≢◌}
 use mathlib.Core.Bool.{true}
@@ -25,7 +27,7 @@ use Rattle.card.proofs.SoundLaws.{Sound, SoundIn, sound-of, sound-has, sound-mem
 use Rattle.events.specs.Events.{store_in, store}
 use Rattle.events.proofs.Cases.{if-done-cases, on-member-cases}
 use Rattle.frame.specs.declared.Ask.{Ask}
-use Rattle.frame.specs.declared.Ask.TheVariants.{Refused, QueryList, UseList, Read, Change}
+use Rattle.frame.specs.declared.Ask.TheVariants.{QueryList, UseList, Read, Change}
 use Rattle.admin.specs.Command.{perform}
 use Rattle.admin.proofs.Respond.{FactsIn, asked_of, card-cases}
 use Rattle.admin.proofs.Marks.{named_here, named-unmarked}
@@ -74,13 +76,13 @@ module _ (c : List ℕ) (m : ℕ) (h : is_member c m ≡ true) where
     member-kept : SameHolding c (with_member c k y) m
     member-kept = by_cases (eqb m k) (λ t. own-kept (eqb-true m k t)) (λ t. other-kept (eqb-false m k t))
 
-  perform_kept : Sound c → (r : List ℕ) (a : Ask) → FactsIn c r a → SameHolding c (perform c r a).card m
+  perform_kept : Sound c → (r : List ℕ) (a : Result Ask Answer) → FactsIn c r a → SameHolding c (perform c r a).card m
   unfolding perform
-  perform_kept s r (Refused a) f = kept
-  perform_kept s r QueryList f = kept
-  perform_kept s r (UseList mask) f = use_kept mask
-  perform_kept s r (Read k op) f = kept
-  perform_kept s r (Change k op) f =
+  perform_kept s r (Err a) f = kept
+  perform_kept s r (Ok QueryList) f = kept
+  perform_kept s r (Ok (UseList mask)) f = use_kept mask
+  perform_kept s r (Ok (Read k op)) f = kept
+  perform_kept s r (Ok (Change k op)) f =
       let i = named_here c r k f.0 in
       let x = sound-member-in c s k i in
       member-kept s k i _ (change-sound _ _ _ op (member_in c k) _ f.1 (named-unmarked c r k f.0) x)

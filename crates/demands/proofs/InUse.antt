@@ -1,4 +1,6 @@
 -- REQUEST 2: empty list use leaves nothing in use, and then no command is carried out until a reset of the card. Assumes nothing.
+use Rattle.std.specs.Prelude.{Result, Ok, Err}
+use Rattle.protocol.specs.declared.Answer.{Answer}
 use mathlib.Core.Path.{◌≡◌, refl, sym, ◌∙◌}
 use mathlib.Core.Logic.{◌≢◌}
 use mathlib.Core.Bool.{true}
@@ -13,7 +15,7 @@ use Rattle.protocol.specs.declared.Answer.TheVariants.{Done, BadLength, BadGroup
 use Rattle.protocol.specs.Opcodes.{opcode_rows, opcode_row, supported, bit, names_member, supported_only}
 use Rattle.protocol.proofs.Masks.{bit-out}
 use Rattle.frame.specs.declared.Ask.{Ask}
-use Rattle.frame.specs.declared.Ask.TheVariants.{Refused, UseList}
+use Rattle.frame.specs.declared.Ask.TheVariants.{UseList}
 use Rattle.frame.specs.Frame.{opcode_of}
 use Rattle.frame.specs.Fields.{use_in, fields_of}
 use Rattle.frame.specs.Ask.{usable, reaches, attended, framed_of, ask_of}
@@ -37,7 +39,7 @@ use Rattle.demands.proofs.Integrity.{integrity}
 -- ---- every command is refused ----
 
 -- with nothing in use no request comes past step 4
-none-asked : (c r : List ℕ) → in_use_of c ≡ 0 → (P : Ask → Type 0) → P (Refused BadLength) → P (Refused BadGroup) → P (Refused BadOpcode) → P (ask_in c r)
+none-asked : (c r : List ℕ) → in_use_of c ≡ 0 → (P : Result Ask Answer → Type 0) → P (Err BadLength) → P (Err BadGroup) → P (Err BadOpcode) → P (ask_in c r)
 unfolding ask_in ask_of framed_of usable
 none-asked c r e P f g k =
     unless-cases P _ _ _ (λ t. f) λ t.
@@ -78,7 +80,7 @@ lasting c (message x room) e n =
 
 -- ---- empty list use ----
 
-asked-empty : (c : List ℕ) (m : ℕ) → bit (in_use_of c) 0x01 ≡ true → ask_in c (request 0x01 1 m []) ≡ UseList 0
+asked-empty : (c : List ℕ) (m : ℕ) → bit (in_use_of c) 0x01 ≡ true → ask_in c (request 0x01 1 m []) ≡ Ok (UseList 0)
 unfolding ask_in ask_of framed_of usable reaches attended fields_of use_in supported_only supported names_member opcode_row opcode_rows le when◌then◌else◌
     unless◌answer◌then◌ ◌and◌ ◌or◌ within
 asked-empty c m b =

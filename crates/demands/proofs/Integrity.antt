@@ -1,5 +1,6 @@
 -- What a call leaves alone: the bytes outside a member's record, outside the list in use, and a member's mode and objects.
 -- Assumes nothing.
+use Rattle.std.specs.Prelude.{Result, Ok, Err}
 use mathlib.Core.Path.{◌≡◌, refl, ◌∙◌}
 use mathlib.Core.List.{List}
 use Prim.Native.Nat.{ℕ, ◌+◌, ◌≤◌, ◌<◌}
@@ -29,7 +30,7 @@ use Rattle.events.proofs.Cases.{on-member-cases}
 use Rattle.card.proofs.SoundLaws.{Sound, sound-of, sound-has, sound-member-in}
 use Rattle.events.specs.Events.{with_handed_back, hand_back, wipe}
 use Rattle.frame.specs.declared.Ask.{Ask}
-use Rattle.frame.specs.declared.Ask.TheVariants.{Refused, Change}
+use Rattle.frame.specs.declared.Ask.TheVariants.{Change}
 use Rattle.frame.specs.Frame.{opcode_of, target_of, data_of, given_list}
 use Rattle.frame.specs.Fields.{set_in, use_in, fields_of}
 use Rattle.frame.specs.Ask.{framed_of, ask_of}
@@ -86,7 +87,7 @@ wipe-outside c m g =
 -- ---- a command, by its opcode ----
 
 -- what holds of a refusal and of what the fields at the opcode ask, holds of what the request asks
-ask-at : (c r : List ℕ) (op : ℕ) → opcode_of r ≡ op → (P : Ask → Type 0) → ((a : Answer) → P (Refused a))
+ask-at : (c r : List ℕ) (op : ℕ) → opcode_of r ≡ op → (P : Result Ask Answer → Type 0) → ((a : Answer) → P (Err a))
     → P (fields_of ((setup_of c).gets + (setup_of c).sets) (target_of r) op (data_of r)) → P (ask_in c r)
 unfolding ask_in ask_of framed_of
 ask-at c r op e P f g =
@@ -101,7 +102,7 @@ ask-at c r op e P f g =
 use-outside : (c r : List ℕ) (room : ℕ) → opcode_of r ≡ 0x01 → SameOutside in_use_at 8 (respond c r room).0 c
 unfolding perform with_in_use fields_of use_in when◌then◌else◌ bytes
 use-outside c r room e =
-    let P : Ask → Type 0 = λ a. SameOutside in_use_at 8 (perform c r a).card c in
+    let P : Result Ask Answer → Type 0 = λ a. SameOutside in_use_at 8 (perform c r a).card c in
     card-cases c r room (λ d. SameOutside in_use_at 8 d c) (same _ _ c)
     (λ s. ask-at c r 0x01 e P (λ a. same _ _ c)
     (unless-cases P _ _ _ (λ t. same _ _ c) (λ t. put-outside in_use_at 8 _ c (omega arith))))
@@ -132,7 +133,7 @@ module _ (c : List ℕ) (s : Sound c) (r : List ℕ) where
   StaysAs d = Kept (member_in c m) (member_in d m)
 
   put-kept : (id : ℕ) → NamedIn c r m → id < (setup_of c).gets + (setup_of c).sets
-      → StaysAs (perform c r (Change m (SetParts id))).card
+      → StaysAs (perform c r (Ok (Change m (SetParts id)))).card
   unfolding perform
   put-kept id n b =
       let h = named_here c r m n in
@@ -143,7 +144,7 @@ module _ (c : List ℕ) (s : Sound c) (r : List ℕ) where
   asked-kept : opcode_of r ≡ 0x10 → FactsIn c r (ask_in c r) → StaysAs (perform c r (ask_in c r)).card
   unfolding fields_of set_in perform when◌then◌else◌ Kept
   asked-kept e =
-      let P : Ask → Type 0 = λ a. FactsIn c r a → StaysAs (perform c r a).card in
+      let P : Result Ask Answer → Type 0 = λ a. FactsIn c r a → StaysAs (perform c r a).card in
       ask-at c r 0x10 e P (λ a f. (refl, refl))
       (unless-cases P _ _ _ (λ t f. (refl, refl)) (λ t f. put-kept _ f.0 f.1))
 

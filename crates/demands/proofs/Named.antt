@@ -1,6 +1,8 @@
 -- What a call that names m can leave: the card, or the card with other bytes in m's record, the same mark and the same queue
 -- count. On any card, sound or not.
 -- Integrity, isolation and commutation start from here. Assumes nothing.
+use Rattle.std.specs.Prelude.{Result, Ok, Err}
+use Rattle.protocol.specs.declared.Answer.{Answer}
 use mathlib.Core.Path.{◌≡◌, refl, sym, ◌∙◌}
 use mathlib.Core.Bool.{Bool, true, false}
 use mathlib.Core.List.{List}
@@ -26,7 +28,7 @@ use Rattle.card.proofs.SoundLaws.{Sound, sound-of, sound-has, member-small}
 use Rattle.events.specs.Events.{store_in, store}
 use Rattle.events.proofs.Cases.{if-done-cases, on-member-cases}
 use Rattle.frame.specs.declared.Ask.{Ask}
-use Rattle.frame.specs.declared.Ask.TheVariants.{Refused, QueryList, UseList, Read, Change}
+use Rattle.frame.specs.declared.Ask.TheVariants.{QueryList, UseList, Read, Change}
 use Rattle.frame.specs.Frame.{opcode_of, group_of}
 use Rattle.host.specs.declared.Command.TheVariants.{Set}
 use Rattle.host.specs.Request.{sent_of, request, set_parts}
@@ -117,13 +119,13 @@ module _ (m : ℕ) (r : List ℕ) (room : ℕ) where
 -- ---- a command ----
 
 module _ (m : ℕ) (c r : List ℕ) (room : ℕ) (e : names m (command r room) ≡ true) where
-  perform-leaves : Sound c → (a : Ask) → FactsIn c r a → Leaves m c (perform c r a).card
+  perform-leaves : Sound c → (a : Result Ask Answer) → FactsIn c r a → Leaves m c (perform c r a).card
   unfolding perform
-  perform-leaves s (Refused a) f = unchanged
-  perform-leaves s QueryList f = unchanged
-  perform-leaves s (UseList mask) f = never (sym (names-none m r room f.0) ∙ e)
-  perform-leaves s (Read k op) f = unchanged
-  perform-leaves s (Change k op) f =
+  perform-leaves s (Err a) f = unchanged
+  perform-leaves s (Ok QueryList) f = unchanged
+  perform-leaves s (Ok (UseList mask)) f = never (sym (names-none m r room f.0) ∙ e)
+  perform-leaves s (Ok (Read k op)) f = unchanged
+  perform-leaves s (Ok (Change k op)) f =
       let q = eqb-true k m (sym (names-is m r room _ _ k f.0) ∙ e) in
       let h = named_here c r k f.0 in
       rw (← q) (leaves-member k c c unchanged h (sound-has c s k h) _

@@ -1,4 +1,6 @@
 -- REQUEST 9: a packed setup makes the card that setup makes, and no call changes a queue count. Assumes nothing.
+use Rattle.std.specs.Prelude.{Result, Ok, Err}
+use Rattle.protocol.specs.declared.Answer.{Answer}
 use mathlib.Core.Path.{◌≡◌, refl, ap, ◌∙◌}
 use mathlib.Core.Bool.{true}
 use mathlib.Core.List.{List}
@@ -28,7 +30,7 @@ use Rattle.protocol.specs.Answers.{EventAnswer}
 use Rattle.events.specs.Events.{set_up_of, set_up_from, with_handed_back, hand_back as hand_back_of, wipe as wipe_of, reset_card}
 use Rattle.events.proofs.Cases.{on-member-cases}
 use Rattle.frame.specs.declared.Ask.{Ask}
-use Rattle.frame.specs.declared.Ask.TheVariants.{Refused, QueryList, UseList, Read, Change}
+use Rattle.frame.specs.declared.Ask.TheVariants.{QueryList, UseList, Read, Change}
 use Rattle.admin.specs.Command.{perform, respond}
 use Rattle.admin.proofs.Respond.{FactsIn, asked_of, card-cases}
 use Rattle.admin.proofs.Marks.{named_here}
@@ -84,13 +86,13 @@ module _ (k : ℕ) (l : 1 ≤ k) where
       count-behind c m configuration_at (configuration_size + generation_size) _ (omega arith) low k l (omega arith)
 
   -- a command
-  perform_kept : (c r : List ℕ) → Sound c → (a : Ask) → FactsIn c r a → Same k c (perform c r a).card
+  perform_kept : (c r : List ℕ) → Sound c → (a : Result Ask Answer) → FactsIn c r a → Same k c (perform c r a).card
   unfolding perform
-  perform_kept c r s (Refused a) f = refl
-  perform_kept c r s QueryList f = refl
-  perform_kept c r s (UseList mask) f = count-with-use c mask k
-  perform_kept c r s (Read m op) f = refl
-  perform_kept c r s (Change m op) f =
+  perform_kept c r s (Err a) f = refl
+  perform_kept c r s (Ok QueryList) f = refl
+  perform_kept c r s (Ok (UseList mask)) f = count-with-use c mask k
+  perform_kept c r s (Ok (Read m op)) f = refl
+  perform_kept c r s (Ok (Change m op)) f =
       member-kept c m (sound-has c s m (named_here c r m f.0)) _ (change-queues (setup_of c).gets (setup_of c).sets _ op (member_in c m))
 
   respond-kept : (c r : List ℕ) (room : ℕ) → Same k c (respond c r room).0

@@ -1,4 +1,5 @@
 -- What a built request asks has a result of the form that the host reads by. Assumes nothing.
+use Rattle.std.specs.Prelude.{Result, Ok, Err}
 use mathlib.Core.Path.{◌≡◌, refl}
 use mathlib.Core.Bool.{true, false}
 use mathlib.Core.List.{List, [], ◌++◌}
@@ -35,7 +36,7 @@ use Rattle.reads.specs.Reads.{refuse_read, succeed_read, query_of, through_get, 
 use Rattle.card.specs.Layout.{is_member, member_in}
 use Rattle.card.proofs.SoundLaws.{Sound, sound-member-in}
 use Rattle.frame.specs.declared.Ask.{Ask}
-use Rattle.frame.specs.declared.Ask.TheVariants.{Refused, QueryList, UseList, Read, Change}
+use Rattle.frame.specs.declared.Ask.TheVariants.{QueryList, UseList, Read, Change}
 use Rattle.frame.specs.Frame.{type_at}
 use Rattle.frame.specs.Fields.{metadata_is, create_in, modify_in, query_in, destroy_in, metadata_in, get_in, set_in, mode_in, use_in, fields_of}
 use Rattle.frame.specs.Ask.{framed_of, ask_of}
@@ -66,12 +67,12 @@ read_form (GetSelected id) = WholeParts
 read_form (GetAll id) = WholeParts
 
 -- what is asked has a result of this form, or is refused
-abbrev pub Asks : ResultForm → Ask → Type 0
-Asks form (Refused a) = is_done a ≡ false
-Asks form QueryList = form ≡ Exactly 8
-Asks form (UseList mask) = form ≡ Exactly 0
-Asks form (Read m op) = form ≡ read_form op
-Asks form (Change m op) = form ≡ Exactly 0
+abbrev pub Asks : ResultForm → Result Ask Answer → Type 0
+Asks form (Err a) = is_done a ≡ false
+Asks form (Ok QueryList) = form ≡ Exactly 8
+Asks form (Ok (UseList mask)) = form ≡ Exactly 0
+Asks form (Ok (Read m op)) = form ≡ read_form op
+Asks form (Ok (Change m op)) = form ≡ Exactly 0
 
 -- a type that step 7 takes: 2 is the list
 metadata-form : (t : ℕ) → leb t 2 ≡ true → (when eqb t 2 then Counted else Exactly 8) ≡ metadata_form (metadata_is t)
@@ -177,14 +178,14 @@ module _ (list : List ℕ) (m : Member) (few : m.queues < 5) (long : length m.va
       (λ e. success-fits WholeParts body.Selected (written-whole Asked m.queues list m.values long)))
   reading-fits (GetAll id) = through-get WholeParts id _ (success-fits WholeParts body.All (written-whole All m.queues [] m.values long))
 
-pub effect-fits : (c r : List ℕ) → Sound c → (form : ResultForm) (a : Ask) → FactsIn c r a
+pub effect-fits : (c r : List ℕ) → Sound c → (form : ResultForm) (a : Result Ask Answer) → FactsIn c r a
     → Asks form a → is_done (perform c r a).outcome ≡ true → result_fits form (perform c r a).result ≡ true
 unfolding perform result_fits bytes
-effect-fits c r x form (Refused a) f h d = cc
-effect-fits c r x form QueryList f h d = rw h
-effect-fits c r x form (UseList mask) f h d = rw h
-effect-fits c r x form (Read m op) f h d =
+effect-fits c r x form (Err a) f h d = cc
+effect-fits c r x form (Ok QueryList) f h d = rw h
+effect-fits c r x form (Ok (UseList mask)) f h d = rw h
+effect-fits c r x form (Ok (Read m op)) f h d =
     let here : is_member c m ≡ true = inside _ _ _ f.0.low f.0.high in
     let y = sound-member-in c x m here in
     rw h ((reading-fits _ (member_in c m) (omega (arith, within-high 1 4 _ y.count)) y.shaped.long op).fits d)
-effect-fits c r x form (Change m op) f h d = rw h
+effect-fits c r x form (Ok (Change m op)) f h d = rw h

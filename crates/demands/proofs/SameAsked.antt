@@ -1,5 +1,6 @@
 -- Two requests that ask the same of a card are answered alike: the list of a request counts with parts get, selected, and with
 -- parts set alone. Assumes nothing.
+use Rattle.std.specs.Prelude.{Result, Ok, Err}
 use mathlib.Core.Path.{◌≡◌, refl, ap}
 use mathlib.Core.Bool.{Bool}
 use mathlib.Core.List.{List}
@@ -25,7 +26,7 @@ use Rattle.member.specs.Objects.{lookup_of}
 use Rattle.card.specs.Layout.{member_in}
 use Rattle.reads.specs.Reads.{refuse_read, succeed_read, query_of, metadata_of, through_get}
 use Rattle.frame.specs.declared.Ask.{Ask}
-use Rattle.frame.specs.declared.Ask.TheVariants.{Refused, Read, Change}
+use Rattle.frame.specs.declared.Ask.TheVariants.{Read, Change}
 use Rattle.frame.specs.Frame.{opcode_of, target_of, data_of, type_at, asked_list, given_list}
 use Rattle.frame.specs.Fields.{metadata_is, create_in, modify_in, query_in, destroy_in, metadata_in, get_in, set_in, mode_in, use_in, fields_of}
 use Rattle.frame.specs.Ask.{framed_of, ask_of}
@@ -62,44 +63,44 @@ module _ (q : ℕ) (l l' v : List ℕ) where
 
 -- two requests, and what is asked of a card: it comes to the same with both
 module _ (c r s : List ℕ) where
-  unfoldable pub Same : Ask → Type 0
+  unfoldable pub Same : Result Ask Answer → Type 0
   Same a = perform c s a ≡ perform c r a
 
-  guarded : (t : Bool) (a : Answer) (x : Ask) → Same x → Same (unless t answer Refused a then x)
+  guarded : (t : Bool) (a : Answer) (x : Result Ask Answer) → Same x → Same (unless t answer Err a then x)
   unfolding Same perform
-  guarded t a x f = unless-cases Same t (Refused a) x (λ e. refl) (λ e. f)
+  guarded t a x f = unless-cases Same t (Err a) x (λ e. refl) (λ e. f)
 
-  branch : (op k : ℕ) (x y : Ask) → (op ≡ k → Same x) → Same y → Same (when eqb op k then x else y)
+  branch : (op k : ℕ) (x y : Result Ask Answer) → (op ≡ k → Same x) → Same y → Same (when eqb op k then x else y)
   branch op k x y f g = if-cases Same (eqb op k) x y (λ e. f (eqb-true op k e)) (λ e. g)
 
   module _ (m id : ℕ) where
-    query-read : Same (Read m (QueryObject id))
+    query-read : Same (Ok (Read m (QueryObject id)))
     unfolding Same perform query_of
     query-read =
         ap (effect _ c) (query-same (member_in c m).queues (asked_list r) (asked_list s) (member_in c m).values (lookup_of (member_in c m) id))
 
-    metadata-read : (what : Metadata) → Same (Read m (GetMetadata id what))
+    metadata-read : (what : Metadata) → Same (Ok (Read m (GetMetadata id what)))
     unfolding Same perform through_get
     metadata-read what =
         ap (effect _ c) (through_same (member_in c m).queues (asked_list r) (asked_list s) (member_in c m).values (lookup_of (member_in c m) id)
         (metadata_of (member_in c m).queues what) (metadata-same (member_in c m).queues (asked_list r) (asked_list s) (member_in c m).values what))
 
-    all_read : Same (Read m (GetAll id))
+    all_read : Same (Ok (Read m (GetAll id)))
     unfolding Same perform through_get
     all_read =
         ap (effect _ c) (through_same (member_in c m).queues (asked_list r) (asked_list s) (member_in c m).values (lookup_of (member_in c m) id)
         body.All (all_same (member_in c m).queues (asked_list r) (asked_list s) (member_in c m).values))
 
-    selected-read : asked_list s ≡ asked_list r → Same (Read m (GetSelected id))
+    selected-read : asked_list s ≡ asked_list r → Same (Ok (Read m (GetSelected id)))
     unfolding Same perform
     selected-read e = rw e
 
-    parts-set : given_list s ≡ given_list r → Same (Change m (SetParts id))
+    parts-set : given_list s ≡ given_list r → Same (Ok (Change m (SetParts id)))
     unfolding Same perform
     parts-set e = rw e
 
   -- m is the member that is named
-  module _ (m op : ℕ) (asked : op ≡ 0x0f → (id : ℕ) → Same (Read m (GetSelected id))) (given : op ≡ 0x10 → (id : ℕ) → Same (Change m (SetParts id))) where
+  module _ (m op : ℕ) (asked : op ≡ 0x0f → (id : ℕ) → Same (Ok (Read m (GetSelected id)))) (given : op ≡ 0x10 → (id : ℕ) → Same (Ok (Change m (SetParts id)))) where
     get-same : (ids : ℕ) (d : List ℕ) → op ≡ 0x0f → Same (get_in ids m d)
     unfolding get_in
     get-same ids d o =

@@ -1,4 +1,5 @@
 -- A member of a sound card: what a full capture of it gives, and what setting a list leaves. Assumes nothing.
+use Rattle.std.specs.Prelude.{Ok}
 use mathlib.Core.Path.{◌≡◌, refl, ◌∙◌}
 use mathlib.Core.Bool.{true, false}
 use mathlib.Core.List.{List, [], ◌++◌}
@@ -88,7 +89,7 @@ module _ (c : List ℕ) (m : ℕ) (x : Reached c m) where
   unmarked i k e = marked-is c m x.here ∙ live-unmarked _ _ _ (member_in c m) i k member e
 
   -- the request of a full capture is taken
-  get-taken : (i : ℕ) → lookup_of (member_in c m) i ≡ Some Get → bit (in_use_of c) 0x0f ≡ true → ask_in c (get_all m i) ≡ Read m (GetAll i)
+  get-taken : (i : ℕ) → lookup_of (member_in c m) i ≡ Some Get → bit (in_use_of c) 0x0f ≡ true → ask_in c (get_all m i) ≡ Ok (Read m (GetAll i))
   unfolding inside attended ◌and◌ ◌or◌ laid
   get-taken i e u =
       (taken c (host.Get m i 1) [] (record {

@@ -1,4 +1,6 @@
 -- Every call on a sound card leaves a sound card. Assumes nothing.
+use Rattle.std.specs.Prelude.{Result, Ok, Err}
+use Rattle.protocol.specs.declared.Answer.{Answer}
 use mathlib.Core.Path.{◌≡◌}
 use mathlib.Core.Bool.{true}
 use mathlib.Core.List.{List}
@@ -16,7 +18,7 @@ use Rattle.card.proofs.HeaderLaws.{features-long}
 use Rattle.card.proofs.SoundLaws.{Sound, sound-of, is-sound, sound-long, sound-member-in, sound-with-member, sound-with-fresh, sound-with-configuration, sound-with-holding, sound-with-use, sound-fresh-card}
 use Rattle.card.proofs.CountLaws.{counts-numbers}
 use Rattle.frame.specs.declared.Ask.{Ask}
-use Rattle.frame.specs.declared.Ask.TheVariants.{Refused, QueryList, UseList, Read, Change}
+use Rattle.frame.specs.declared.Ask.TheVariants.{QueryList, UseList, Read, Change}
 use Rattle.admin.specs.Command.{perform, respond}
 use Rattle.demands.specs.Calls.{Call, command, hand_back, wipe, card_reset, card_store, restore_begin, restore_feed, restore_finish, restore_drop, message, step}
 use Rattle.demands.specs.Claims.{StaysSound}
@@ -26,13 +28,13 @@ use Rattle.message.proofs.Cases.{card-cases as message-cases}
 use Rattle.staging.proofs.Kept.{begin-sound, feed-sound, finish-sound, drop-sound}
 
 module _ (c : List ℕ) (s : Sound c) where
-  perform-sound : (r : List ℕ) (a : Ask) → FactsIn c r a → Sound (perform c r a).card
+  perform-sound : (r : List ℕ) (a : Result Ask Answer) → FactsIn c r a → Sound (perform c r a).card
   unfolding perform
-  perform-sound r (Refused a) f = s
-  perform-sound r QueryList f = s
-  perform-sound r (UseList mask) f = sound-with-use c mask s f.1
-  perform-sound r (Read m op) f = s
-  perform-sound r (Change m op) f =
+  perform-sound r (Err a) f = s
+  perform-sound r (Ok QueryList) f = s
+  perform-sound r (Ok (UseList mask)) f = sound-with-use c mask s f.1
+  perform-sound r (Ok (Read m op)) f = s
+  perform-sound r (Ok (Change m op)) f =
       let x = sound-member-in c s m (named_here c r m f.0) in
       sound-with-member c m _ s f.0.low (change-sound _ _ _ op (member_in c m) _ f.1 (named-unmarked c r m f.0) x)
 

@@ -1,4 +1,5 @@
 -- A built request is taken by the card as the command that it is. Assumes nothing.
+use Rattle.std.specs.Prelude.{Ok}
 use mathlib.Core.Path.{◌≡◌, refl, ◌∙◌}
 use mathlib.Core.Bool.{true, not}
 use mathlib.Core.List.{List, [], ◌++◌}
@@ -76,7 +77,7 @@ unfolding laid
 mask-read mask list h e = rw e (le_bytes 8 mask (mask_fits mask h))
 
 fields_read : (ids : ℕ) (x : Command) (list : List ℕ) → ids ≤ 16 → inside ids x list ≡ true
-    → fields_of ids (sent_of x).member (sent_of x).opcode (data_for x list) ≡ ask_for x
+    → fields_of ids (sent_of x).member (sent_of x).opcode (data_for x list) ≡ Ok (ask_for x)
 unfolding inside fields_of when◌then◌else◌ unless◌answer◌then◌ flags_valid number le laid
 fields_read ids host.ListQuery list n h = refl
 fields_read ids (host.ListUse mask) list n h =

@@ -1,6 +1,6 @@
 -- REQUEST 1, SPEC 13.1: the host's half. What is claimed of a built request and of the reply to it, over the definitions that the
 -- contracts of both halves go by: request_of and read_reply at the host, ask_in and respond at the card. Assumes nothing.
-use Rattle.std.specs.Prelude.{Option, ◌≡◌, Bool, true, List, [], ℕ, ◌+◌, ◌%◌, ◌≤◌, ◌<◌, leb, ltb, eqb, length}
+use Rattle.std.specs.Prelude.{Option, ◌≡◌, Bool, true, List, [], ℕ, ◌+◌, ◌%◌, ◌≤◌, ◌<◌, leb, ltb, eqb, length, Ok}
 use Rattle.theory.specs.Logic.{when◌then◌else◌, ◌and◌, ◌or◌}
 use Rattle.protocol.specs.declared.Answer.{Answer}
 use Rattle.protocol.specs.declared.ReadOp.TheVariants.{QueryObject, GetMetadata, GetSelected, GetAll}
@@ -64,7 +64,7 @@ pub record Takeable (c : List ℕ) (x : Command) (list : List ℕ) : Type 0 wher
   pub short : length (request_of x list) ≤ longest
 
 pub record TakenAs (c : List ℕ) (x : Command) (list : List ℕ) : Type 0 where
-  pub asked : ask_in c (request_of x list) ≡ ask_for x
+  pub asked : ask_in c (request_of x list) ≡ Ok (ask_for x)
   -- the list that it then works on is the list given
   pub headers : (m id which : ℕ) → x ≡ host.Get m id which → asked_list (request_of x list) ≡ list
   pub parts : (m id : ℕ) → x ≡ host.Set m id → given_list (request_of x list) ≡ list

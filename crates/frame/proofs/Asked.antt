@@ -1,5 +1,6 @@
 -- What is known of a request by what it asks: whom it names, and that its fields are in range. Isolation and soundness
 -- start from here. Assumes nothing.
+use Rattle.std.specs.Prelude.{Result, Ok, Err}
 use mathlib.Core.Path.{◌≡◌, refl}
 use mathlib.Core.Bool.{Bool, true, false, not}
 use mathlib.Core.List.{List}
@@ -16,7 +17,7 @@ use Rattle.protocol.specs.Opcodes.{supported, supported_only, names_member}
 use Rattle.protocol.proofs.Operations.{IdBelow}
 use Rattle.frame.proofs.Steps.{names-one}
 use Rattle.frame.specs.declared.Ask.{Ask}
-use Rattle.frame.specs.declared.Ask.TheVariants.{Refused, QueryList, UseList, Read, Change}
+use Rattle.frame.specs.declared.Ask.TheVariants.{QueryList, UseList, Read, Change}
 use Rattle.frame.specs.Frame.{data_at, longest, opcode_of, group_of, target_of, data_of}
 use Rattle.frame.specs.Fields.{id_of, object_valid, kind_valid, create_in, modify_in, query_in, destroy_in, metadata_in, get_in, set_in, mode_in, use_in, fields_of}
 use Rattle.frame.specs.Ask.{usable, reaches, attended, framed_of, ask_of}
@@ -40,12 +41,12 @@ pub record Named (members : ℕ) (marked : Bool) (r : List ℕ) (m : ℕ) : Type
   pub unmarked : marked ≡ false
 
 -- what each thing that is asked says of the request
-abbrev pub Facts : ℕ → ℕ → Bool → List ℕ → Ask → Type 0
-Facts members ids marked r (Refused a) = Unit {0}
-Facts members ids marked r QueryList = names_member (opcode_of r) ≡ false
-Facts members ids marked r (UseList mask) = (names_member (opcode_of r) ≡ false) × (supported_only mask ≡ true)
-Facts members ids marked r (Read m op) = Named members marked r m × ReadBelow ids op
-Facts members ids marked r (Change m op) = Named members marked r m × IdBelow ids op
+abbrev pub Facts : ℕ → ℕ → Bool → List ℕ → Result Ask Answer → Type 0
+Facts members ids marked r (Err a) = Unit {0}
+Facts members ids marked r (Ok QueryList) = names_member (opcode_of r) ≡ false
+Facts members ids marked r (Ok (UseList mask)) = (names_member (opcode_of r) ≡ false) × (supported_only mask ≡ true)
+Facts members ids marked r (Ok (Read m op)) = Named members marked r m × ReadBelow ids op
+Facts members ids marked r (Ok (Change m op)) = Named members marked r m × IdBelow ids op
 
 -- the id in an object header that passes
 id_below : (ids : ℕ) (d : List ℕ) → object_valid ids d ≡ true → id_of d < ids
@@ -62,11 +63,11 @@ unfolding names_member
 names-none op k e h = below 0x0a 0x11 op (omega tests)
 
 module _ (members ids : ℕ) (marked : Bool) (r : List ℕ) where
-  guarded : (t : Bool) (a : Answer) (x : Ask) → (t ≡ true → Facts members ids marked r x)
-      → Facts members ids marked r (unless t answer Refused a then x)
-  guarded t a x f = unless-cases (Facts members ids marked r) t (Refused a) x (λ e. tt) f
+  guarded : (t : Bool) (a : Answer) (x : Result Ask Answer) → (t ≡ true → Facts members ids marked r x)
+      → Facts members ids marked r (unless t answer Err a then x)
+  guarded t a x f = unless-cases (Facts members ids marked r) t (Err a) x (λ e. tt) f
 
-  branch : (t : Bool) (x y : Ask) → Facts members ids marked r x → Facts members ids marked r y → Facts members ids marked r (when t then x else y)
+  branch : (t : Bool) (x y : Result Ask Answer) → Facts members ids marked r x → Facts members ids marked r y → Facts members ids marked r (when t then x else y)
   branch t x y f g = if-cases (Facts members ids marked r) t x y (λ e. f) (λ e. g)
 
   -- step 7
@@ -117,5 +118,5 @@ module _ (members ids : ℕ) (marked : Bool) (r : List ℕ) where
       guarded _ _ _ (λ l. guarded _ _ _ (λ g. guarded _ _ _ (λ u. guarded _ _ _ (λ t. guarded _ _ _
       (λ a. passed in_use (search) (search) (search) (search) (search))))))
 
-  pub asked : (in_use : ℕ) (a : Ask) → ask_of members ids in_use marked r ≡ a → Facts members ids marked r a
+  pub asked : (in_use : ℕ) (a : Result Ask Answer) → ask_of members ids in_use marked r ≡ a → Facts members ids marked r a
   asked in_use a e = rw e at (facts in_use)

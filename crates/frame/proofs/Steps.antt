@@ -1,4 +1,6 @@
 -- What the returns of the code need, beside the laws of the ladder. Assumes nothing.
+use Rattle.std.specs.Prelude.{Result, Ok, Err}
+use Rattle.protocol.specs.declared.Answer.{Answer}
 use mathlib.Core.Path.{◌≡◌, refl, sym, ◌∙◌}
 use mathlib.Core.Bool.{Bool, true, false, not}
 use mathlib.Core.List.{List}
@@ -20,7 +22,7 @@ use Rattle.protocol.specs.declared.Metadata.TheVariants.{HeaderList}
 use Rattle.protocol.specs.Opcodes.{opcode_rows, supported, supported_only, fixed_size, names_member}
 use Rattle.protocol.proofs.Rows.{supported-is, data-long}
 use Rattle.frame.specs.declared.Ask.{Ask}
-use Rattle.frame.specs.declared.Ask.TheVariants.{Refused, UseList}
+use Rattle.frame.specs.declared.Ask.TheVariants.{UseList}
 use Rattle.frame.specs.Frame.{data_at, longest, opcode_of, group_of, target_of, data_of}
 use Rattle.frame.specs.Fields.{kind_in, metadata_is, mode_in, use_in, fields_of}
 use Rattle.frame.specs.Ask.{usable, framed_of, ask_of}
@@ -53,15 +55,15 @@ module _ (d : List ℕ) (at i : ℕ) (e : eqb (le (drop at d)) 0 ≡ eqb (le (dr
 
 -- the long mask: a bit after the first word is not supported, and without one the word is the mask
 module _ (d : List ℕ) (t : Bool) (e : t ≡ eqb (le (drop 8 d)) 0) where
-  pub mask-long : not t ≡ true → Refused BadField ≡ use_in d
+  pub mask-long : not t ≡ true → Err BadField ≡ use_in d
   unfolding use_in supported_only
   mask-long h =
       let n : eqb (le (drop 8 d)) 0 ≡ false = said-false _ t e h in
       let over : ltb (le d) (2 ^ 18) ≡ false = omega (tests, le_split 8 d) in
       stop _ _ _ _ (and_right _ _ over) refl
 
-  pub mask-read : (mask : ℕ) (x : Ask) → not t ≡ false → mask ≡ number 0 8 d
-      → x ≡ unless supported_only mask answer Refused BadField then UseList mask → x ≡ use_in d
+  pub mask-read : (mask : ℕ) (x : Result Ask Answer) → not t ≡ false → mask ≡ number 0 8 d
+      → x ≡ unless supported_only mask answer Err BadField then Ok (UseList mask) → x ≡ use_in d
   unfolding use_in
   mask-read mask x h r k =
       let z : eqb (le (drop 8 d)) 0 ≡ true = said-true _ t e h in
@@ -69,7 +71,7 @@ module _ (d : List ℕ) (t : Bool) (e : t ≡ eqb (le (drop 8 d)) 0) where
       rw m k
 
 -- step 7, at an opcode that was found
-pub at-opcode : (ids m op o : ℕ) (d : List ℕ) (x : Ask) → op ≡ o → x ≡ fields_of ids m o d → x ≡ fields_of ids m op d
+pub at-opcode : (ids m op o : ℕ) (d : List ℕ) (x : Result Ask Answer) → op ≡ o → x ≡ fields_of ids m o d → x ≡ fields_of ids m op d
 at-opcode ids m op o d x e h = rw e h
 
 -- and at the last one, which none of the others is
@@ -93,7 +95,7 @@ module _ (op : ℕ) (s : supported op ≡ true) (n0 : op ≡ 0x00 → ⊥) (n1 :
   unfolding opcode_rows
   last-long n f = data-long op 0x11 n 1 f is_last tt
 
-  pub at-last-opcode : (ids m : ℕ) (d : List ℕ) (x : Ask) → x ≡ mode_in m d → x ≡ fields_of ids m op d
+  pub at-last-opcode : (ids m : ℕ) (d : List ℕ) (x : Result Ask Answer) → x ≡ mode_in m d → x ≡ fields_of ids m op d
   unfolding fields_of when◌then◌else◌
   at-last-opcode ids m d x h = rw is_last h
 
@@ -102,7 +104,7 @@ unfolding usable
 usable-supported used op b e h = (both _ _ (sym e ∙ not-false b h)).0
 
 -- the numbers that were read, and the data
-pub framed_is : (members ids used g op m : ℕ) (marked : Bool) (r : List ℕ) (x : Ask) → data_at ≤ length r → length r ≤ longest
+pub framed_is : (members ids used g op m : ℕ) (marked : Bool) (r : List ℕ) (x : Result Ask Answer) → data_at ≤ length r → length r ≤ longest
     → g ≡ group_of r → op ≡ opcode_of r → m ≡ target_of r
     → x ≡ framed_of members ids used marked g op m (take (length r - data_at) (data_of r)) → x ≡ ask_of members ids used marked r
 unfolding ask_of

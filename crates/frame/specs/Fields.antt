@@ -1,9 +1,10 @@
 -- Step 7 of SPEC 6.1, the fields of each command's data: SPEC 4. ids is G + S, m the member that the request names, d the
 -- data, of any length, SPEC 13.2: `number` and `get_or` read each missing byte as zero, and only list use and parts get read
 -- past their fixed fields. Assumes nothing.
-use Rattle.std.specs.Prelude.{Bool, List, ℕ, zero, suc, leb, ltb, eqb, length, get_or}
+use Rattle.std.specs.Prelude.{Bool, List, ℕ, zero, suc, leb, ltb, eqb, length, get_or, Result, Ok, Err}
 use Rattle.theory.specs.Logic.{when◌then◌else◌, unless◌answer◌then◌, ◌and◌}
 use Rattle.wire.specs.Le.{le, number}
+use Rattle.protocol.specs.declared.Answer.{Answer}
 use Rattle.protocol.specs.declared.Answer.TheVariants.{BadField}
 use Rattle.protocol.specs.declared.ObjectKind.{ObjectKind}
 use Rattle.protocol.specs.declared.ObjectKind.TheVariants.{Get, Set}
@@ -15,7 +16,7 @@ use Rattle.protocol.specs.Answers.{mode_of}
 use Rattle.protocol.specs.Opcodes.{supported_only}
 use Rattle.frame.specs.Frame.{id_at, flags_at, kind_at, type_at, headers_at}
 use Rattle.frame.specs.declared.Ask.{Ask}
-use Rattle.frame.specs.declared.Ask.TheVariants.{Refused, QueryList, UseList, Read, Change}
+use Rattle.frame.specs.declared.Ask.TheVariants.{QueryList, UseList, Read, Change}
 
 -- the object header: its type is 0, its id below G + S
 abbrev pub id_of : List ℕ → ℕ
@@ -35,25 +36,32 @@ abbrev pub kind_in : ℕ → ObjectKind
 kind_in zero = Get
 kind_in (suc n) = Set
 
-unfoldable pub create_in : ℕ → ℕ → List ℕ → Ask
+-- the id of a valid object header; and the kind too, of create and modify
+abbrev pub id_in : ℕ → List ℕ → Result ℕ Answer
+id_in ids d = unless object_valid ids d answer Err BadField then Ok (id_of d)
+
+abbrev pub id_and_kind_in : ℕ → List ℕ → Result (ℕ × ObjectKind) Answer
+id_and_kind_in ids d = unless kind_valid ids d answer Err BadField then Ok (id_of d, kind_in (get_or d kind_at 0))
+
+unfoldable pub create_in : ℕ → ℕ → List ℕ → Result Ask Answer
 create_in ids m d =
-    unless kind_valid ids d answer Refused BadField then
-    Change m (Create (id_of d) (kind_in (get_or d kind_at 0)))
+    unless kind_valid ids d answer Err BadField then
+    Ok (Change m (Create (id_of d) (kind_in (get_or d kind_at 0))))
 
-unfoldable pub modify_in : ℕ → ℕ → List ℕ → Ask
+unfoldable pub modify_in : ℕ → ℕ → List ℕ → Result Ask Answer
 modify_in ids m d =
-    unless kind_valid ids d answer Refused BadField then
-    Change m (Modify (id_of d) (kind_in (get_or d kind_at 0)))
+    unless kind_valid ids d answer Err BadField then
+    Ok (Change m (Modify (id_of d) (kind_in (get_or d kind_at 0))))
 
-unfoldable pub query_in : ℕ → ℕ → List ℕ → Ask
+unfoldable pub query_in : ℕ → ℕ → List ℕ → Result Ask Answer
 query_in ids m d =
-    unless object_valid ids d and flags_valid d answer Refused BadField then
-    Read m (QueryObject (id_of d))
+    unless object_valid ids d and flags_valid d answer Err BadField then
+    Ok (Read m (QueryObject (id_of d)))
 
-unfoldable pub destroy_in : ℕ → ℕ → List ℕ → Ask
+unfoldable pub destroy_in : ℕ → ℕ → List ℕ → Result Ask Answer
 destroy_in ids m d =
-    unless object_valid ids d answer Refused BadField then
-    Change m (Destroy (id_of d))
+    unless object_valid ids d answer Err BadField then
+    Ok (Change m (Destroy (id_of d)))
 
 -- the type of metadata: 0 size, 1 count, 2 list
 abbrev pub metadata_is : ℕ → Metadata
@@ -61,41 +69,41 @@ metadata_is zero = Size
 metadata_is (suc zero) = Count
 metadata_is (suc (suc n)) = HeaderList
 
-unfoldable pub metadata_in : ℕ → ℕ → List ℕ → Ask
+unfoldable pub metadata_in : ℕ → ℕ → List ℕ → Result Ask Answer
 metadata_in ids m d =
-    unless object_valid ids d and leb (get_or d type_at 0) 2 answer Refused BadField then
-    Read m (GetMetadata (id_of d) (metadata_is (get_or d type_at 0)))
+    unless object_valid ids d and leb (get_or d type_at 0) 2 answer Err BadField then
+    Ok (Read m (GetMetadata (id_of d) (metadata_is (get_or d type_at 0))))
 
 -- the type of parts get: 0 selected, 1 all; headers with selected only, and any byte after the fixed fields counts as
 -- headers given
-unfoldable pub get_in : ℕ → ℕ → List ℕ → Ask
+unfoldable pub get_in : ℕ → ℕ → List ℕ → Result Ask Answer
 get_in ids m d =
-    unless object_valid ids d answer Refused BadField then
-    when eqb (get_or d type_at 0) 0 then Read m (GetSelected (id_of d)) else
-    unless eqb (get_or d type_at 0) 1 and leb (length d) headers_at answer Refused BadField then
-    Read m (GetAll (id_of d))
+    unless object_valid ids d answer Err BadField then
+    when eqb (get_or d type_at 0) 0 then Ok (Read m (GetSelected (id_of d))) else
+    unless eqb (get_or d type_at 0) 1 and leb (length d) headers_at answer Err BadField then
+    Ok (Read m (GetAll (id_of d)))
 
-unfoldable pub set_in : ℕ → ℕ → List ℕ → Ask
+unfoldable pub set_in : ℕ → ℕ → List ℕ → Result Ask Answer
 set_in ids m d =
-    unless object_valid ids d answer Refused BadField then
-    Change m (SetParts (id_of d))
+    unless object_valid ids d answer Err BadField then
+    Ok (Change m (SetParts (id_of d)))
 
 -- mode set: bit 0 set stops, clear resumes; bits 1 to 7 are 0
-unfoldable pub mode_in : ℕ → List ℕ → Ask
+unfoldable pub mode_in : ℕ → List ℕ → Result Ask Answer
 mode_in m d =
-    unless leb (get_or d 0 0) 1 answer Refused BadField then
-    Change m (SetMode (mode_of (get_or d 0 0)))
+    unless leb (get_or d 0 0) 1 answer Err BadField then
+    Ok (Change m (SetMode (mode_of (get_or d 0 0))))
 
 -- list use: all bytes are one long mask, and it has supported bits only
-unfoldable pub use_in : List ℕ → Ask
+unfoldable pub use_in : List ℕ → Result Ask Answer
 use_in d =
-    unless supported_only (le d) answer Refused BadField then
-    UseList (le d)
+    unless supported_only (le d) answer Err BadField then
+    Ok (UseList (le d))
 
 -- by opcode; the last is 0x11, since no other passes step 4
-unfoldable pub fields_of : ℕ → ℕ → ℕ → List ℕ → Ask
+unfoldable pub fields_of : ℕ → ℕ → ℕ → List ℕ → Result Ask Answer
 fields_of ids m op d =
-    when eqb op 0x00 then QueryList else
+    when eqb op 0x00 then Ok QueryList else
     when eqb op 0x01 then use_in d else
     when eqb op 0x0a then create_in ids m d else
     when eqb op 0x0b then modify_in ids m d else

@@ -6,7 +6,7 @@ ghost use Rattle.theory.specs.Bytes.{put};
 ghost use Rattle.wire.specs.Le.{le};
 ghost use Rattle.protocol.specs.Opcodes.{supported, fixed_size, longest_fixed};
 ghost use Rattle.frame.specs.Frame.{object_size, kind_at, headers_at};
-ghost use Rattle.frame.specs.Fields.{id_of, object_valid, flags_valid, kind_valid, kind_in, metadata_is, create_in, modify_in, query_in, destroy_in, metadata_in, get_in, set_in, mode_in, use_in, fields_of};
+ghost use Rattle.frame.specs.Fields.{id_of, object_valid, flags_valid, kind_in, metadata_is, id_in, id_and_kind_in, create_in, modify_in, query_in, destroy_in, metadata_in, get_in, set_in, mode_in, use_in, fields_of};
 
 use super::{Ask, FLAGS_AT, HEADERS_AT, ID_AT, KIND_AT, TYPE_AT};
 use protocol::{Answer, ChangeOp, Metadata, ObjectKind, ReadOp};
@@ -32,24 +32,22 @@ fn flags_valid(d: &[u8]) -> bool
     wire::read_u64(d, FLAGS_AT) == 0
 }
 
-fn kind_valid(ids: u8, d: &[u8]) -> bool
-    requires { kind_at < length d.now }
-    ensures { result ≡ kind_valid ids d.now }
-{
-    if !object_valid(ids, d) {
-        return false;
-    }
-    if !flags_valid(d) {
-        return false;
-    }
-    d[KIND_AT] <= 1
-}
-
 fn id_of(d: &[u8]) -> usize
     requires { object_size ≤ length d.now }
     ensures { result ≡ id_of d.now }
 {
     wire::read_u32(d, ID_AT) as usize
+}
+
+// The id in an object header that is valid.
+fn id_in(ids: u8, d: &[u8]) -> Result<usize, Answer>
+    requires { object_size ≤ length d.now }
+    ensures { result ≡ id_in ids d.now }
+{
+    if !object_valid(ids, d) {
+        return Err(Answer::BadField);
+    }
+    Ok(id_of(d))
 }
 
 fn kind_in(b: u8) -> ObjectKind
@@ -62,47 +60,54 @@ fn kind_in(b: u8) -> ObjectKind
     }
 }
 
-fn create_in(ids: u8, m: u64, d: &[u8]) -> Ask
+// The id and the kind of create and modify.
+fn id_and_kind_in(ids: u8, d: &[u8]) -> Result<(usize, ObjectKind), Answer>
+    requires { kind_at < length d.now }
+    ensures { result ≡ id_and_kind_in ids d.now }
+{
+    let id = id_in(ids, d)?;
+    if !flags_valid(d) {
+        return Err(Answer::BadField);
+    }
+    if 1 < d[KIND_AT] {
+        return Err(Answer::BadField);
+    }
+    Ok((id, kind_in(d[KIND_AT])))
+}
+
+fn create_in(ids: u8, m: u64, d: &[u8]) -> Result<Ask, Answer>
     requires { kind_at < length d.now }
     ensures { result ≡ create_in ids m d.now }
 {
-    if !kind_valid(ids, d) {
-        return Ask::Refused(Answer::BadField);
-    }
-    Ask::Change(m, ChangeOp::Create(id_of(d), kind_in(d[KIND_AT])))
+    let (id, kind) = id_and_kind_in(ids, d)?;
+    Ok(Ask::Change(m, ChangeOp::Create(id, kind)))
 }
 
-fn modify_in(ids: u8, m: u64, d: &[u8]) -> Ask
+fn modify_in(ids: u8, m: u64, d: &[u8]) -> Result<Ask, Answer>
     requires { kind_at < length d.now }
     ensures { result ≡ modify_in ids m d.now }
 {
-    if !kind_valid(ids, d) {
-        return Ask::Refused(Answer::BadField);
-    }
-    Ask::Change(m, ChangeOp::Modify(id_of(d), kind_in(d[KIND_AT])))
+    let (id, kind) = id_and_kind_in(ids, d)?;
+    Ok(Ask::Change(m, ChangeOp::Modify(id, kind)))
 }
 
-fn query_in(ids: u8, m: u64, d: &[u8]) -> Ask
+fn query_in(ids: u8, m: u64, d: &[u8]) -> Result<Ask, Answer>
     requires { kind_at ≤ length d.now }
     ensures { result ≡ query_in ids m d.now }
 {
-    if !object_valid(ids, d) {
-        return Ask::Refused(Answer::BadField);
-    }
+    let id = id_in(ids, d)?;
     if !flags_valid(d) {
-        return Ask::Refused(Answer::BadField);
+        return Err(Answer::BadField);
     }
-    Ask::Read(m, ReadOp::QueryObject(id_of(d)))
+    Ok(Ask::Read(m, ReadOp::QueryObject(id)))
 }
 
-fn destroy_in(ids: u8, m: u64, d: &[u8]) -> Ask
+fn destroy_in(ids: u8, m: u64, d: &[u8]) -> Result<Ask, Answer>
     requires { object_size ≤ length d.now }
     ensures { result ≡ destroy_in ids m d.now }
 {
-    if !object_valid(ids, d) {
-        return Ask::Refused(Answer::BadField);
-    }
-    Ask::Change(m, ChangeOp::Destroy(id_of(d)))
+    let id = id_in(ids, d)?;
+    Ok(Ask::Change(m, ChangeOp::Destroy(id)))
 }
 
 fn metadata_is(b: u8) -> Metadata
@@ -115,56 +120,50 @@ fn metadata_is(b: u8) -> Metadata
     }
 }
 
-fn metadata_in(ids: u8, m: u64, d: &[u8]) -> Ask
+fn metadata_in(ids: u8, m: u64, d: &[u8]) -> Result<Ask, Answer>
     requires { headers_at ≤ length d.now }
     ensures { result ≡ metadata_in ids m d.now }
 {
-    if !object_valid(ids, d) {
-        return Ask::Refused(Answer::BadField);
-    }
+    let id = id_in(ids, d)?;
     if 2 < d[TYPE_AT] {
-        return Ask::Refused(Answer::BadField);
+        return Err(Answer::BadField);
     }
-    Ask::Read(m, ReadOp::GetMetadata(id_of(d), metadata_is(d[TYPE_AT])))
+    Ok(Ask::Read(m, ReadOp::GetMetadata(id, metadata_is(d[TYPE_AT]))))
 }
 
-fn get_in(ids: u8, m: u64, d: &[u8]) -> Ask
+fn get_in(ids: u8, m: u64, d: &[u8]) -> Result<Ask, Answer>
     requires { headers_at ≤ length d.now }
     ensures { result ≡ get_in ids m d.now }
 {
-    if !object_valid(ids, d) {
-        return Ask::Refused(Answer::BadField);
-    }
+    let id = id_in(ids, d)?;
     if d[TYPE_AT] == 0 {
-        return Ask::Read(m, ReadOp::GetSelected(id_of(d)));
+        return Ok(Ask::Read(m, ReadOp::GetSelected(id)));
     }
     if d[TYPE_AT] != 1 {
-        return Ask::Refused(Answer::BadField);
+        return Err(Answer::BadField);
     }
     if HEADERS_AT < d.len() {
-        return Ask::Refused(Answer::BadField);
+        return Err(Answer::BadField);
     }
-    Ask::Read(m, ReadOp::GetAll(id_of(d)))
+    Ok(Ask::Read(m, ReadOp::GetAll(id)))
 }
 
-fn set_in(ids: u8, m: u64, d: &[u8]) -> Ask
+fn set_in(ids: u8, m: u64, d: &[u8]) -> Result<Ask, Answer>
     requires { object_size ≤ length d.now }
     ensures { result ≡ set_in ids m d.now }
 {
-    if !object_valid(ids, d) {
-        return Ask::Refused(Answer::BadField);
-    }
-    Ask::Change(m, ChangeOp::SetParts(id_of(d)))
+    let id = id_in(ids, d)?;
+    Ok(Ask::Change(m, ChangeOp::SetParts(id)))
 }
 
-fn mode_in(m: u64, d: &[u8]) -> Ask
+fn mode_in(m: u64, d: &[u8]) -> Result<Ask, Answer>
     requires { 1 ≤ length d.now }
     ensures { result ≡ mode_in m d.now }
 {
     if 1 < d[0] {
-        return Ask::Refused(Answer::BadField);
+        return Err(Answer::BadField);
     }
-    Ask::Change(m, ChangeOp::SetMode(protocol::mode_of(d[0])))
+    Ok(Ask::Change(m, ChangeOp::SetMode(protocol::mode_of(d[0]))))
 }
 
 // No bit is set from a place on.
@@ -181,27 +180,27 @@ fn is_zero_from(d: &[u8], at: usize) -> bool
     true
 }
 
-fn use_in(d: &[u8]) -> Ask
+fn use_in(d: &[u8]) -> Result<Ask, Answer>
     requires { 8 ≤ length d.now }
     ensures { result ≡ use_in d.now }
 {
     if !is_zero_from(d, WORD_SIZE) {
-        return Ask::Refused(Answer::BadField);
+        return Err(Answer::BadField);
     }
     let mask = wire::read_u64(d, 0);
     if !protocol::supported_only(mask) {
-        return Ask::Refused(Answer::BadField);
+        return Err(Answer::BadField);
     }
-    Ask::UseList(mask)
+    Ok(Ask::UseList(mask))
 }
 
 // Step 7 of data that holds all fixed fields of its command.
-fn whole_fields(ids: u8, m: u64, op: usize, d: &[u8]) -> Ask
+fn whole_fields(ids: u8, m: u64, op: usize, d: &[u8]) -> Result<Ask, Answer>
     requires { (supported op ≡ true) × (fixed_size op ≤ length d.now) }
     ensures { result ≡ fields_of ids m op d.now }
 {
     match op {
-        0x00 => Ask::QueryList,
+        0x00 => Ok(Ask::QueryList),
         0x01 => use_in(d),
         0x0a => create_in(ids, m, d),
         0x0b => modify_in(ids, m, d),
@@ -239,7 +238,7 @@ fn complete<'a>(fixed: usize, d: &'a [u8], instead: &'a [u8]) -> &'a [u8]
 
 // Step 7: the fields of each command's data. They are read in one place, whether the data is short or not, so that the
 // compiler keeps the reading inline.
-pub fn fields(ids: u8, m: u64, op: usize, d: &[u8]) -> Ask
+pub fn fields(ids: u8, m: u64, op: usize, d: &[u8]) -> Result<Ask, Answer>
     requires { supported op ≡ true }
     ensures { result ≡ fields_of ids m op d.now }
 {

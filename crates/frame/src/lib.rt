@@ -41,7 +41,6 @@ pub const GIVEN_AT: usize = DATA_AT + OBJECT_SIZE;
 // What a request asks. Read and Change name a member of the card.
 #[derive(Clone, Copy)]
 pub enum Ask {
-    Refused(Answer),
     QueryList,
     UseList(u64),
     Read(u64, ReadOp),
@@ -91,20 +90,20 @@ fn framed(
     op: usize,
     m: u64,
     d: &[u8],
-) -> Ask
+) -> Result<Ask, Answer>
     ensures { result ≡ framed_of members ids in_use marked group op m d.now }
 {
     if group != 1 {
-        return Ask::Refused(Answer::BadGroup);
+        return Err(Answer::BadGroup);
     }
     if !usable(in_use, op) {
-        return Ask::Refused(Answer::BadOpcode);
+        return Err(Answer::BadOpcode);
     }
     if !reaches(members, op, m) {
-        return Ask::Refused(Answer::NoMember);
+        return Err(Answer::NoMember);
     }
     if !attended(marked, op) {
-        return Ask::Refused(Answer::Marked);
+        return Err(Answer::Marked);
     }
     fields::fields(ids, m, op, d)
 }
@@ -120,14 +119,14 @@ pub fn member_of(request: &[u8]) -> u64
 }
 
 // Steps 2 to 7: what a request asks of a card with these members, ids and opcodes in use; marked says whether its member is.
-pub fn decode(members: u8, ids: u8, in_use: u64, marked: bool, request: &[u8]) -> Ask
+pub fn decode(members: u8, ids: u8, in_use: u64, marked: bool, request: &[u8]) -> Result<Ask, Answer>
     ensures { result ≡ ask_of members ids in_use marked request.now }
 {
     if request.len() < DATA_AT {
-        return Ask::Refused(Answer::BadLength);
+        return Err(Answer::BadLength);
     }
     if LONGEST < request.len() {
-        return Ask::Refused(Answer::BadLength);
+        return Err(Answer::BadLength);
     }
     let op = wire::read_u16(request, 0) as usize;
     let group = wire::read_u16(request, GROUP_AT);

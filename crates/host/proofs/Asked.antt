@@ -1,4 +1,5 @@
 -- What a built request asks: the fields that went into it come out again. Assumes nothing.
+use Rattle.std.specs.Prelude.{Ok, Err}
 use mathlib.Core.Path.{◌≡◌, refl, ◌∙◌}
 use mathlib.Core.Bool.{Bool, true, false}
 use mathlib.Core.List.{List, ◌++◌}
@@ -15,7 +16,7 @@ use Rattle.protocol.specs.declared.ChangeOp.TheVariants.{Create, Modify, Destroy
 use Rattle.protocol.specs.declared.Answer.TheVariants.{BadOpcode, BadField}
 use Rattle.protocol.specs.Answers.{mode_of}
 use Rattle.protocol.specs.Opcodes.{opcode_rows, opcode_row, supported, fixed_size, names_member, bit, supported_only}
-use Rattle.frame.specs.declared.Ask.TheVariants.{Refused, UseList, Read, Change}
+use Rattle.frame.specs.declared.Ask.TheVariants.{UseList, Read, Change}
 use Rattle.frame.specs.Frame.{data_at, longest, target_of, kind_at, type_at, headers_at, asked_list, given_list, given_at}
 use Rattle.frame.specs.Fields.{id_of, kind_in, metadata_is, object_valid, flags_valid, kind_valid, create_in, modify_in, query_in, destroy_in, metadata_in, get_in, set_in, mode_in, use_in, fields_of}
 use Rattle.frame.specs.Ask.{usable, reaches, attended, framed_of, ask_of}
@@ -81,30 +82,30 @@ module _ (id : ℕ) (rest : List ℕ) (small : id < 256 ^ 4) where
 
   module _ (ids m : ℕ) (valid : ltb id ids ≡ true) where
     pub create-read : (k : ℕ) → flags_valid d ≡ true → get_or d kind_at 0 ≡ k → leb k 1 ≡ true
-        → create_in ids m d ≡ Change m (Create id (kind_in k))
+        → create_in ids m d ≡ Ok (Change m (Create id (kind_in k)))
     unfolding create_in kind_valid unless◌answer◌then◌ ◌and◌
     create-read k f e l = rw (object-read ids, valid, f, e, l, id-read)
 
     pub modify-read : (k : ℕ) → flags_valid d ≡ true → get_or d kind_at 0 ≡ k → leb k 1 ≡ true
-        → modify_in ids m d ≡ Change m (Modify id (kind_in k))
+        → modify_in ids m d ≡ Ok (Change m (Modify id (kind_in k)))
     unfolding modify_in kind_valid unless◌answer◌then◌ ◌and◌
     modify-read k f e l = rw (object-read ids, valid, f, e, l, id-read)
 
-    pub query-read : flags_valid d ≡ true → query_in ids m d ≡ Read m (QueryObject id)
+    pub query-read : flags_valid d ≡ true → query_in ids m d ≡ Ok (Read m (QueryObject id))
     unfolding query_in unless◌answer◌then◌ ◌and◌
     query-read f = rw (object-read ids, valid, f, id-read)
 
-    pub destroy-read : destroy_in ids m d ≡ Change m (Destroy id)
+    pub destroy-read : destroy_in ids m d ≡ Ok (Change m (Destroy id))
     unfolding destroy_in unless◌answer◌then◌
     destroy-read = rw (object-read ids, valid, id-read)
 
-    pub metadata-read : (t : ℕ) → get_or d type_at 0 ≡ t → leb t 2 ≡ true → metadata_in ids m d ≡ Read m (GetMetadata id (metadata_is t))
+    pub metadata-read : (t : ℕ) → get_or d type_at 0 ≡ t → leb t 2 ≡ true → metadata_in ids m d ≡ Ok (Read m (GetMetadata id (metadata_is t)))
     unfolding metadata_in unless◌answer◌then◌ ◌and◌
     metadata-read t e l = rw (object-read ids, valid, e, l, id-read)
 
     -- headers with selected only
     pub get-read : (t : ℕ) (list : List ℕ) → get_or d type_at 0 ≡ t → leb t 1 ≡ true → length d ≡ headers_at + length list
-        → eqb t 0 or eqb (length list) 0 ≡ true → get_in ids m d ≡ Read m (when eqb t 0 then GetSelected id else GetAll id)
+        → eqb t 0 or eqb (length list) 0 ≡ true → get_in ids m d ≡ Ok (Read m (when eqb t 0 then GetSelected id else GetAll id))
     unfolding get_in unless◌answer◌then◌ when◌then◌else◌ ◌and◌ ◌or◌
     get-read t list e b n h =
         rw (object-read ids, valid, e, id-read)
@@ -115,15 +116,15 @@ module _ (id : ℕ) (rest : List ℕ) (small : id < 256 ^ 4) where
         rw (z, all, long)))
 
   -- of any id
-  pub set-read : (ids m : ℕ) → set_in ids m d ≡ (unless ltb id ids answer Refused BadField then Change m (SetParts id))
+  pub set-read : (ids m : ℕ) → set_in ids m d ≡ (unless ltb id ids answer Err BadField then Ok (Change m (SetParts id)))
   unfolding set_in
   set-read ids m = rw (object-read ids, id-read)
 
-pub use-read : (mask : ℕ) (d : List ℕ) → le d ≡ mask → supported_only mask ≡ true → use_in d ≡ UseList mask
+pub use-read : (mask : ℕ) (d : List ℕ) → le d ≡ mask → supported_only mask ≡ true → use_in d ≡ Ok (UseList mask)
 unfolding use_in unless◌answer◌then◌
 use-read mask d e h = rw (e, h)
 
-pub mode-read : (m b : ℕ) (d : List ℕ) → get_or d 0 0 ≡ b → leb b 1 ≡ true → mode_in m d ≡ Change m (SetMode (mode_of b))
+pub mode-read : (m b : ℕ) (d : List ℕ) → get_or d 0 0 ≡ b → leb b 1 ≡ true → mode_in m d ≡ Ok (Change m (SetMode (mode_of b)))
 unfolding mode_in unless◌answer◌then◌
 mode-read m b d e h = rw (e, h)
 
@@ -140,7 +141,7 @@ module _ (m id : ℕ) (list : List ℕ) where
 
   pub set-parts-asked : (members ids in_use : ℕ) → members ≤ 16 → within 1 members m ≡ true → id < 256 ^ 4 → given_at + length list ≤ longest
       → ask_of members ids in_use false (set_parts m id list)
-      ≡ (unless bit in_use 0x10 answer Refused BadOpcode then unless ltb id ids answer Refused BadField then Change m (SetParts id))
+      ≡ (unless bit in_use 0x10 answer Err BadOpcode then unless ltb id ids answer Err BadField then Ok (Change m (SetParts id)))
   unfolding framed_of usable supported reaches attended names_member fields_of within ◌and◌ ◌or◌ unless◌answer◌then◌ laid
   set-parts-asked members ids in_use few here small h =
       asked-frame (host.Set m id) list members ids in_use false (omega (arith, within-high 1 members m here)) (omega (arith, set_long))

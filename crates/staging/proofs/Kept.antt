@@ -1,4 +1,6 @@
 -- The calls keep a card sound. Assumes nothing.
+use Rattle.std.specs.Prelude.{Result, Ok, Err}
+use Rattle.protocol.specs.declared.Answer.{Answer}
 use mathlib.Core.Path.{◌≡◌, refl, ◌∙◌}
 use mathlib.Core.Bool.{true}
 use mathlib.Core.List.{List}
@@ -13,7 +15,7 @@ use Rattle.card.proofs.HeaderLaws.{setup-with-use}
 use Rattle.card.proofs.MemberLaws.{setup-with-member}
 use Rattle.card.proofs.SoundLaws.{is-sound}
 use Rattle.frame.specs.declared.Ask.{Ask}
-use Rattle.frame.specs.declared.Ask.TheVariants.{Refused, QueryList, UseList, Read, Change}
+use Rattle.frame.specs.declared.Ask.TheVariants.{QueryList, UseList, Read, Change}
 use Rattle.host.specs.Request.{set_parts}
 use Rattle.reply.specs.Reply.{head_size}
 use Rattle.admin.specs.Command.{perform, respond}
@@ -24,13 +26,13 @@ use Rattle.staging.proofs.Refusals.{on-member-cases, on-open-cases}
 use Rattle.staging.proofs.Places.{few-fed, number-sound, held-sound, gone-sound}
 
 -- a command leaves the setup
-perform-setup : (c r : List ℕ) (a : Ask) → setup_of (perform c r a).card ≡ setup_of c
+perform-setup : (c r : List ℕ) (a : Result Ask Answer) → setup_of (perform c r a).card ≡ setup_of c
 unfolding perform
-perform-setup c r (Refused a) = refl
-perform-setup c r QueryList = refl
-perform-setup c r (UseList mask) = setup-with-use c mask
-perform-setup c r (Read m op) = refl
-perform-setup c r (Change m op) = setup-with-member c m _
+perform-setup c r (Err a) = refl
+perform-setup c r (Ok QueryList) = refl
+perform-setup c r (Ok (UseList mask)) = setup-with-use c mask
+perform-setup c r (Ok (Read m op)) = refl
+perform-setup c r (Ok (Change m op)) = setup-with-member c m _
 
 pub respond-setup : (c r : List ℕ) (room : ℕ) → setup_of (respond c r room).0 ≡ setup_of c
 respond-setup c r room = card-cases c r room (λ d. setup_of d ≡ setup_of c) refl (λ s. perform-setup c r _)

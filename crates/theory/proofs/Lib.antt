@@ -9,3 +9,4 @@ pub mod Table
 pub mod Unwinding
 pub mod Commuting
 pub mod Example
+pub mod Refused

@@ -18,38 +18,38 @@ use_list-requires c = (said-true _ _ c.is_sound.ensures c.if-not-is_sound.false-
 pub read_member-requires : goal.read_member-requires
 read_member-requires c = (
   said-true _ _ c.is_sound.ensures c.if-not-is_sound.false-raw,
-  read-member _ _ _ _ c.asked.ensures _ c.in-Read.is,
+  read-member _ _ _ _ c.asked.ensures _ c.in-Ok-Read.is,
   c.if-reply-lt-HEAD_SIZE.false,
 )
 
 pub change_member-requires : goal.change_member-requires
 change_member-requires c = (
   said-true _ _ c.is_sound.ensures c.if-not-is_sound.false-raw,
-  change-member _ _ _ _ c.asked.ensures _ c.in-Change.is,
+  change-member _ _ _ _ c.asked.ensures _ c.in-Ok-Change.is,
   c.if-reply-lt-HEAD_SIZE.false,
 )
 
--- Refused
-pub returns-in-Refused : goal.returns-in-Refused
-returns-in-Refused c = refusal-told _ _ _ _ _ _ _ c.if-reply-lt-HEAD_SIZE.false c.is_sound.ensures c.if-not-is_sound.false-raw
-    c.asked.ensures _ c.in-Refused.is c.write_answer.ensures
+-- refused
+pub returns-in-Err : goal.returns-in-Err
+returns-in-Err c = refusal-told _ _ _ _ _ _ _ c.if-reply-lt-HEAD_SIZE.false c.is_sound.ensures c.if-not-is_sound.false-raw
+    c.asked.ensures _ c.in-Err.is c.write_answer.ensures
 
 -- QueryList
-pub returns-in-QueryList : goal.returns-in-QueryList
-returns-in-QueryList c = query-told _ _ _ _ _ _ _ c.if-reply-lt-HEAD_SIZE.false c.is_sound.ensures c.if-not-is_sound.false-raw
-    c.asked.ensures c.in-QueryList.is c.write_mask.ensures
+pub returns-in-Ok-QueryList : goal.returns-in-Ok-QueryList
+returns-in-Ok-QueryList c = query-told _ _ _ _ _ _ _ c.if-reply-lt-HEAD_SIZE.false c.is_sound.ensures c.if-not-is_sound.false-raw
+    c.asked.ensures c.in-Ok-QueryList.is c.write_mask.ensures
 
 -- UseList
-pub returns-in-UseList : goal.returns-in-UseList
-returns-in-UseList c = answered _ _ _ _ _ _ c.if-reply-lt-HEAD_SIZE.false c.is_sound.ensures c.if-not-is_sound.false-raw
-    c.asked.ensures c.in-UseList.is _ c.use_list.ensures
+pub returns-in-Ok-UseList : goal.returns-in-Ok-UseList
+returns-in-Ok-UseList c = answered _ _ _ _ _ _ c.if-reply-lt-HEAD_SIZE.false c.is_sound.ensures c.if-not-is_sound.false-raw
+    c.asked.ensures c.in-Ok-UseList.is _ c.use_list.ensures
 
 -- Read
-pub returns-in-Read : goal.returns-in-Read
-returns-in-Read c = answered _ _ _ _ _ _ c.if-reply-lt-HEAD_SIZE.false c.is_sound.ensures c.if-not-is_sound.false-raw
-    c.asked.ensures c.in-Read.is _ c.read_member.ensures
+pub returns-in-Ok-Read : goal.returns-in-Ok-Read
+returns-in-Ok-Read c = answered _ _ _ _ _ _ c.if-reply-lt-HEAD_SIZE.false c.is_sound.ensures c.if-not-is_sound.false-raw
+    c.asked.ensures c.in-Ok-Read.is _ c.read_member.ensures
 
 -- Change
-pub returns-in-Change : goal.returns-in-Change
-returns-in-Change c = answered _ _ _ _ _ _ c.if-reply-lt-HEAD_SIZE.false c.is_sound.ensures c.if-not-is_sound.false-raw
-    c.asked.ensures c.in-Change.is _ c.change_member.ensures
+pub returns-in-Ok-Change : goal.returns-in-Ok-Change
+returns-in-Ok-Change c = answered _ _ _ _ _ _ c.if-reply-lt-HEAD_SIZE.false c.is_sound.ensures c.if-not-is_sound.false-raw
+    c.asked.ensures c.in-Ok-Change.is _ c.change_member.ensures

@@ -1,48 +1,47 @@
-use borrow.Author.Rules.{rules}
-use borrow.Author.Tests.{eq-eqb, ne_eqb, le-leb, lt-leb}
-use Rattle.theory.proofs.Tests.{and_i}
-use Rattle.theory.proofs.Ladder.{pass, stop, choose-true, choose-false, and_left, and_right, said-true, said-false}
+use Rattle.std.proofs.Common.{ℕ, List, Result, Ok, Err, ◌∙◌, ◌≡◌, eqb, leb, get_or, length}
+use Rattle.theory.specs.Logic.{when◌then◌else◌, unless◌answer◌then◌, ◌and◌}
+use Rattle.theory.proofs.Ladder.{ladder}
+use Rattle.theory.proofs.Refused.{left_with, went_with}
+use Rattle.protocol.specs.declared.Answer.{Answer}
+use Rattle.protocol.specs.declared.Answer.TheVariants.{BadField}
+use Rattle.protocol.specs.declared.ReadOp.TheVariants.{GetSelected, GetAll}
+use Rattle.frame.specs.declared.Ask.{Ask}
+use Rattle.frame.specs.declared.Ask.TheVariants.{Read}
+use Rattle.frame.specs.Frame.{type_at, headers_at}
 use Rattle.frame.specs.Fields.{get_in}
 use Rattle.frame.proofs.fields.get_in.Goals as goal
 
-ruleset steps = (pass, stop, choose-true, choose-false, and_i, and_left, and_right, said-true, said-false, eq-eqb, ne_eqb, le-leb, lt-leb)
+-- what is asked through the object of an id
+by_type : ℕ → List ℕ → ℕ → Result Ask Answer
+by_type m d i =
+    when eqb (get_or d type_at 0) 0 then Ok (Read m (GetSelected i)) else
+    unless eqb (get_or d type_at 0) 1 and leb (length d) headers_at answer Err BadField then
+    Ok (Read m (GetAll i))
 
-pub object_valid-requires : goal.object_valid-requires
+pub returns-in_err-id : goal.returns-in_err-id
 unfolding get_in
-object_valid-requires c = search rules
-
-pub returns-then-not-object_valid : goal.returns-then-not-object_valid
-unfolding get_in
-returns-then-not-object_valid c = search steps
-
-pub bounds-d-8 : goal.bounds-d-8
-unfolding get_in
-bounds-d-8 c = search rules
-
-pub id_of-requires : goal.id_of-requires
-unfolding get_in
-id_of-requires c = search rules
+returns-in_err-id c = left_with _ _ _ _ c.id_in.ensures _ c.in_err-id.was _ c.from_residual.ensures.1 _
 
 pub returns-then-d-eq0 : goal.returns-then-d-eq0
-unfolding get_in
-returns-then-d-eq0 c = search steps
-
-pub bounds-d-8-2 : goal.bounds-d-8-2
-unfolding get_in
-bounds-d-8-2 c = search rules
+unfolding get_in by_type
+returns-then-d-eq0 c =
+    let h : Ok (Read c.args.m (GetSelected c.in_ok-id.id)) ≡ by_type c.args.m c.args.d.now c.in_ok-id.id = search ladder in
+    h ∙ went_with _ _ _ _ c.id_in.ensures _ c.in_ok-id.was (by_type c.args.m c.args.d.now)
 
 pub returns-then-d-ne1 : goal.returns-then-d-ne1
-unfolding get_in
-returns-then-d-ne1 c = search steps
+unfolding get_in by_type
+returns-then-d-ne1 c =
+    let h : Err BadField ≡ by_type c.args.m c.args.d.now c.in_ok-id.id = search ladder in
+    h ∙ went_with _ _ _ _ c.id_in.ensures _ c.in_ok-id.was (by_type c.args.m c.args.d.now)
 
 pub returns-then-d-gt-HEADERS_AT : goal.returns-then-d-gt-HEADERS_AT
-unfolding get_in
-returns-then-d-gt-HEADERS_AT c = search steps
-
-pub id_of-requires-2 : goal.id_of-requires-2
-unfolding get_in
-id_of-requires-2 c = search rules
+unfolding get_in by_type
+returns-then-d-gt-HEADERS_AT c =
+    let h : Err BadField ≡ by_type c.args.m c.args.d.now c.in_ok-id.id = search ladder in
+    h ∙ went_with _ _ _ _ c.id_in.ensures _ c.in_ok-id.was (by_type c.args.m c.args.d.now)
 
 pub returns : goal.returns
-unfolding get_in
-returns c = search steps depth 8
+unfolding get_in by_type
+returns c =
+    let h : Ok (Read c.args.m (GetAll c.in_ok-id.id)) ≡ by_type c.args.m c.args.d.now c.in_ok-id.id = search ladder in
+    h ∙ went_with _ _ _ _ c.id_in.ensures _ c.in_ok-id.was (by_type c.args.m c.args.d.now)

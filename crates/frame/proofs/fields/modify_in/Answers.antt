@@ -1,28 +1,14 @@
-use borrow.Author.Rules.{rules}
-use Rattle.theory.proofs.Ladder.{ladder}
+use Rattle.std.proofs.Common.{Ok}
+use Rattle.theory.proofs.Refused.{left_with, went_with}
+use Rattle.protocol.specs.declared.ChangeOp.TheVariants.{Modify}
+use Rattle.frame.specs.declared.Ask.TheVariants.{Change}
 use Rattle.frame.specs.Fields.{modify_in}
 use Rattle.frame.proofs.fields.modify_in.Goals as goal
 
-pub kind_valid-requires : goal.kind_valid-requires
+pub returns-in_err-id : goal.returns-in_err-id
 unfolding modify_in
-kind_valid-requires c = search rules
-
-pub returns-then-not-kind_valid : goal.returns-then-not-kind_valid
-unfolding modify_in
-returns-then-not-kind_valid c = search ladder
-
-pub id_of-requires : goal.id_of-requires
-unfolding modify_in
-id_of-requires c = search rules
-
-pub bounds-d-16 : goal.bounds-d-16
-unfolding modify_in
-bounds-d-16 c = search rules
-
-pub kind_in-requires : goal.kind_in-requires
-unfolding modify_in
-kind_in-requires c = search rules
+returns-in_err-id c = left_with _ _ _ _ c.id_and_kind_in.ensures _ c.in_err-id.was _ c.from_residual.ensures.1 _
 
 pub returns : goal.returns
 unfolding modify_in
-returns c = search ladder
+returns c = went_with _ _ _ _ c.id_and_kind_in.ensures _ c.in_ok-id.was (λ p. Ok (Change c.args.m (Modify p.0 p.1)))

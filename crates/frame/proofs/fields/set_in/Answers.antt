@@ -1,20 +1,14 @@
-use borrow.Author.Rules.{rules}
-use Rattle.theory.proofs.Ladder.{ladder}
+use Rattle.std.proofs.Common.{Ok}
+use Rattle.theory.proofs.Refused.{left_with, went_with}
+use Rattle.protocol.specs.declared.ChangeOp.TheVariants.{SetParts}
+use Rattle.frame.specs.declared.Ask.TheVariants.{Change}
 use Rattle.frame.specs.Fields.{set_in}
 use Rattle.frame.proofs.fields.set_in.Goals as goal
 
-pub object_valid-requires : goal.object_valid-requires
+pub returns-in_err-id : goal.returns-in_err-id
 unfolding set_in
-object_valid-requires c = search rules
-
-pub returns-then-not-object_valid : goal.returns-then-not-object_valid
-unfolding set_in
-returns-then-not-object_valid c = search ladder
-
-pub id_of-requires : goal.id_of-requires
-unfolding set_in
-id_of-requires c = search rules
+returns-in_err-id c = left_with _ _ _ _ c.id_in.ensures _ c.in_err-id.was _ c.from_residual.ensures.1 _
 
 pub returns : goal.returns
 unfolding set_in
-returns c = search ladder
+returns c = went_with _ _ _ _ c.id_in.ensures _ c.in_ok-id.was (λ i. Ok (Change c.args.m (SetParts i)))
