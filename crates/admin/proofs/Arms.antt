@@ -1,6 +1,6 @@
 -- What each kind of command comes to, from what the layers below answered. Assumes nothing.
 use Rattle.std.specs.Prelude.{Result, Ok, Err}
-use mathlib.Core.Path.{◌≡◌, sym, ◌∙◌}
+use mathlib.Core.Path.{◌≡◌, ap, sym, ◌∙◌}
 use mathlib.Core.Bool.{Bool, true, false, not}
 use mathlib.Core.List.{List, []}
 use Prim.Native.Nat.{ℕ, ◌+◌, ◌≤◌}
@@ -66,26 +66,26 @@ module _ (c r l : List ℕ) (b : Bool) (x a : Result Ask Answer) (room : head_si
   pub answered : (y : Left) → y ≡ delivered (conclude c (length l) (perform c r a)) l → y ≡ command_of c r l
   answered y h = heard c r l room (sym sound ∙ not-false b n) y (h ∙ rw (sym f ∙ e))
 
-module _ (c r l l' : List ℕ) (b : Bool) (x : Result Ask Answer) (k : ℕ) (room : head_size ≤ length l) (sound : b ≡ is_sound c)
-    (n : not b ≡ false) (e : x ≡ ask_in c r) where
-  pub refusal-told : (a : Answer) → x ≡ Err a → (k, l') ≡ written (reply_of a []) l → (k, (c, l')) ≡ command_of c r l
-  unfolding perform
-  refusal-told a f h = answered c r l b x (Err a) room sound n e f _ (answer-kept c a l l' k room h)
+pub refusal-told : (c r l l' : List ℕ) (b : Bool) (x : Result Ask Answer) (k : ℕ) → head_size ≤ length l → b ≡ is_sound c → not b ≡ false
+    → x ≡ ask_in c r → (a : Answer) → x ≡ Err a → (k, l') ≡ written (reply_of a []) l → (k, (c, l')) ≡ command_of c r l
+unfolding perform
+refusal-told c r l l' b x k room sound n e a f h = answered c r l b x (Err a) room sound n e f _ (answer-kept c a l l' k room h)
 
-  pub query-told : x ≡ Ok QueryList → (k, l') ≡ written (replied Done (bytes 8 supported_mask) (length l)) l → (k, (c, l')) ≡ command_of c r l
-  unfolding perform
-  query-told f h = answered c r l b x (Ok QueryList) room sound n e f _ (kept c Done _ l l' k h)
+pub query-told : (c r l l' : List ℕ) (k : ℕ) → (k, l') ≡ written (replied Done (bytes 8 supported_mask) (length l)) l
+    → (k, (c, l')) ≡ delivered (conclude c (length l) (perform c r (Ok QueryList))) l
+unfolding perform
+query-told c r l l' k h = kept c Done _ l l' k h
 
 -- a member that a request asks for is one of the card's
-module _ (c r : List ℕ) (x : Result Ask Answer) (m : ℕ) (e : x ≡ ask_in c r) where
-  pub read-member : (op : ReadOp) → x ≡ Ok (Read m op) → is_member c m ≡ true
+module _ (c r : List ℕ) (x : Ask) (m : ℕ) (e : ask_in c r ≡ Ok x) where
+  pub read-member : (op : ReadOp) → x ≡ Read m op → is_member c m ≡ true
   unfolding ask_in
   read-member op f =
-      let g = asked (setup_of c).members ((setup_of c).gets + (setup_of c).sets) _ r (in_use_of c) (Ok (Read m op)) (sym e ∙ f) in
+      let g = asked (setup_of c).members ((setup_of c).gets + (setup_of c).sets) _ r (in_use_of c) (Ok (Read m op)) (e ∙ ap Ok f) in
       inside 1 (setup_of c).members m g.0.low g.0.high
 
-  pub change-member : (op : ChangeOp) → x ≡ Ok (Change m op) → is_member c m ≡ true
+  pub change-member : (op : ChangeOp) → x ≡ Change m op → is_member c m ≡ true
   unfolding ask_in
   change-member op f =
-      let g = asked (setup_of c).members ((setup_of c).gets + (setup_of c).sets) _ r (in_use_of c) (Ok (Change m op)) (sym e ∙ f) in
+      let g = asked (setup_of c).members ((setup_of c).gets + (setup_of c).sets) _ r (in_use_of c) (Ok (Change m op)) (e ∙ ap Ok f) in
       inside 1 (setup_of c).members m g.0.low g.0.high

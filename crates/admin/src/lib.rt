@@ -74,6 +74,19 @@ fn use_list(card: &mut [u8], mask: u64, request: &[u8], reply: &mut [u8]) -> usi
     reply::write_answer(Answer::Done, reply)
 }
 
+// Steps 8 to 12 of what a request asks.
+fn obey(card: &mut [u8], ask: Ask, request: &[u8], reply: &mut [u8]) -> usize
+    requires { (is_sound card.old ≡ true) × (ask_in card.old request.now ≡ Ok ask) × (head_size ≤ length reply.old) }
+    ensures { (result, (card.new, reply.new)) ≡ delivered (conclude card.old (length reply.old) (perform card.old request.now (Ok ask))) reply.old }
+{
+    match ask {
+        Ask::QueryList => reply::write_mask(protocol::SUPPORTED_MASK, reply),
+        Ask::UseList(mask) => use_list(card, mask, request, reply),
+        Ask::Read(m, op) => read_member(card, m, op, request, reply),
+        Ask::Change(m, op) => change_member(card, m, op, request, reply),
+    }
+}
+
 // One command, whole.
 pub fn command(card: &mut [u8], request: &[u8], reply: &mut [u8]) -> usize
     ensures { (result, (card.new, reply.new)) ≡ command_of card.old request.now reply.old }
@@ -85,10 +98,7 @@ pub fn command(card: &mut [u8], request: &[u8], reply: &mut [u8]) -> usize
         return 0;
     }
     match asked(card, request) {
+        Ok(ask) => obey(card, ask, request, reply),
         Err(a) => reply::write_answer(a, reply),
-        Ok(Ask::QueryList) => reply::write_mask(protocol::SUPPORTED_MASK, reply),
-        Ok(Ask::UseList(mask)) => use_list(card, mask, request, reply),
-        Ok(Ask::Read(m, op)) => read_member(card, m, op, request, reply),
-        Ok(Ask::Change(m, op)) => change_member(card, m, op, request, reply),
     }
 }

@@ -119,7 +119,13 @@ pub fn member_of(request: &[u8]) -> u64
 }
 
 // Steps 2 to 7: what a request asks of a card with these members, ids and opcodes in use; marked says whether its member is.
-pub fn decode(members: u8, ids: u8, in_use: u64, marked: bool, request: &[u8]) -> Result<Ask, Answer>
+pub fn decode(
+    members: u8,
+    ids: u8,
+    in_use: u64,
+    marked: bool,
+    request: &[u8],
+) -> Result<Ask, Answer>
     ensures { result ≡ ask_of members ids in_use marked request.now }
 {
     if request.len() < DATA_AT {
