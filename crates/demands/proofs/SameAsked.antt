@@ -118,8 +118,8 @@ module _ (c r s : List ℕ) where
 
 -- two requests that ask the same, with lists that come to the same where these count
 module _ (c r s : List ℕ) (room : ℕ)
-    (asked : opcode_of r ≡ 0x0f → (id : ℕ) → Same c r s (Read (target_of r) (GetSelected id)))
-    (given : opcode_of r ≡ 0x10 → (id : ℕ) → Same c r s (Change (target_of r) (SetParts id)))
+    (asked : opcode_of r ≡ 0x0f → (id : ℕ) → Same c r s (Ok (Read (target_of r) (GetSelected id))))
+    (given : opcode_of r ≡ 0x10 → (id : ℕ) → Same c r s (Ok (Change (target_of r) (SetParts id))))
     (ask : ask_in c s ≡ ask_in c r) where
   done-same : Same c r s (ask_in c r)
   unfolding ask_in ask_of framed_of
