@@ -18,7 +18,7 @@ use Rattle.protocol.specs.declared.Body.TheVariants as body
 use Rattle.inventory.specs.Inventory.{row_at, row_count, low_bytes, selector_of}
 use Rattle.parts.specs.declared.ListForm.{ListForm}
 use Rattle.parts.specs.declared.ListForm.TheVariants.{Parts, Headers}
-use Rattle.parts.specs.declared.Step.TheVariants as step
+use Rattle.parts.specs.Step as step
 use Rattle.parts.specs.List.{value_size, header_at, step_at, Part, part, part_with, parts_of}
 use Rattle.parts.proofs.Walk.{step-found, parts-part}
 use Rattle.rules.specs.Rules.{known, known_or_skipped, length_right, size_right, features_same, asks_known, cause_in, asked_in}

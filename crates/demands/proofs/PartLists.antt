@@ -15,8 +15,8 @@ use Rattle.wire.proofs.Le.{number-byte}
 use Rattle.inventory.specs.Header.{selector_at, flags_at, length_at, header_size}
 use Rattle.parts.specs.declared.ListForm.{ListForm}
 use Rattle.parts.specs.declared.ListForm.TheVariants.{Parts, Headers}
-use Rattle.parts.specs.declared.Step.{Step}
-use Rattle.parts.specs.declared.Step.TheVariants as step
+use Rattle.parts.specs.Step.{Step}
+use Rattle.parts.specs.Step as step
 use Rattle.parts.specs.List.{value_size, header_at, step_at, Part, PartList, end, cut, part, part_with, part_in, on_step, parts_from, parts_of, whole, among}
 use Rattle.parts.proofs.Walk.{step_end, step_part, parts-step, parts-end}
 use Rattle.rules.specs.Rules.{every, repeated}

@@ -12,11 +12,11 @@ use Rattle.theory.specs.Bytes.{bytes_at}
 use Rattle.theory.proofs.Tests.{by_cases, never}
 use Rattle.theory.proofs.Bytes.{length-bytes_at}
 use Rattle.parts.specs.declared.ListForm.TheVariants.{Parts}
-use Rattle.parts.specs.declared.Step.{Step}
-use Rattle.parts.specs.declared.Step.TheVariants as step
-use Rattle.parts.specs.List.{PartList, end, cut, part, part_in, step_at, on_step, at_most, parts_from, parts_of, value_or}
+use Rattle.parts.specs.Step.{Step}
+use Rattle.parts.specs.Step as step
+use Rattle.inventory.specs.Header.{header_size}
+use Rattle.parts.specs.List.{Part, PartList, end, cut, part, part_in, step_at, on_step, at_most, parts_from, parts_of, value_or}
 use Rattle.parts.proofs.Walk.{step_part}
-use Rattle.parts.proofs.Turns.{NoPart, stopped, opened}
 use Rattle.difference.specs.declared.Span.{Span}
 use Rattle.difference.specs.declared.Span.TheVariants.{Value, Nowhere}
 use Rattle.difference.specs.Difference.{span_from, span_of, on_span}
@@ -31,26 +31,12 @@ span-part t s l at u f v start len e ps =
     let w = step_part Parts l at e in
     rw (length-bytes_at start len l w.ends, ← w.starts)
 
--- r is what next_part answered at `at`, x what the whole list gives
-module _ (t s : ℕ) (l : List ℕ) (at : ℕ) (r : Step) (here : r ≡ step_at Parts l at) (x : Span) (e : x ≡ span_from t s at (parts_from Parts l at)) where
-  pub span-stop : NoPart r → x ≡ Nowhere
-  unfolding span_from
-  span-stop none = e ∙ stopped Parts l at r here none (span_from t s at) Nowhere refl refl
-
-  -- b: it is the part that is looked for
-  module _ (u f v start len : ℕ) (found : r ≡ step.Part u f v start len) (b : Bool) (named : b ≡ eqb u t and eqb v s) where
-    at_part : x ≡ when b then Value start len else span_from t s (start + len) (parts_from Parts l (start + len))
-    at_part =
-        e ∙ ap (span_from t s at) (opened Parts l at r here u f v start len found)
-        ∙ span-part t s l at u f v start len (sym here ∙ found) _ ∙ rw (← named)
-
-    pub span-here : b ≡ true → x ≡ Value start len
-    unfolding when◌then◌else◌
-    span-here y = rw y at at_part
-
-    pub span-on : b ≡ false → x ≡ span_from t s (start + len) (parts_from Parts l (start + len))
-    unfolding when◌then◌else◌
-    span-on n = rw n at at_part
+-- the first part that is left is another; its value starts after its header, and the others after its value
+pub span-on : (t s at start to : ℕ) (x : Span) (p : Part) (ps qs : PartList) → x ≡ span_from t s at ps → ps ≡ part p qs
+    → false ≡ eqb p.part_type t and eqb p.selector s → start ≡ at + header_size → to ≡ start + length p.value
+    → x ≡ span_from t s to qs
+unfolding span_from when◌then◌else◌
+span-on t s at start to x p ps qs e first other starts ends = rw (ends, starts) (rw (first, ← other) at e)
 
 -- ---- what stands there ----
 

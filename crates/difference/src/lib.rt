@@ -13,7 +13,7 @@ ghost use Rattle.difference.specs.Under.{lookup_under, merge_under};
 ghost use Rattle.difference.specs.Handed.{PartOf, Handed, Inside};
 
 use inventory::{HEADER_SIZE, ROWS, SELECTORS, SIZES, TYPES};
-use parts::{ListForm, Step};
+use parts::ListForm;
 
 // Where the value of a part stands in a list.
 #[derive(Clone, Copy)]
@@ -48,23 +48,18 @@ pub enum Lookup {
 fn span_of(list: &[u8], t: u16, selector: u64) -> Span
     ensures { result ≡ span_of t selector list.now }
 {
-    let mut at = 0;
-    loop {
-        let Step::Part {
-            part_type,
-            flags: _,
-            selector: other,
-            start,
-            len,
-        } = parts::next_part(ListForm::Parts, list, at)
-        else {
+    for part in parts::read(ListForm::Parts, list) {
+        let Ok(part) = part else {
             return Span::Nowhere;
         };
-        if parts::is_same_part(t, selector, part_type, other) {
-            return Span::Value { start, len };
+        if parts::is_same_part(t, selector, part.part_type, part.selector) {
+            return Span::Value {
+                start: part.start,
+                len: part.value.len(),
+            };
         }
-        at = start + len;
     }
+    Span::Nowhere
 }
 
 // In the later list, or else in the full capture.

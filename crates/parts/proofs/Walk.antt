@@ -14,8 +14,8 @@ use Rattle.wire.specs.Le.{number}
 use Rattle.inventory.specs.Inventory.{selector_of}
 use Rattle.inventory.specs.Header.{flags_at, selector_at, header_size}
 use Rattle.parts.specs.declared.ListForm.{ListForm}
-use Rattle.parts.specs.declared.Step.{Step}
-use Rattle.parts.specs.declared.Step.TheVariants as step
+use Rattle.parts.specs.Step.{Step}
+use Rattle.parts.specs.Step as step
 use Rattle.parts.specs.List.{value_size, header_at, step_at, end, cut, part, part_in, on_step, at_most, parts_from}
 
 -- what a step says of the place where it stands

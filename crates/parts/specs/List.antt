@@ -7,8 +7,8 @@ use Rattle.inventory.specs.Inventory.{selector_of}
 use Rattle.inventory.specs.Header.{flags_at, selector_at, length_at, header_size}
 use Rattle.parts.specs.declared.ListForm.{ListForm}
 use Rattle.parts.specs.declared.ListForm.TheVariants.{Parts, Headers}
-use Rattle.parts.specs.declared.Step.{Step}
-use Rattle.parts.specs.declared.Step.TheVariants as step
+use Rattle.parts.specs.Step.{Step}
+use Rattle.parts.specs.Step as step
 
 -- a header is followed by its value; in an asked list it stands alone
 abbrev pub value_size : ListForm → List ℕ → ℕ → ℕ

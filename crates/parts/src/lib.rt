@@ -1,10 +1,12 @@
 // A list of parts, SPEC 5.4, and the walk over it.
 #![tactic(auto)]
 
-ghost use Rattle.std.specs.Prelude.{◌≡◌, ◌+◌, ◌≤◌, eqb, length};
+ghost use Rattle.std.specs.Prelude.{◌≡◌, ◌+◌, ◌-◌, ◌<◌, ◌≤◌, eqb, length};
+ghost use Rattle.std.specs.Iterator.{at_most};
 ghost use Rattle.theory.specs.Logic.{◌and◌};
 ghost use Rattle.inventory.specs.Header.{header_size};
-ghost use Rattle.parts.specs.List.{value_size, step_at, parts_of, whole, among};
+ghost use Rattle.parts.specs.List.{value_size, parts_of, whole, among};
+ghost use Rattle.parts.specs.Reader.{Stands, Gives};
 
 use inventory::{FLAGS_AT, HEADER_SIZE, LENGTH_AT, SELECTOR_AT};
 
@@ -18,18 +20,33 @@ pub enum ListForm {
     Headers,
 }
 
-// What stands at a position of a list: a part, whose value starts at start, one that runs past the end, or the end.
+// A part of a list: what its header says, and its value, which starts at `start`.
 #[derive(Clone, Copy)]
-pub enum Step {
-    Part {
-        part_type: u16,
-        flags: u8,
-        selector: u64,
-        start: usize,
-        len: usize,
-    },
-    Cut,
-    End,
+pub struct Part<'a> {
+    pub part_type: u16,
+    pub flags: u8,
+    pub selector: u64,
+    pub start: usize,
+    pub value: &'a [u8],
+}
+
+// A header or a value that runs past the end of its list.
+#[derive(Clone, Copy)]
+pub struct Cut;
+
+// The reader of a list: the list, and a position in it.
+#[derive(Clone, Copy)]
+pub struct PartReader<'a> {
+    form: ListForm,
+    list: &'a [u8],
+    at: usize,
+}
+
+// A reader at the start of a list.
+pub fn read<'a>(form: ListForm, list: &'a [u8]) -> PartReader<'a>
+    ensures { (result.form ≡ form) × (result.list ≡ list.entry) × (result.at ≡ 0) }
+{
+    PartReader { form, list, at: 0 }
 }
 
 // The bytes of the value that follows a header.
@@ -43,91 +60,60 @@ fn value_size(form: ListForm, list: &[u8], at: usize) -> usize
     }
 }
 
-// What stands at a position. A length is compared with the bytes left, so that no sum can overflow.
-fn step_at(form: ListForm, list: &[u8], at: usize) -> Step
-    ensures { result ≡ step_at form list.now at }
+// The part at a position before the end. A length is compared with the bytes left, so that no sum can overflow.
+fn part_at<'a>(form: ListForm, list: &'a [u8], at: usize) -> Result<Part<'a>, Cut>
+    requires { at < length list.now }
+    ensures { Stands form list.now at result }
 {
-    if list.len() <= at {
-        return Step::End;
-    }
     if list.len() - at < HEADER_SIZE {
-        return Step::Cut;
+        return Err(Cut);
     }
     let len = value_size(form, list, at);
     let start = at + HEADER_SIZE;
     if list.len() - start < len {
-        return Step::Cut;
+        return Err(Cut);
     }
     let part_type = wire::read_u16(list, at);
-    Step::Part {
+    Ok(Part {
         part_type,
         flags: list[at + FLAGS_AT],
         selector: inventory::selector_of(part_type, wire::read_u64(list, at + SELECTOR_AT)),
         start,
-        len,
-    }
+        value: &list[start..start + len],
+    })
 }
 
-// The reader of a list: the list, and a position in it.
-#[derive(Clone, Copy)]
-struct PartReader<'a> {
-    list: &'a [u8],
-    at: usize,
-}
+// The parts one after the other. After one that is cut nothing follows.
+impl<'a> Iterator for PartReader<'a> {
+    type Item = Result<Part<'a>, Cut>;
 
-impl<'a> PartReader<'a> {
-    // A reader at the start of a list.
-    fn new(list: &'a [u8]) -> Self
-        ensures { (result.list ≡ list.entry) × (result.at ≡ 0) }
-    {
-        Self { list, at: 0 }
-    }
+    ghost next_gives = { Gives };
 
-    // The reader, moved to another position.
-    fn moved(self, at: usize) -> Self
-        ensures { (result.list ≡ self.entry.list) × (result.at ≡ at) }
-    {
-        Self {
-            list: self.list,
-            at,
+    ghost remaining = { λ s. at_most (length s.list.now - s.at) };
+
+    fn next(&mut self) -> Option<Result<Part<'a>, Cut>> {
+        if self.list.len() <= self.at {
+            return None;
         }
+        let Ok(part) = part_at(self.form, self.list, self.at) else {
+            self.at = self.list.len();
+            return Some(Err(Cut));
+        };
+        self.at = part.start + part.value.len();
+        Some(Ok(part))
     }
-
-    // What stands at the reader's position.
-    fn next(self, form: ListForm) -> Step
-        ensures { result ≡ step_at form self.entry.list.now self.entry.at }
-    {
-        step_at(form, self.list, self.at)
-    }
-}
-
-// What stands at a position, through a reader.
-pub fn next_part(form: ListForm, list: &[u8], at: usize) -> Step
-    ensures { result ≡ step_at form list.now at }
-{
-    PartReader::new(list).moved(at).next(form)
 }
 
 // Whether no header and no value runs past the end.
 pub fn is_whole(form: ListForm, list: &[u8]) -> bool
     ensures { result ≡ whole (parts_of form list.now) }
 {
-    let mut at = 0;
-    loop {
-        match next_part(form, list, at) {
-            Step::End => return true,
-            Step::Cut => return false,
-            Step::Part {
-                part_type: _,
-                flags: _,
-                selector: _,
-                start,
-                len,
-            } => {
-                at = start + len;
-            }
-        }
+    for part in read(form, list) {
+        let Ok(_) = part else {
+            return false;
+        };
     }
+    true
 }
 
 // Whether a part of type u and selector v is the part of type t and selector s.
@@ -144,21 +130,13 @@ pub fn is_same_part(t: u16, s: u64, u: u16, v: u64) -> bool
 pub fn contains(form: ListForm, list: &[u8], t: u16, selector: u64) -> bool
     ensures { result ≡ among t selector (parts_of form list.now) }
 {
-    let mut at = 0;
-    loop {
-        let Step::Part {
-            part_type,
-            flags: _,
-            selector: other,
-            start,
-            len,
-        } = next_part(form, list, at)
-        else {
+    for part in read(form, list) {
+        let Ok(part) = part else {
             return false;
         };
-        if is_same_part(t, selector, part_type, other) {
+        if is_same_part(t, selector, part.part_type, part.selector) {
             return true;
         }
-        at = start + len;
     }
+    false
 }

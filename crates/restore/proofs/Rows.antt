@@ -18,7 +18,7 @@ use Rattle.inventory.specs.Header.{flags_at, selector_at, length_at, header_size
 use Rattle.inventory.proofs.Rules.{length-header, selector-own}
 use Rattle.inventory.proofs.Headers.{read-type, read_flags, read-selector, read-size}
 use Rattle.parts.specs.declared.ListForm.TheVariants.{Parts}
-use Rattle.parts.specs.declared.Step.TheVariants as step
+use Rattle.parts.specs.Step as step
 use Rattle.parts.specs.List.{value_size, step_at, Part, PartList, end, part, part_with, parts_from, parts_of}
 use Rattle.parts.proofs.Walk.{step_end, step-found, header_is, parts-end, parts-part}
 use Rattle.capture.specs.Capture.{All, part_at, asks, part_item, parts_written, capture_of}

@@ -1,4 +1,3 @@
-pub mod Turns
 pub mod Seen
 pub mod Ranks
 pub mod Causes

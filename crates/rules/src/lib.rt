@@ -10,7 +10,7 @@ ghost use Rattle.rules.specs.Rules.{known, asks_known, every, repeated, cause_of
 ghost use Rattle.rules.specs.Ranks.{absent_rank, row_rank, least, cause_at};
 
 use inventory::{DEVICE_FEATURES, ROWS, SIZES};
-use parts::{ListForm, Step};
+use parts::ListForm;
 
 // A part of this type or above is never skipped.
 const NEVER_SKIPPED: u16 = 0x600;
@@ -98,23 +98,15 @@ fn row_rank(size: u8, seen: bool, t: u16, value: &[u8], features: &[u8]) -> u8
 fn every_known(list: &[u8], queues: u8) -> bool
     ensures { result ≡ every (asks_known queues) (parts_of ListForm.Headers list.now) }
 {
-    let mut at = 0;
-    loop {
-        let Step::Part {
-            part_type: t,
-            flags: _,
-            selector,
-            start,
-            len,
-        } = parts::next_part(ListForm::Headers, list, at)
-        else {
+    for header in parts::read(ListForm::Headers, list) {
+        let Ok(header) = header else {
             return true;
         };
-        if !is_known(queues, t, selector) {
+        if !is_known(queues, header.part_type, header.selector) {
             return false;
         }
-        at = start + len;
     }
+    true
 }
 
 // ---- the rules of a list ----
@@ -123,38 +115,29 @@ fn every_known(list: &[u8], queues: u8) -> bool
 fn repeats(form: ListForm, list: &[u8], queues: u8) -> bool
     ensures { result ≡ repeated queues (parts_of form list.now) }
 {
-    let mut at = 0;
+    let mut reader = parts::read(form, list);
     'parts: loop {
-        let Step::Part {
-            part_type,
-            flags: _,
-            selector,
-            start,
-            len,
-        } = parts::next_part(form, list, at)
-        else {
+        let Some(part) = reader.next() else {
             return false;
         };
-        at = start + len;
-        if !is_known(queues, part_type, selector) {
+        let Ok(part) = part else {
+            return false;
+        };
+        if !is_known(queues, part.part_type, part.selector) {
             continue 'parts;
         }
-        let mut rest_at = at;
-        'rest: loop {
-            let Step::Part {
-                part_type: other,
-                flags: _,
-                selector: other_selector,
-                start: other_start,
-                len: other_len,
-            } = parts::next_part(form, list, rest_at)
-            else {
+        'rest: for other in reader {
+            let Ok(other) = other else {
                 break 'rest;
             };
-            if parts::is_same_part(part_type, selector, other, other_selector) {
+            if parts::is_same_part(
+                part.part_type,
+                part.selector,
+                other.part_type,
+                other.selector,
+            ) {
                 break 'parts;
             }
-            rest_at = other_start + other_len;
         }
     }
     true
@@ -196,31 +179,19 @@ pub fn check_list(queues: u8, features: &[u8], list: &[u8]) -> Cause
     let sizes = SIZES;
     let mut seen = [false; ROWS];
     let mut rank = NO_CAUSE;
-    let mut at = 0;
-    loop {
-        match parts::next_part(ListForm::Parts, list, at) {
-            Step::End => return cause_at(rank, list, queues),
-            Step::Cut => return Cause::Cut,
-            Step::Part {
-                part_type: t,
-                flags,
-                selector,
-                start,
-                len,
-            } => {
-                at = start + len;
-                let Some(i) = inventory::place_of(queues, t, selector) else {
-                    rank = least(rank, absent_rank(t, flags));
-                    continue;
-                };
-                rank = least(
-                    rank,
-                    row_rank(sizes[i], seen[i], t, &list[start..at], features),
-                );
-                seen[i] = true;
-            }
-        }
+    for part in parts::read(ListForm::Parts, list) {
+        let Ok(part) = part else {
+            return Cause::Cut;
+        };
+        let t = part.part_type;
+        let Some(i) = inventory::place_of(queues, t, part.selector) else {
+            rank = least(rank, absent_rank(t, part.flags));
+            continue;
+        };
+        rank = least(rank, row_rank(sizes[i], seen[i], t, part.value, features));
+        seen[i] = true;
     }
+    cause_at(rank, list, queues)
 }
 
 // Whether there is no cause to refuse a list.

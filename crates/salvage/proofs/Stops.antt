@@ -13,8 +13,8 @@ use Rattle.theory.proofs.Bytes.{length-bytes_at}
 use Rattle.theory.proofs.Tests.{never}
 use Rattle.inventory.specs.Header.{header_size}
 use Rattle.parts.specs.declared.ListForm.TheVariants.{Parts}
-use Rattle.parts.specs.declared.Step.{Step}
-use Rattle.parts.specs.declared.Step.TheVariants as step
+use Rattle.parts.specs.Step.{Step}
+use Rattle.parts.specs.Step as step
 use Rattle.parts.specs.List.{value_size, header_at, step_at, PartList, part, part_in, parts_from, parts_of, whole}
 use Rattle.parts.proofs.Walk.{step_end, step_part, parts-end, parts_cut, parts-part}
 use Rattle.salvage.specs.Salvage.{bytes_read, left_over}
@@ -68,6 +68,9 @@ stops-from (suc n) l at i h = cases (step_at Parts l at) refl (λ k. stops-from 
     cases step.End e ih =
         let z = end-reached l at e in
         rw (parts-end Parts l at e) (record { inside = omega arith; at-end = λ _. omega arith; at_cut = λ y. cc })
+
+pub read-inside : (l : List ℕ) → bytes_read (parts_of Parts l) ≤ length l
+read-inside l = omega (arith, (stops-from (length l) l 0 (omega arith) (omega arith)).inside)
 
 pub stops-at-cut : StopsAtCut
 stops-at-cut l =

@@ -15,8 +15,8 @@ use Rattle.theory.proofs.Tests.{never, unless-cases}
 use Rattle.wire.proofs.Le.{number-alike}
 use Rattle.inventory.specs.Header.{flags_at, selector_at, length_at, header_size}
 use Rattle.parts.specs.declared.ListForm.TheVariants.{Parts}
-use Rattle.parts.specs.declared.Step.{Step}
-use Rattle.parts.specs.declared.Step.TheVariants as step
+use Rattle.parts.specs.Step.{Step}
+use Rattle.parts.specs.Step as step
 use Rattle.parts.specs.List.{value_size, header_at, step_at, PartList, part, part_in, parts_from, parts_of, whole}
 use Rattle.parts.proofs.Walk.{step_end, step-found, step_part, parts-end, parts_cut, parts-part}
 use Rattle.salvage.specs.Salvage.{bytes_read, left_over}

@@ -8,63 +8,71 @@ use lib.ListN.{length, take, drop}
 use Rattle.theory.specs.Bytes.{bytes_at}
 use Rattle.theory.proofs.Bytes.{length-bytes_at}
 use Rattle.parts.specs.declared.ListForm.TheVariants.{Parts}
-use Rattle.parts.specs.declared.Step.{Step}
-use Rattle.parts.specs.declared.Step.TheVariants as step
-use Rattle.parts.specs.List.{step_at, part_with, part_in, parts_from, parts_of, longest_list}
-use Rattle.parts.proofs.Walk.{Within, step_part}
-use Rattle.parts.proofs.Turns.{NoPart, stopped, opened}
+use Rattle.inventory.specs.Header.{header_size}
+use Rattle.parts.specs.List.{Part, PartList, end, cut, part, part_with, parts_of, longest_list}
 use Rattle.rules.specs.Rules.{features_same}
 use Rattle.salvage.specs.Salvage.{value_right, bytes_read}
 use Rattle.salvage.specs.Walk.{State, taken, walked, Sized, Walked, Begins}
+use Rattle.salvage.proofs.Stops.{read-inside}
 use Rattle.salvage.proofs.Fates.{sized-more, taken-sized}
 
--- s₀ is what there was before the loop, s what there is at a position; a part is at least a byte, so no count is above that
-pub record Walking (q : ℕ) (features l : List ℕ) (s₀ s : State) (at : ℕ) : Type 0 where
+-- s₀ is what there was before the loop, s what there is, at the bytes read so far, and ps the parts that are left; a part is at
+-- least a byte, so no count is above that
+pub record Walking (q : ℕ) (features l : List ℕ) (s₀ s : State) (at : ℕ) (ps : PartList) : Type 0 where
   pub sized : Sized at s
-  pub inside : at ≤ length l
   pub short : length l ≤ longest_list
-  pub leaves : walked q features (parts_of Parts l) s₀ ≡ walked q features (parts_from Parts l at) s
-  pub stops : bytes_read (parts_of Parts l) ≡ at + bytes_read (parts_from Parts l at)
+  pub leaves : walked q features (parts_of Parts l) s₀ ≡ walked q features ps s
+  pub stops : bytes_read (parts_of Parts l) ≡ at + bytes_read ps
 
-pub walking_start : (q : ℕ) (features l : List ℕ) (s : State) → Begins s l → Walking q features l s s 0
-walking_start q features l s h =
-    record { sized = h.sized; inside = omega arith; short = h.short; leaves = refl; stops = sym (zero-add _) }
+pub walking_start : (q : ℕ) (features l : List ℕ) (s : State) → Begins s l → Walking q features l s s 0 (parts_of Parts l)
+walking_start q features l s h = record { sized = h.sized; short = h.short; leaves = refl; stops = sym (zero-add _) }
 
 flags-unread : (q : ℕ) (features : List ℕ) (t f v : ℕ) (x : List ℕ) (s : State)
     → taken q features (part_with t 0 v x) s ≡ taken q features (part_with t f v x) s
 unfolding taken value_right features_same
 flags-unread q features t f v x s = refl
 
-module _ (q : ℕ) (features l : List ℕ) (s₀ s : State) (at : ℕ) (w : Walking q features l s₀ s at) where
+module _ {q : ℕ} {features l : List ℕ} {s₀ s : State} {at : ℕ} {ps : PartList} (w : Walking q features l s₀ s at ps) where
+  inside : at ≤ length l
+  inside = omega (arith, w.stops, read-inside l)
+
   pub walking-room : Sized longest_list s
-  walking-room = sized-more at longest_list s w.sized (omega (arith, w.inside, w.short))
+  walking-room = sized-more at longest_list s w.sized (omega (arith, inside, w.short))
 
-  -- r is what next_part answered
-  module _ (r : Step) (here : r ≡ step_at Parts l at) where
-    pub walking-end : NoPart r → Walked q features l s₀ s at
-    unfolding walked bytes_read
-    walking-end none =
-        record {
-          leaves = sym (w.leaves ∙ stopped Parts l at r here none (λ ps. walked q features ps s) s refl refl);
-          stops = sym (w.stops ∙ rw (stopped Parts l at r here none bytes_read 0 refl refl) (add-zero at));
-          inside = w.inside;
-        }
+  pub walking-end : ps ≡ end → Walked q features l s₀ s at
+  unfolding walked bytes_read
+  walking-end e = record {
+    leaves = sym (w.leaves ∙ rw e);
+    stops = sym (w.stops ∙ rw e (add-zero at));
+    inside = inside;
+  }
 
-    -- s': with the part's value, lent to start + len, taken
-    pub walking_on : (t f v start len : ℕ) (s' : State) → r ≡ step.Part t f v start len
-        → s' ≡ taken q features (part_with t 0 v (take (start + len - start) (drop start l))) s
-        → Walking q features l s₀ s' (start + len)
-    unfolding walked bytes_read
-    walking_on t f v start len s' found told =
-        let i : Within l at start len = step_part Parts l at (sym here ∙ found) in
-        let on = opened Parts l at r here t f v start len found in
-        let next : s' ≡ taken q features (part_in l t f v start len) s =
-        rw add-sub_cancel_left at told ∙ flags-unread q features t f v (bytes_at start len l) s in
-        let n = length-bytes_at start len l i.ends in
+  pub walking_cut : ps ≡ cut → Walked q features l s₀ s at
+  unfolding walked bytes_read
+  walking_cut e = record {
+    leaves = sym (w.leaves ∙ rw e);
+    stops = sym (w.stops ∙ rw e (add-zero at));
+    inside = inside;
+  }
+
+  -- the first part that is left
+  module _ {p : Part} {qs : PartList} (first : ps ≡ part p qs) where
+    read-on : bytes_read (parts_of Parts l) ≡ at + (header_size + length p.value) + bytes_read qs
+    unfolding bytes_read
+    read-on = w.stops ∙ rw first (omega arith)
+
+    pub walking-low : at + (header_size + length p.value) ≤ longest_list
+    walking-low = omega (arith, read-on, read-inside l, w.short)
+
+    -- s': with it taken
+    pub walking_on : {s' : State} → s' ≡ taken q features (part_with p.part_type 0 p.selector p.value) s
+        → Walking q features l s₀ s' (at + (header_size + length p.value)) qs
+    unfolding walked
+    walking_on {s'} told =
+        let next : s' ≡ taken q features p s = told ∙ flags-unread q features p.part_type p.flags p.selector p.value s in
         record {
-          sized = rw next (sized-more (at + 1) (start + len) _ (taken-sized q at features _ s w.sized) (omega (arith, i.starts)));
-          inside = i.ends;
+          sized = rw next (sized-more (at + 1) (at + (header_size + length p.value)) _ (taken-sized q at features _ s w.sized) (omega arith));
           short = w.short;
-          leaves = w.leaves ∙ rw (on, next);
-          stops = w.stops ∙ rw on (omega (arith, i.starts, n));
+          leaves = w.leaves ∙ rw (first, next);
+          stops = read-on;
         }

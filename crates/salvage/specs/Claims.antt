@@ -5,7 +5,7 @@ use Rattle.theory.specs.Logic.{◌and◌, ◌or◌, within}
 use Rattle.theory.specs.Bytes.{same}
 use Rattle.inventory.specs.Inventory.{features_size, row_at, row_count, present, total, part_count}
 use Rattle.parts.specs.declared.ListForm.TheVariants.{Parts}
-use Rattle.parts.specs.declared.Step.TheVariants.{Cut}
+use Rattle.parts.specs.Step.{Cut}
 use Rattle.parts.specs.List.{step_at, PartList, end, cut, part, parts_of, whole, among, value_or}
 use Rattle.rules.specs.Rules.{cause_of, is_accepted}
 use Rattle.salvage.specs.Salvage.{left_over, fresh_value, is_kept_row, repaired, kept_report, dropped_report}

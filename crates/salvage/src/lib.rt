@@ -8,9 +8,9 @@ ghost use Rattle.setups.specs.Member.{member_setup};
 ghost use Rattle.salvage.specs.Salvage.{value_right, salvage, salvaged, is_taken, salvage_of, salvage_under};
 ghost use Rattle.salvage.specs.Walk.{counted, state, taken, Sized, Countable, Walked, Begins, flags_of, KeptFits, Fits};
 
-use inventory::{DEVICE_FEATURES, ROWS, SELECTORS, TYPES};
+use inventory::{DEVICE_FEATURES, HEADER_SIZE, ROWS, SELECTORS, TYPES};
 use member::{FEATURES_SIZE, VALUES_SIZE};
-use parts::{LONGEST_LIST, ListForm, Step};
+use parts::{LONGEST_LIST, ListForm};
 
 // The causes for which parts are dropped, by their place in the report.
 const UNKNOWN: usize = 0;
@@ -90,31 +90,24 @@ fn read_parts(
     requires { Begins (state values.old kept.old dropped.old) damaged.now }
     ensures { Walked queues features.now damaged.now (state values.old kept.old dropped.old) (state values.new kept.new dropped.new) result }
 {
-    let mut at = 0;
-    loop {
-        let Step::Part {
-            part_type,
-            flags: _,
-            selector,
-            start,
-            len,
-        } = parts::next_part(ListForm::Parts, damaged, at)
-        else {
-            return at;
+    let mut stop = 0;
+    for part in parts::read(ListForm::Parts, damaged) {
+        let Ok(part) = part else {
+            return stop;
         };
-        let next = start + len;
         take_part(
             values,
             kept,
             dropped,
             queues,
             features,
-            part_type,
-            selector,
-            &damaged[start..next],
+            part.part_type,
+            part.selector,
+            part.value,
         );
-        at = next;
+        stop += HEADER_SIZE + part.value.len();
     }
+    stop
 }
 
 // For every part of the inventory 1 if its row is kept, else 0.

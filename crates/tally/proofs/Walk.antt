@@ -8,10 +8,9 @@ use lib.ListN.{length, get_or}
 use Rattle.theory.specs.Logic.{◌and◌}
 use Rattle.theory.proofs.Tests.{indicator-le}
 use Rattle.parts.specs.declared.ListForm.TheVariants.{Parts}
-use Rattle.parts.specs.declared.Step.{Step}
-use Rattle.parts.specs.declared.Step.TheVariants as step
-use Rattle.parts.specs.List.{step_at, cut, end, part, part_in, on_step, at_most, parts_from, parts_of, PartList}
-use Rattle.parts.proofs.Turns.{NoPart, stopped, opened}
+use Rattle.parts.specs.Step.{Step}
+use Rattle.parts.specs.Step as step
+use Rattle.parts.specs.List.{step_at, Part, PartList, cut, end, part, part_in, on_step, at_most, parts_from, parts_of}
 use Rattle.rules.specs.Rules.{known}
 use Rattle.tally.specs.Counts.{◌plus◌, Below}
 use Rattle.tally.specs.Rows.{parts_of_type, longest}
@@ -50,18 +49,18 @@ parts-add-few q l = by-type-few (length l) _ (λ t. parts-few q t l)
 
 -- ---- the walk ----
 
-add-part : (q : ℕ) (l : List ℕ) (t f s start len : ℕ) (ps : PartList) → parts_add q (part (part_in l t f s start len) ps) ≡ part_adds q t s plus parts_add q ps
+add-part : (q : ℕ) (p : Part) (ps : PartList) → parts_add q (part p ps) ≡ part_adds q p.part_type p.selector plus parts_add q ps
 unfolding parts_add part_adds by_type parts_of_type ◌plus◌
-add-part q l t f s start len ps = refl
+add-part q p ps = refl
 
--- a₀ the counts before, a now
-pub record Counting (q : ℕ) (l a₀ a : List ℕ) (at : ℕ) : Type 0 where
-  pub rest : a₀ plus parts_add q (parts_of Parts l) ≡ a plus parts_add q (parts_from Parts l at)
+-- a₀ the counts before, a now, ps the parts that are left
+pub record Counting (q : ℕ) (l a₀ a : List ℕ) (ps : PartList) : Type 0 where
+  pub rest : a₀ plus parts_add q (parts_of Parts l) ≡ a plus parts_add q ps
 
-pub counting-start : (q : ℕ) (l a : List ℕ) → Counting q l a a 0
+pub counting-start : (q : ℕ) (l a : List ℕ) → Counting q l a a (parts_of Parts l)
 counting-start q l a = record { rest = refl }
 
-module _ (q : ℕ) (l a₀ a : List ℕ) (at : ℕ) (w : Counting q l a₀ a at) where
+module _ {q : ℕ} {l a₀ a : List ℕ} {ps : PartList} (w : Counting q l a₀ a ps) where
   pub counting-room : Below (2 ^ 62) a₀ → length l ≤ longest → Below (2 ^ 63) a
   counting-room v h = record {
     at = λ i.
@@ -70,26 +69,25 @@ module _ (q : ℕ) (l a₀ a : List ℕ) (at : ℕ) (w : Counting q l a₀ a at)
           v.at i,
           (parts-add-few q l).at i,
           at-plus a₀ (parts_add q (parts_of Parts l)) i,
-          at_least a (parts_add q (parts_from Parts l at)) i,
+          at_least a (parts_add q ps) i,
           ap (λ x. get_or x i 0) w.rest,
         );
   }
 
-  module _ (r : Step) (here : r ≡ step_at Parts l at) where
-    pub counting-on : (t f s start len : ℕ) (b : List ℕ) → r ≡ step.Part t f s start len → b ≡ a plus part_adds q t s
-        → Counting q l a₀ b (start + len)
-    unfolding parts_add part_adds by_type
-    counting-on t f s start len b found e =
-        let p = opened Parts l at r here t f s start len found in
-        record {
-          rest =
-              w.rest ∙ ap (λ x. a plus parts_add q x) p
-              ∙ ap (a plus◌) (add-part q l t f s start len (parts_from Parts l (start + len)))
-              ∙ sym (plus_assoc a (part_adds q t s) (parts_add q (parts_from Parts l (start + len))) (omega arith))
-              ∙ ap (◌plus parts_add q (parts_from Parts l (start + len))) (sym e);
-        }
+  pub counting-on : {p : Part} {qs : PartList} {b : List ℕ} → ps ≡ part p qs → b ≡ a plus part_adds q p.part_type p.selector
+      → Counting q l a₀ b qs
+  unfolding parts_add part_adds by_type
+  counting-on {p} {qs} {b} first e = record {
+    rest =
+        w.rest ∙ rw first (ap (a plus◌) (add-part q p qs))
+        ∙ sym (plus_assoc a (part_adds q p.part_type p.selector) (parts_add q qs) (omega arith))
+        ∙ ap (◌plus parts_add q qs) (sym e);
+  }
 
-    pub counting-end : NoPart r → a ≡ a₀ plus parts_add q (parts_of Parts l)
-    unfolding parts_add by_type parts_of_type
-    counting-end none =
-        sym (w.rest ∙ stopped Parts l at r here none (λ x. a plus parts_add q x) a (plus-zeros a 16) (plus-zeros a 16))
+  pub counting-end : ps ≡ end → a ≡ a₀ plus parts_add q (parts_of Parts l)
+  unfolding parts_add by_type parts_of_type
+  counting-end e = sym (w.rest ∙ rw e (plus-zeros a 16))
+
+  pub counting_cut : ps ≡ cut → a ≡ a₀ plus parts_add q (parts_of Parts l)
+  unfolding parts_add by_type parts_of_type
+  counting_cut e = sym (w.rest ∙ rw e (plus-zeros a 16))

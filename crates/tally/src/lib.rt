@@ -9,7 +9,7 @@ ghost use Rattle.tally.specs.Counts.{◌plus◌, Below};
 ghost use Rattle.tally.specs.Steps.{part_adds, parts_add, contents_add, capture_adds};
 
 use inventory::DEVICE_FEATURES;
-use parts::{ListForm, Step};
+use parts::ListForm;
 use rules::Cause;
 
 pub const LINES: usize = 16;
@@ -60,20 +60,11 @@ fn count_parts(counts: &mut [u64; LINES], queues: u8, capture: &[u8])
     requires { Below (2 ^ 62) counts.old × (length capture.now ≤ longest) }
     ensures { counts.new ≡ counts.old plus parts_add queues (parts_of Parts capture.now) }
 {
-    let mut at = 0;
-    loop {
-        let Step::Part {
-            part_type,
-            flags: _,
-            selector,
-            start,
-            len,
-        } = parts::next_part(ListForm::Parts, capture, at)
-        else {
+    for part in parts::read(ListForm::Parts, capture) {
+        let Ok(part) = part else {
             return;
         };
-        count_part(counts, queues, part_type, selector);
-        at = start + len;
+        count_part(counts, queues, part.part_type, part.selector);
     }
 }
 

@@ -8,7 +8,7 @@ ghost use Rattle.parts.specs.List.{parts_of};
 ghost use Rattle.values.specs.Apply.{storable, stored, applied};
 
 use inventory::FEATURES_ROW;
-use parts::{ListForm, Step};
+use parts::ListForm;
 use protocol::EventRefusal;
 
 // Whether a value can be stored. Device features are never set.
@@ -52,20 +52,10 @@ pub fn apply(values: &mut [u8], queues: u8, list: &[u8])
     requires { length values.old ≡ values_size }
     ensures { values.new ≡ applied queues (parts_of Parts list.now) values.old }
 {
-    let mut at = 0;
-    loop {
-        let Step::Part {
-            part_type,
-            flags: _,
-            selector,
-            start,
-            len,
-        } = parts::next_part(ListForm::Parts, list, at)
-        else {
+    for part in parts::read(ListForm::Parts, list) {
+        let Ok(part) = part else {
             return;
         };
-        let next = start + len;
-        store_part(values, queues, part_type, selector, &list[start..next]);
-        at = next;
+        store_part(values, queues, part.part_type, part.selector, part.value);
     }
 }

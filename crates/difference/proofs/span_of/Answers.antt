@@ -1,22 +1,26 @@
-use mathlib.Core.Path.{refl, sym}
-use Rattle.parts.proofs.Turns.{walk}
-use Rattle.difference.proofs.Places.{span-stop, span-here, span-on}
+use Rattle.std.proofs.Common.{sym}
+use Rattle.theory.specs.Logic.{when◌then◌else◌}
+use Rattle.parts.proofs.Reader.{part_given, moves_given, cut_given}
+use Rattle.difference.specs.Difference.{span_from}
+use Rattle.difference.proofs.Places.{span-on}
 use Rattle.difference.proofs.span_of.Goals as goal
 
-pub loop-part_type-init : goal.loop-part_type-init
-loop-part_type-init c = refl
-
 pub returns-in_default : goal.returns-in_default
-returns-in_default c = search (sym, span-stop)
+unfolding span_from
+returns-in_default c = sym (rw (cut_given c.in-Some.ensures.steps c.in_default.is) at c.loop-part.invariant)
 
 pub returns-then-is_same_part : goal.returns-then-is_same_part
-returns-then-is_same_part c = search (sym, span-here)
+unfolding span_from when◌then◌else◌
+returns-then-is_same_part c =
+    let m = moves_given c.in-Some.ensures.steps c.in-Ok.is in
+    rw m.0
+    (sym (rw (part_given c.in-Some.ensures.steps c.in-Ok.is, ← c.is_same_part.ensures, c.if-is_same_part.true) at c.loop-part.invariant))
 
-pub overflow_add-at : goal.overflow_add-at
-overflow_add-at c = search walk
+pub loop-part-preserved : goal.loop-part-preserved
+loop-part-preserved c =
+    let m = moves_given c.in-Some.ensures.steps c.in-Ok.is in
+    span-on _ _ _ _ _ _ _ _ _ c.loop-part.invariant (part_given c.in-Some.ensures.steps c.in-Ok.is) c.if-is_same_part.ensures m.0 m.1
 
-pub loop-part_type-smaller : goal.loop-part_type-smaller
-loop-part_type-smaller c = search walk
-
-pub loop-part_type-preserved : goal.loop-part_type-preserved
-loop-part_type-preserved c = search span-on
+pub returns : goal.returns
+unfolding span_from
+returns c = sym (rw c.in-None.ensures.steps.first.0 at c.loop-part.invariant)

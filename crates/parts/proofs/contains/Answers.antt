@@ -1,22 +1,23 @@
-use mathlib.Core.Path.{sym}
-use Rattle.theory.proofs.Tests.{or-false}
-use Rattle.parts.proofs.Turns.{walk, among-stop, among-on, among-found}
+use Rattle.std.proofs.Common.{sym}
+use Rattle.theory.proofs.Tests.{true-or, false-or}
+use Rattle.parts.specs.List.{among}
+use Rattle.parts.proofs.Reader.{part_given, cut_given}
 use Rattle.parts.proofs.contains.Goals as goal
 
-pub loop-part_type-init : goal.loop-part_type-init
-loop-part_type-init c = sym (or-false _)
+pub loop-part-preserved : goal.loop-part-preserved
+unfolding among
+loop-part-preserved c =
+    rw (part_given c.in-Some.ensures.steps c.in-Ok.is, ← c.is_same_part.ensures, c.if-is_same_part.false, false-or) at c.loop-part.invariant
 
 pub returns-in_default : goal.returns-in_default
-returns-in_default c = search (sym, among-stop)
+unfolding among
+returns-in_default c = sym (rw (cut_given c.in-Some.ensures.steps c.in_default.is) at c.loop-part.invariant)
 
 pub returns-then-is_same_part : goal.returns-then-is_same_part
-returns-then-is_same_part c = search (sym, among-found)
+unfolding among
+returns-then-is_same_part c =
+    sym (rw (part_given c.in-Some.ensures.steps c.in-Ok.is, ← c.is_same_part.ensures, c.if-is_same_part.true, true-or) at c.loop-part.invariant)
 
-pub overflow_add-at : goal.overflow_add-at
-overflow_add-at c = search walk
-
-pub loop-part_type-smaller : goal.loop-part_type-smaller
-loop-part_type-smaller c = search walk
-
-pub loop-part_type-preserved : goal.loop-part_type-preserved
-loop-part_type-preserved c = search among-on
+pub returns : goal.returns
+unfolding among
+returns c = sym (rw c.in-None.ensures.steps.first.0 at c.loop-part.invariant)

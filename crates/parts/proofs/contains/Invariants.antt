@@ -1,14 +1,8 @@
 -- The loop keeps that the parts that are left answer for the whole list.
-use mathlib.Core.Path.{◌≡◌}
-use mathlib.Core.Bool.{false}
-use Prim.Native.Nat.{◌-◌}
-use lib.ListN.{length}
-use Rattle.theory.specs.Logic.{◌or◌}
-use Rattle.parts.specs.List.{parts_of, parts_from, among}
+use Rattle.std.proofs.Common.{◌≡◌}
+use Rattle.parts.specs.List.{parts_of, among}
+use Rattle.parts.specs.Reader.{left}
 use Rattle.parts.proofs.contains.Given as goal
 
-abbrev pub invariant-loop-part_type : goal.invariant-loop-part_type
-invariant-loop-part_type l = among l.t l.selector (parts_of l.form l.list) ≡ among l.t l.selector (parts_from l.form l.list l.at) or false
-
-abbrev pub decreases-loop-part_type : goal.decreases-loop-part_type
-decreases-loop-part_type l = length l.list - l.at
+abbrev pub invariant-loop-part : goal.invariant-loop-part
+invariant-loop-part l = among l.t l.selector (parts_of l.fn.form l.list) ≡ among l.t l.selector (left l.part-iterator)

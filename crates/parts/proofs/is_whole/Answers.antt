@@ -1,21 +1,16 @@
-use mathlib.Core.Path.{refl, sym}
-use Rattle.parts.proofs.Turns.{walk, whole-on, whole-end, whole-cut}
+use Rattle.std.proofs.Common.{sym}
+use Rattle.parts.specs.List.{whole}
+use Rattle.parts.proofs.Reader.{part_given, cut_given}
 use Rattle.parts.proofs.is_whole.Goals as goal
 
-pub loop-start-init : goal.loop-start-init
-loop-start-init c = refl
+pub loop-part-preserved : goal.loop-part-preserved
+unfolding whole
+loop-part-preserved c = rw (part_given c.in-Some.ensures.steps c.in-Ok.is) at c.loop-part.invariant
 
-pub returns-in-End : goal.returns-in-End
-returns-in-End c = search (sym, whole-end)
+pub returns-in_default : goal.returns-in_default
+unfolding whole
+returns-in_default c = sym (rw (cut_given c.in-Some.ensures.steps c.in_default.is) at c.loop-part.invariant)
 
-pub returns-in-Cut : goal.returns-in-Cut
-returns-in-Cut c = search (sym, whole-cut)
-
-pub overflow_add-at : goal.overflow_add-at
-overflow_add-at c = search walk
-
-pub loop-start-smaller : goal.loop-start-smaller
-loop-start-smaller c = search walk
-
-pub loop-start-preserved : goal.loop-start-preserved
-loop-start-preserved c = search whole-on
+pub returns : goal.returns
+unfolding whole
+returns c = sym (rw c.in-None.ensures.steps.first.0 at c.loop-part.invariant)

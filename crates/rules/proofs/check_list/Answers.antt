@@ -1,29 +1,24 @@
-use borrow.Author.Rules.{rules}
+use Rattle.std.proofs.Common.{rules, sym, ◌∙◌}
 use Rattle.inventory.specs.Inventory.{rows}
 use Rattle.inventory.proofs.Places.{row_in}
-use Rattle.parts.proofs.Turns.{walk}
+use Rattle.parts.proofs.Reader.{part_given, cut_given, selector_given}
 use Rattle.rules.proofs.Seen.{none}
 use Rattle.rules.proofs.Causes.{cause-start, cause-end, cause-cut, cause-absent, cause-row}
 use Rattle.rules.proofs.check_list.Goals as goal
 
-pub loop-t-init : goal.loop-t-init
+pub loop-part-init : goal.loop-part-init
 unfolding none
-loop-t-init c = search cause-start
+loop-part-init c = search (rules, cause-start)
 
-pub returns-in-End : goal.returns-in-End
-returns-in-End c = search cause-end
+pub returns-in_default : goal.returns-in_default
+returns-in_default c = cause-cut _ _ _ _ _ c.loop-part.invariant (cut_given c.in-Some.ensures.steps c.in_default.is)
 
-pub returns-in-Cut : goal.returns-in-Cut
-returns-in-Cut c = search cause-cut
-
-pub overflow_add-at : goal.overflow_add-at
-overflow_add-at c = search walk
-
-pub loop-t-smaller-in_default : goal.loop-t-smaller-in_default
-loop-t-smaller-in_default c = search walk
-
-pub loop-t-preserved-in_default : goal.loop-t-preserved-in_default
-loop-t-preserved-in_default c = search cause-absent
+pub loop-part-preserved-in_default-place_of : goal.loop-part-preserved-in_default-place_of
+loop-part-preserved-in_default-place_of c =
+    let n = selector_given c.in-Some.ensures.steps c.in-Ok.is in
+    rw c.least-rank.ensures
+    (cause-absent _ _ _ _ _ c.loop-part.invariant _ _ _ _ (part_given c.in-Some.ensures.steps c.in-Ok.is) _
+    n.0 n.1 (sym c.in_default-place_of.ensures) c.absent_rank.ensures)
 
 pub bounds-sizes-i : goal.bounds-sizes-i
 bounds-sizes-i c = search (rules, row_in)
@@ -31,18 +26,15 @@ bounds-sizes-i c = search (rules, row_in)
 pub bounds-seen-i : goal.bounds-seen-i
 bounds-seen-i c = search (rules, row_in)
 
-pub slice_bounds-row_rank-start : goal.slice_bounds-row_rank-start
-slice_bounds-row_rank-start c = search walk
+pub bounds-seen-i-in-loop-part : goal.bounds-seen-i-in-loop-part
+bounds-seen-i-in-loop-part c = search (rules, row_in)
 
-pub slice_bounds-row_rank-end : goal.slice_bounds-row_rank-end
-slice_bounds-row_rank-end c = search walk
-
-pub bounds-seen-i-in-Part : goal.bounds-seen-i-in-Part
-bounds-seen-i-in-Part c = search (rules, row_in)
-
-pub loop-t-smaller : goal.loop-t-smaller
-loop-t-smaller c = search walk
-
-pub loop-t-preserved : goal.loop-t-preserved
+pub loop-part-preserved : goal.loop-part-preserved
 unfolding rows
-loop-t-preserved c = search cause-row
+loop-part-preserved c =
+    rw c.least-rank-in-loop-part.ensures
+    (cause-row _ _ _ _ _ c.loop-part.invariant _ _ _ _ (part_given c.in-Some.ensures.steps c.in-Ok.is) _
+    c.in-Some-place_of.i (sym c.in-Some-place_of.ensures) c.row_rank.ensures)
+
+pub returns : goal.returns
+returns c = c.cause_at.ensures ∙ cause-end _ _ _ _ _ c.loop-part.invariant c.in-None.ensures.steps.first.0

@@ -1,42 +1,23 @@
-use mathlib.Core.Path.{refl, sym}
-use borrow.Author.Rules.{rules}
-use Rattle.parts.proofs.Turns.{walk}
-use Rattle.rules.specs.Rules.{asks_known}
-use Rattle.rules.proofs.Turns.{every-stop, every-on, every-out}
+use Rattle.std.proofs.Common.{sym}
+use Rattle.theory.proofs.Tests.{true-and, false-and}
+use Rattle.parts.proofs.Reader.{part_given, cut_given}
+use Rattle.rules.specs.Rules.{every, asks_known}
 use Rattle.rules.proofs.every_known.Goals as goal
 
-pub loop-t-init : goal.loop-t-init
-unfolding asks_known
-loop-t-init c = refl
-
-pub next_part-requires : goal.next_part-requires
-unfolding asks_known
-next_part-requires c = search rules
-
-pub enum_known-t : goal.enum_known-t
-unfolding asks_known
-enum_known-t c = search rules
+pub loop-header-preserved : goal.loop-header-preserved
+unfolding every asks_known
+loop-header-preserved c =
+    rw (part_given c.in-Some.ensures.steps c.in-Ok.is, ← c.is_known.ensures, c.if-not-is_known.false, true-and) at c.loop-header.invariant
 
 pub returns-in_default : goal.returns-in_default
-unfolding asks_known
-returns-in_default c = search (sym, every-stop)
-
-pub is_known-requires : goal.is_known-requires
-unfolding asks_known
-is_known-requires c = search rules
+unfolding every
+returns-in_default c = sym (rw (cut_given c.in-Some.ensures.steps c.in_default.is) at c.loop-header.invariant)
 
 pub returns-then-not-is_known : goal.returns-then-not-is_known
-unfolding asks_known
-returns-then-not-is_known c = search (sym, every-out)
+unfolding every asks_known
+returns-then-not-is_known c =
+    sym (rw (part_given c.in-Some.ensures.steps c.in-Ok.is, ← c.is_known.ensures, c.if-not-is_known.true, false-and) at c.loop-header.invariant)
 
-pub overflow_add-at : goal.overflow_add-at
-unfolding asks_known
-overflow_add-at c = search walk
-
-pub loop-t-smaller : goal.loop-t-smaller
-unfolding asks_known
-loop-t-smaller c = search walk
-
-pub loop-t-preserved : goal.loop-t-preserved
-unfolding asks_known
-loop-t-preserved c = search every-on
+pub returns : goal.returns
+unfolding every
+returns c = sym (rw c.in-None.ensures.steps.first.0 at c.loop-header.invariant)

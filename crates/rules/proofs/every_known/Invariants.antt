@@ -1,14 +1,10 @@
 -- The loop keeps that the headers that are left answer for the whole list.
-use mathlib.Core.Path.{◌≡◌}
-use Prim.Native.Nat.{◌-◌}
-use lib.ListN.{length}
+use Rattle.std.proofs.Common.{◌≡◌}
 use Rattle.parts.specs.declared.ListForm.TheVariants.{Headers}
-use Rattle.parts.specs.List.{parts_of, parts_from}
+use Rattle.parts.specs.List.{parts_of}
+use Rattle.parts.specs.Reader.{left}
 use Rattle.rules.specs.Rules.{every, asks_known}
 use Rattle.rules.proofs.every_known.Given as goal
 
-abbrev pub invariant-loop-t : goal.invariant-loop-t
-invariant-loop-t l = every (asks_known l.queues) (parts_of Headers l.list) ≡ every (asks_known l.queues) (parts_from Headers l.list l.at)
-
-abbrev pub decreases-loop-t : goal.decreases-loop-t
-decreases-loop-t l = length l.list - l.at
+abbrev pub invariant-loop-header : goal.invariant-loop-header
+invariant-loop-header l = every (asks_known l.queues) (parts_of Headers l.list) ≡ every (asks_known l.queues) (left l.header-iterator)

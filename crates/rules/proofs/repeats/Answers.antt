@@ -1,40 +1,44 @@
-use mathlib.Core.Path.{refl, sym}
-use Rattle.parts.proofs.Turns.{walk, among-stop, among-on, among-found}
-use Rattle.rules.proofs.Turns.{repeated-stop, repeated-skip, repeated-rest}
+use Rattle.std.proofs.Common.{sym}
+use Rattle.theory.proofs.Tests.{true-and, false-and, true-or, false-or}
+use Rattle.parts.specs.List.{among}
+use Rattle.parts.proofs.Reader.{part_given, cut_given}
+use Rattle.rules.specs.Rules.{repeated}
 use Rattle.rules.proofs.repeats.Goals as goal
 
-pub parts-init : goal.parts-init
-parts-init c = refl
-
 pub returns-in_default : goal.returns-in_default
-returns-in_default c = search (sym, repeated-stop)
+unfolding repeated
+returns-in_default c = sym (rw c.in_default.ensures.steps.first.0 at c.parts.invariant)
 
-pub overflow_add-at : goal.overflow_add-at
-overflow_add-at c = search walk
-
-pub parts-smaller-then-not-is_known : goal.parts-smaller-then-not-is_known
-parts-smaller-then-not-is_known c = search walk
+pub returns-in_default-part : goal.returns-in_default-part
+unfolding repeated
+returns-in_default-part c = sym (rw (cut_given c.in-Some.ensures.steps c.in_default-part.is) at c.parts.invariant)
 
 pub parts-preserved-then-not-is_known : goal.parts-preserved-then-not-is_known
-parts-preserved-then-not-is_known c = search repeated-skip
+unfolding repeated
+parts-preserved-then-not-is_known c =
+    rw (part_given c.in-Some.ensures.steps c.in-Ok.is, ← c.is_known.ensures, c.if-not-is_known.true, false-and, false-or)
+    at c.parts.invariant
 
 pub rest-init : goal.rest-init
-rest-init c = search repeated-rest
+unfolding repeated
+rest-init c =
+    rw c.into_iter-other-iterator.ensures.into_iter_gives (rw (part_given c.in-Some.ensures.steps c.in-Ok.is, ← c.is_known.ensures, c.if-not-is_known.false, true-and)
+    at c.parts.invariant)
 
-pub parts-smaller : goal.parts-smaller
-parts-smaller c = search walk
+pub parts-preserved-in-None : goal.parts-preserved-in-None
+unfolding among
+parts-preserved-in-None c = rw (c.in-None.ensures.steps.first.0, false-or) at c.rest.invariant
 
 pub parts-preserved : goal.parts-preserved
-parts-preserved c = search among-stop
-
-pub overflow_add-rest_at : goal.overflow_add-rest_at
-overflow_add-rest_at c = search walk
-
-pub rest-smaller : goal.rest-smaller
-rest-smaller c = search walk
+unfolding among
+parts-preserved c = rw (cut_given c.in-Some-other.ensures.steps c.in_default-other.is, false-or) at c.rest.invariant
 
 pub rest-preserved : goal.rest-preserved
-rest-preserved c = search among-on
+unfolding among
+rest-preserved c =
+    rw (part_given c.in-Some-other.ensures.steps c.in-Ok-other.is, ← c.is_same_part.ensures, c.if-is_same_part.false, false-or) at c.rest.invariant
 
 pub returns : goal.returns
-returns c = search (sym, among-found)
+unfolding among
+returns c =
+    sym (rw (part_given c.in-Some-other.ensures.steps c.in-Ok-other.is, ← c.is_same_part.ensures, c.if-is_same_part.true, true-or, true-or) at c.rest.invariant)

@@ -1,11 +1,7 @@
 -- The loop keeps what `Counting` says.
-use Prim.Native.Nat.{◌-◌}
-use lib.ListN.{length}
+use Rattle.parts.specs.Reader.{left}
 use Rattle.tally.proofs.Walk.{Counting}
 use Rattle.tally.proofs.count_parts.Given as goal
 
-abbrev pub invariant-loop-part_type : goal.invariant-loop-part_type
-invariant-loop-part_type l = Counting l.queues l.capture l.initial.counts l.counts l.at
-
-abbrev pub decreases-loop-part_type : goal.decreases-loop-part_type
-decreases-loop-part_type l = length l.capture - l.at
+abbrev pub invariant-loop-part : goal.invariant-loop-part
+invariant-loop-part l = Counting l.queues l.capture l.initial.counts l.counts (left l.part-iterator)

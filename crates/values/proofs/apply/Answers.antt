@@ -1,26 +1,17 @@
-use mathlib.Core.Path.{refl, sym}
-use borrow.Author.Rules.{rules}
-use Rattle.parts.proofs.Turns.{walk}
-use Rattle.values.proofs.Turns.{applied-stop, applied-on}
+use Rattle.std.proofs.Common.{sym, rules}
+use Rattle.parts.proofs.Reader.{part_given, cut_given}
+use Rattle.values.specs.Apply.{applied}
 use Rattle.values.proofs.apply.Goals as goal
 
-pub loop-part_type-init : goal.loop-part_type-init
-loop-part_type-init c = (refl, refl)
-
 pub returns-in_default : goal.returns-in_default
-returns-in_default c = search (sym, applied-stop)
+unfolding applied
+returns-in_default c = sym (rw (cut_given c.in-Some.ensures.steps c.in_default.is) at c.loop-part.invariant.1)
 
-pub overflow_add-next : goal.overflow_add-next
-overflow_add-next c = search walk
+pub loop-part-preserved : goal.loop-part-preserved
+unfolding applied
+loop-part-preserved c =
+    (search rules, rw c.store_part.ensures (rw (part_given c.in-Some.ensures.steps c.in-Ok.is) at c.loop-part.invariant.1))
 
-pub slice_bounds-store_part-start : goal.slice_bounds-store_part-start
-slice_bounds-store_part-start c = search walk
-
-pub slice_bounds-store_part-end : goal.slice_bounds-store_part-end
-slice_bounds-store_part-end c = search walk
-
-pub loop-part_type-smaller : goal.loop-part_type-smaller
-loop-part_type-smaller c = search walk
-
-pub loop-part_type-preserved : goal.loop-part_type-preserved
-loop-part_type-preserved c = search (rules, applied-on)
+pub returns : goal.returns
+unfolding applied
+returns c = sym (rw c.in-None.ensures.steps.first.0 at c.loop-part.invariant.1)
