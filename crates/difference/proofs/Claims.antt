@@ -10,7 +10,7 @@ use Rattle.std.specs.Prelude.{Option, Some, None, is_some}
 use Rattle.theory.specs.Logic.{unless◌answer◌then◌}
 use Rattle.theory.specs.Bytes.{bytes_at}
 use Rattle.theory.proofs.Tests.{by_cases, never}
-use Rattle.inventory.specs.Inventory.{row_at, row_count, features_size, selector_of, place_of, on_place}
+use Rattle.inventory.specs.Inventory.{row_at, row_count, features_size, selector_of, place_of}
 use Rattle.inventory.proofs.Rules.{table, every-row}
 use Rattle.inventory.proofs.Find.{place_found}
 use Rattle.parts.specs.declared.ListForm.TheVariants.{Parts}

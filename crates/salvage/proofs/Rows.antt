@@ -13,7 +13,7 @@ use Rattle.std.specs.Prelude.{Option, Some, None, is_some}
 use Rattle.theory.specs.Logic.{when◌then◌else◌, ◌and◌, ◌or◌}
 use Rattle.theory.proofs.Tests.{by_cases, unless-cases, both, and_i, false-and, and-false, and-true, or-true, or-false, true-or, never, or_assoc, if-same}
 use Rattle.inventory.proofs.Values.{own_value, other-value}
-use Rattle.inventory.specs.Inventory.{row_at, row_count, place_of, on_place, value_of}
+use Rattle.inventory.specs.Inventory.{row_at, row_count, place_of, value_of}
 use Rattle.inventory.proofs.Find.{place_found, rows-distinct}
 use Rattle.parts.specs.List.{Part, PartList, end, cut, part}
 use Rattle.rules.specs.Rules.{known, length_right}

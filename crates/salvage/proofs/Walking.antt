@@ -1,12 +1,10 @@
 -- The loop over a damaged list: the parts that are left, taken after what was, give what the whole list gives. Assumes nothing.
 use mathlib.Core.Path.{◌≡◌, refl, sym, ◌∙◌}
 use mathlib.Core.List.{List}
-use Prim.Native.Nat.{ℕ, ◌+◌, ◌-◌, ◌≤◌}
-use native.Mathlib.Nat.{add-sub_cancel_left, zero-add, add-zero}
+use Prim.Native.Nat.{ℕ, ◌+◌, ◌≤◌}
+use native.Mathlib.Nat.{zero-add, add-zero}
 use native.Mathlib.Omega.{arith}
-use lib.ListN.{length, take, drop}
-use Rattle.theory.specs.Bytes.{bytes_at}
-use Rattle.theory.proofs.Bytes.{length-bytes_at}
+use lib.ListN.{length}
 use Rattle.parts.specs.declared.ListForm.TheVariants.{Parts}
 use Rattle.inventory.specs.Header.{header_size}
 use Rattle.parts.specs.List.{Part, PartList, end, cut, part, part_with, parts_of, longest_list}
