@@ -5,19 +5,14 @@ ghost use Rattle.std.specs.Prelude.{◌≡◌, ◌+◌, ◌≤◌, length};
 ghost use Rattle.theory.specs.Bytes.{put};
 ghost use Rattle.decimal.specs.Decimal.{last_digit, decimal, line};
 
-const DIGIT_ZERO: u8 = 48;
-
-const SPACE: u8 = 32;
-
-const LINE_FEED: u8 = 10;
-
 fn last_digit(n: u64) -> u8
     ensures { result ≡ last_digit n }
 {
-    DIGIT_ZERO + (n % 10) as u8
+    b'0' + (n % 10) as u8
 }
 
 // The digits of n, from a place on. Answers the place after them.
+// It recurses as the definition does: a loop meets the last digit first, and would have to turn the digits round.
 fn put_decimal(out: &mut [u8], at: usize, n: u64) -> usize
     requires { at + length (decimal n) ≤ length out.old }
     ensures { (out.new ≡ put at (decimal n) out.old) × (result ≡ at + length (decimal n)) }
@@ -38,8 +33,8 @@ pub fn put_line(out: &mut [u8], at: usize, name: &[u8], n: u64) -> usize
 {
     wire::copy(out, at, name);
     let space = at + name.len();
-    out[space] = SPACE;
+    out[space] = b' ';
     let end = put_decimal(out, space + 1, n);
-    out[end] = LINE_FEED;
+    out[end] = b'\n';
     end + 1
 }

@@ -67,18 +67,3 @@ module _ (counts : List ℕ) (v : Below (2 ^ 64) counts) (out : List ℕ) (h : s
     pub end-next : (whole : Bool) (r : ℕ) → r ≡ at + length (end_line whole) → r ≡ length (text_of (figures counts whole))
     unfolding text_of
     end-next whole r g = g ∙ rw (e, length-append)
-
--- ---- the end ----
-
-module _ (w : Bool) (at : ℕ) (out after : List ℕ) where
-  pub whole-put : after ≡ put at (end_line true) out → w ≡ true → after ≡ put at (end_line w) out
-  whole-put e h = rw h e
-
-  pub torn-put : after ≡ put at (end_line false) out → w ≡ false → after ≡ put at (end_line w) out
-  torn-put e h = rw h e
-
-pub whole-next : (w : Bool) (at : ℕ) → w ≡ true → at + 10 ≡ at + length (end_line w)
-whole-next w at h = rw h
-
-pub torn-next : (w : Bool) (at : ℕ) → w ≡ false → at + 9 ≡ at + length (end_line w)
-torn-next w at h = rw h
