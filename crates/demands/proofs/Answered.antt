@@ -7,6 +7,7 @@ use native.Mathlib.Omega.{arith}
 use borrow.Author.Tests.{eqb-true, eq-eqb, ne_eqb, leb-true, le-leb, lt-leb}
 use lib.Dec.{leb, eqb}
 use lib.ListN.{length, drop, length-drop}
+use Rattle.std.specs.Prelude.{Option, Some, None}
 use Rattle.theory.specs.Logic.{when◌then◌else◌, unless◌answer◌then◌, ◌and◌}
 use Rattle.theory.specs.Bytes.{bytes_at, put}
 use Rattle.theory.proofs.Tests.{by_cases, unless-cases, both, and_i, inside, within-high}
@@ -17,7 +18,7 @@ use Rattle.card.specs.Sound.{is_sound}
 use Rattle.card.proofs.ConfigurationLaws.{configuration-long, configuration-same, generation-same}
 use Rattle.card.proofs.SoundLaws.{sound-of, sound-has}
 use Rattle.message.specs.declared.Access.{Access}
-use Rattle.message.specs.declared.Access.TheVariants.{Nothing, Read, Write}
+use Rattle.message.specs.declared.Access.TheVariants.{Read, Write}
 use Rattle.message.specs.Format.{msg_id_of, member_for, data_of, length_of, response_of}
 use Rattle.message.specs.Access.{is_request, read_in, write_in, whole_of}
 use Rattle.message.specs.Message.{is_inside, readable, is_applied, next_generation, applied_to, act_of, fitting, access_in, answer_of, delivered, message_of}
@@ -34,7 +35,7 @@ module _ (x : List ℕ) where
   unfolding is_request
   is-request h l = and_i _ _ (and_i _ _ (le-leb _ _ l) (eq-eqb _ _ h.request)) (eq-eqb _ _ h.size)
 
-  whole-read : (d offset n : ℕ) → ReadRequest x d offset n → whole_of x ≡ Read (d + 1) offset n
+  whole-read : (d offset n : ℕ) → ReadRequest x d offset n → whole_of x ≡ Some (Read (d + 1) offset n)
   unfolding whole_of read_in when◌then◌else◌ unless◌answer◌then◌
   whole-read d offset n r =
       let l = r.long in
@@ -48,7 +49,7 @@ module _ (x : List ℕ) where
       )
 
   whole-write : (d sent offset : ℕ) (bs : List ℕ) → WriteRequest x d sent offset bs
-      → whole_of x ≡ Write (d + 1) sent offset (length bs)
+      → whole_of x ≡ Some (Write (d + 1) sent offset (length bs))
   unfolding whole_of write_in when◌then◌else◌ unless◌answer◌then◌
   whole-write d sent offset bs w =
       let l = w.long in
@@ -74,7 +75,7 @@ module _ (x : List ℕ) where
 
   whole-none : ((d offset n : ℕ) → ReadRequest x d offset n → ⊥)
       → ((d sent offset : ℕ) (bs : List ℕ) → WriteRequest x d sent offset bs → ⊥)
-      → whole_of x ≡ Nothing
+      → whole_of x ≡ None
   unfolding whole_of read_in write_in when◌then◌else◌ unless◌answer◌then◌
   whole-none f g =
       by_cases (is_request x)
@@ -111,7 +112,7 @@ module _ (c : List ℕ) (room : ℕ) (y : List ℕ × List ℕ) where
   unfolding fitting unless◌answer◌then◌
   fits_not h = rw (lt-leb _ _ h)
 
-none-fits : (c x : List ℕ) (room : ℕ) → fitting c room (act_of c x Nothing) ≡ (c, [])
+none-fits : (c x : List ℕ) (room : ℕ) → fitting c room (act_of c x None) ≡ (c, [])
 unfolding act_of
 none-fits c x room = fits c room (c, []) (omega arith)
 
@@ -120,11 +121,11 @@ long-response : (c x : List ℕ) (room : ℕ) (y : List ℕ) (g offset : ℕ) (b
     → fitting c room (y, response_of x g offset bs) ≡ (c, [])
 long-response c x room y g offset bs h = fits_not c room (y, response_of x g offset bs) (rw response-long (omega arith))
 
-short-room : (c x : List ℕ) (room : ℕ) → room < 20 → (a : Access) → fitting c room (act_of c x a) ≡ (c, [])
+short-room : (c x : List ℕ) (room : ℕ) → room < 20 → (a : Option Access) → fitting c room (act_of c x a) ≡ (c, [])
 unfolding act_of applied_to
-short-room c x room h Nothing = none-fits c x room
-short-room c x room h (Read m offset n) = long-response c x room c _ offset _ h
-short-room c x room h (Write m sent offset n) =
+short-room c x room h None = none-fits c x room
+short-room c x room h (Some (Read m offset n)) = long-response c x room c _ offset _ h
+short-room c x room h (Some (Write m sent offset n)) =
     unless-cases (λ (y : List ℕ × List ℕ). fitting c room y ≡ (c, [])) _ _ _
     (λ t. long-response c x room c _ offset [] h) (λ t. long-response c x room _ _ offset (data_of x) h)
 
@@ -132,7 +133,7 @@ short-room c x room h (Write m sent offset n) =
 
 module _ (c x : List ℕ) where
   -- nothing is asked where nobody is reached
-  nobody : (Reaches c (number 2 2 x) → ⊥) → is_sound c ≡ true → access_in c x ≡ Nothing
+  nobody : (Reaches c (number 2 2 x) → ⊥) → is_sound c ≡ true → access_in c x ≡ None
   unfolding access_in is_marked ◌and◌ unless◌answer◌then◌
   nobody f s =
       by_cases (is_member c (member_for x))
@@ -169,18 +170,18 @@ module _ (c : List ℕ) (d : ℕ) (r : Reaches c d) (x : List ℕ) (room : ℕ) 
   twelve : length conf ≡ 12
   twelve = configuration-long c (d + 1) (sound-has c (sound-of c r.sound) (d + 1) member-here)
 
-  acted : (a : Access) → number 2 2 x ≡ d → whole_of x ≡ a → answer_of c x room ≡ fitting c room (act_of c x a)
+  acted : (a : Option Access) → number 2 2 x ≡ d → whole_of x ≡ a → answer_of c x room ≡ fitting c room (act_of c x a)
   acted a e w = answer-sound c x room r.sound ∙ ap (λ b. fitting c room (act_of c x b)) (reached c x d r e ∙ w)
 
   -- the answer to an access that leaves the card and has these bytes
-  told : (a : Access) (offset : ℕ) (bs : List ℕ) → number 2 2 x ≡ d → whole_of x ≡ a
+  told : (a : Option Access) (offset : ℕ) (bs : List ℕ) → number 2 2 x ≡ d → whole_of x ≡ a
       → act_of c x a ≡ (c, response_of x current offset bs)
       → 20 + length bs ≤ room → step c (message x room) ≡ (c, responded (response_of x current offset bs))
   unfolding step
   told a offset bs e w y h =
       ap of_message (acted a e w ∙ rw y (fits c room (c, response_of x current offset bs) (rw response-long h)))
 
-  not-told : (a : Access) (y : List ℕ) (g offset : ℕ) (bs : List ℕ) → number 2 2 x ≡ d → whole_of x ≡ a
+  not-told : (a : Option Access) (y : List ℕ) (g offset : ℕ) (bs : List ℕ) → number 2 2 x ≡ d → whole_of x ≡ a
       → act_of c x a ≡ (y, response_of x g offset bs)
       → room < 20 + length bs → step c (message x room) ≡ (c, responded [])
   unfolding step
@@ -188,11 +189,11 @@ module _ (c : List ℕ) (d : ℕ) (r : Reaches c d) (x : List ℕ) (room : ℕ) 
       ap of_message (acted a e w ∙ rw z (fits_not c room (y, response_of x g offset bs) (rw response-long h)))
 
   module _ (offset n : ℕ) (q : ReadRequest x d offset n) where
-    read-inside : offset + n ≤ 12 → act_of c x (Read (d + 1) offset n) ≡ (c, response_of x current offset (bytes_at offset n conf))
+    read-inside : offset + n ≤ 12 → act_of c x (Some (Read (d + 1) offset n)) ≡ (c, response_of x current offset (bytes_at offset n conf))
     unfolding act_of readable is_inside when◌then◌else◌
     read-inside h = rw (le-leb _ 12 h)
 
-    read_past : 12 < offset + n → act_of c x (Read (d + 1) offset n) ≡ (c, response_of x current offset [])
+    read_past : 12 < offset + n → act_of c x (Some (Read (d + 1) offset n)) ≡ (c, response_of x current offset [])
     unfolding act_of readable is_inside when◌then◌else◌
     read_past h = rw (lt-leb _ 12 h)
 
@@ -201,13 +202,13 @@ module _ (c : List ℕ) (d : ℕ) (r : Reaches c d) (x : List ℕ) (room : ℕ) 
 
   module _ (sent offset : ℕ) (bs : List ℕ) (q : WriteRequest x d sent offset bs) where
     write-applied : sent ≡ current → 1 ≤ length bs → offset + length bs ≤ 12
-        → act_of c x (Write (d + 1) sent offset (length bs)) ≡ applied_to c (d + 1) x offset
+        → act_of c x (Some (Write (d + 1) sent offset (length bs))) ≡ applied_to c (d + 1) x offset
     unfolding act_of is_applied is_inside unless◌answer◌then◌
     write-applied e k h =
         rw (and_i _ _ (and_i _ _ (le-leb 1 (length bs) k) (eq-eqb sent current e)) (le-leb (offset + length bs) 12 h))
 
     write-stale : (1 ≤ length bs → sent ≡ current → offset + length bs ≤ 12 → ⊥)
-        → act_of c x (Write (d + 1) sent offset (length bs)) ≡ (c, response_of x current offset [])
+        → act_of c x (Some (Write (d + 1) sent offset (length bs))) ≡ (c, response_of x current offset [])
     unfolding act_of is_applied is_inside unless◌answer◌then◌
     write-stale f =
         by_cases (leb 1 (length bs) and eqb sent current and leb (offset + length bs) 12)
@@ -220,7 +221,7 @@ module _ (c : List ℕ) (d : ℕ) (r : Reaches c d) (x : List ℕ) (room : ℕ) 
   -- an applied write
   module _ (offset : ℕ) (bs : List ℕ) (q : WriteRequest x d current offset bs) (k : 1 ≤ length bs)
       (h : offset + length bs ≤ 12) where
-    applied-as : act_of c x (Write (d + 1) current offset (length bs))
+    applied-as : act_of c x (Some (Write (d + 1) current offset (length bs)))
         ≡ (
           with_configuration c (d + 1) (put offset bs conf) (next_generation current),
           response_of x (next_generation current) offset bs,
@@ -279,7 +280,7 @@ module _ (c : List ℕ) (d : ℕ) (r : Reaches c d) (x : List ℕ) (room : ℕ) 
 
 -- ---- no response ----
 
-bus-outcome : (c x : List ℕ) (room : ℕ) → (is_sound c ≡ true → access_in c x ≡ Nothing) → answer_of c x room ≡ (c, [])
+bus-outcome : (c x : List ℕ) (room : ℕ) → (is_sound c ≡ true → access_in c x ≡ None) → answer_of c x room ≡ (c, [])
 bus-outcome c x room f =
     by_cases (is_sound c)
     (λ s. answer-sound c x room s ∙ rw (f s) (none-fits c x room))
@@ -289,9 +290,9 @@ unsound-outcome : (c x b : List ℕ) → is_sound c ≡ false → message_of c x
 unfolding message_of delivered
 unsound-outcome c x b e = rw (answer-unsound c x (length b) e, put-nil)
 
-none-asked : (c x : List ℕ) → whole_of x ≡ Nothing → access_in c x ≡ Nothing
+none-asked : (c x : List ℕ) → whole_of x ≡ None → access_in c x ≡ None
 unfolding access_in
-none-asked c x e = access-cases c x (λ a. a ≡ Nothing) refl (λ f. e)
+none-asked c x e = access-cases c x (λ a. a ≡ None) refl (λ f. e)
 
 pub messages-answered : MessagesAnswered
 unfolding step

@@ -8,6 +8,7 @@ use native.Mathlib.Omega.{arith}
 use lib.Dec.{leb}
 use lib.ListN.{length}
 use borrow.Author.Tests.{eqb-false}
+use Rattle.std.specs.Prelude.{Option, Some, None}
 use Rattle.theory.specs.Logic.{unless◌answer◌then◌}
 use Rattle.theory.proofs.Tests.{by_cases}
 use Rattle.wire.specs.Le.{le}
@@ -16,7 +17,7 @@ use Rattle.card.specs.Sound.{is_sound}
 use Rattle.card.proofs.RecordBytesLaws.{length-with-bytes, setup-with-bytes}
 use Rattle.card.proofs.RecordLaws.{setup-with-record, record_apart}
 use Rattle.message.specs.declared.Access.{Access}
-use Rattle.message.specs.declared.Access.TheVariants.{Nothing, Read, Write}
+use Rattle.message.specs.declared.Access.TheVariants.{Read, Write}
 use Rattle.message.specs.Format.{member_for}
 use Rattle.message.specs.Access.{whole_of, speaks_for}
 use Rattle.message.specs.Message.{access_in, is_applied, applied_to, act_of, fitting, answer_of}
@@ -46,13 +47,13 @@ module _ (m : ℕ) (low : 1 ≤ m) (c : List ℕ) (whole : length c ≡ card_siz
         ap (mask m) (mask-swap m low c k configuration_at (configuration_size + generation_size) _ (omega arith) l o)
         ∙ mask-mask m low (with_record_bytes c k configuration_at _ _) (rw (length-with-bytes, setup-with-bytes) whole)
 
-  act-alike : (x : List ℕ) (a : Access) → Facts (setup_of c).members x a → speaks_for m a ≡ false → Alike m (act_of (mask m c) x a) (act_of c x a)
+  act-alike : (x : List ℕ) (a : Option Access) → Facts (setup_of c).members x a → speaks_for m a ≡ false → Alike m (act_of (mask m c) x a) (act_of c x a)
   unfolding act_of applied_to speaks_for unless◌answer◌then◌
-  act-alike x Nothing f n = record { says = refl; cards = mask-mask m low c whole }
-  act-alike x (Read k offset j) f n =
+  act-alike x None f n = record { says = refl; cards = mask-mask m low c whole }
+  act-alike x (Some (Read k offset j)) f n =
       let o = eqb-false k m n in
       rw (configuration-unmasked k f.low o, generation-unmasked k f.low o) (record { says = refl; cards = mask-mask m low c whole })
-  act-alike x (Write k sent offset j) f n =
+  act-alike x (Some (Write k sent offset j)) f n =
       let o = eqb-false k m n in
       rw (configuration-unmasked k f.0.low o, generation-unmasked k f.0.low o)
       (by_cases (is_applied (generation_in c k) sent offset j)
@@ -79,4 +80,4 @@ message-alike m low c e x n room =
     rw (answer-sound (mask m c) x room (masked-sound m low c e), answer-sound c x room e, masked-access m low c e x)
     (fitting-alike m low c whole room _ _
     (access-cases c x (λ a. Alike m (act_of (mask m c) x a) (act_of c x a))
-    (act-alike m low c whole x Nothing tt refl) (λ f. act-alike m low c whole x (whole_of x) f n)))
+    (act-alike m low c whole x None tt refl) (λ f. act-alike m low c whole x (whole_of x) f n)))

@@ -2,6 +2,7 @@
 use Rattle.std.proofs.Common.{◌≡◌, ℕ, ◌+◌, ◌-◌, ◌%◌, ◌^◌, ◌<◌, ◌≤◌, Bool, true, false, not, leb, List, length, take, drop, sym, ap, ◌∙◌, arith, length-drop, leb-true}
 use native.Mathlib.Nat.{add-sub_cancel_left}
 use borrow.Author.Tests.{not-true, not-false}
+use Rattle.std.specs.Prelude.{Some}
 use Rattle.theory.specs.Logic.{when◌then◌else◌, unless◌answer◌then◌}
 use Rattle.theory.specs.Bytes.{put}
 use Rattle.theory.proofs.Tests.{by_cases, both}
@@ -103,18 +104,18 @@ module _ (c y l l' : List ℕ) (n : ℕ) (e : (n, l') ≡ sent_in y l) where
 module _ (c x l l' : List ℕ) (m k : ℕ) where
   pub read-acted : (offset n g : ℕ) (all bs : List ℕ) → all ≡ configuration_in c m → bs ≡ readable all offset n → g ≡ generation_in c m
       → (k, l') ≡ sent_in (response_of x g offset bs) l
-      → (k, (c, l')) ≡ delivered (fitting c (length l) (act_of c x (Read m offset n))) l
+      → (k, (c, l')) ≡ delivered (fitting c (length l) (act_of c x (Some (Read m offset n)))) l
   unfolding act_of
   read-acted offset n g all bs ea eb eg e = sent-kept c _ l l' k (e ∙ rw (eb, ea, eg))
 
   module _ (sent offset n g : ℕ) (b : Bool) (eg : g ≡ generation_in c m) (eb : b ≡ is_applied g sent offset n) where
     pub write_kept : b ≡ false → (k, l') ≡ sent_in (response_of x g offset (take (0 - 0) (drop 0 x))) l
-        → (k, (c, l')) ≡ delivered (fitting c (length l) (act_of c x (Write m sent offset n))) l
+        → (k, (c, l')) ≡ delivered (fitting c (length l) (act_of c x (Some (Write m sent offset n)))) l
     unfolding act_of unless◌answer◌then◌
     write_kept h e = rw (← eg, sym eb ∙ h) (sent-kept c _ l l' k e)
 
     pub write-acted : (y : ℕ × (List ℕ × List ℕ)) → b ≡ true → y ≡ delivered (fitting c (length l) (applied_to c m x offset)) l
-        → y ≡ delivered (fitting c (length l) (act_of c x (Write m sent offset n))) l
+        → y ≡ delivered (fitting c (length l) (act_of c x (Some (Write m sent offset n)))) l
     unfolding act_of unless◌answer◌then◌
     write-acted y h e = rw (← eg, sym eb ∙ h) e
 

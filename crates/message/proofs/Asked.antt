@@ -1,10 +1,11 @@
 -- What is known of a message by what it asks: whom it names, and how long it is. Assumes nothing.
 use Rattle.std.proofs.Common.{◌≡◌, ℕ, ◌+◌, ◌<◌, ◌≤◌, Bool, true, List, length, arith, eqb-true, leb-true}
+use Rattle.std.specs.Prelude.{Option, Some, None}
 use Rattle.theory.specs.Logic.{unless◌answer◌then◌}
 use Rattle.theory.proofs.Tests.{if-cases, unless-cases, both, within-high}
 use Rattle.card.specs.Layout.{setup_of}
 use Rattle.message.specs.declared.Access.{Access}
-use Rattle.message.specs.declared.Access.TheVariants.{Nothing, Read, Write}
+use Rattle.message.specs.declared.Access.TheVariants.{Read, Write}
 use Rattle.message.specs.Format.{header_size, dev_num_of, member_for, data_at}
 use Rattle.message.specs.Access.{is_request, read_in, write_in, whole_of}
 use Rattle.message.specs.Message.{access_in}
@@ -16,14 +17,14 @@ pub record Speaks (members : ℕ) (x : List ℕ) (m : ℕ) : Type 0 where
   pub long : header_size ≤ length x
 
 -- what each thing that is asked says of the message
-abbrev pub Facts : ℕ → List ℕ → Access → Type 0
-Facts members x Nothing = Unit {0}
-Facts members x (Read m offset n) = Speaks members x m
-Facts members x (Write m sent offset n) = Speaks members x m × (data_at + n ≡ length x)
+abbrev pub Facts : ℕ → List ℕ → Option Access → Type 0
+Facts members x None = Unit {0}
+Facts members x (Some (Read m offset n)) = Speaks members x m
+Facts members x (Some (Write m sent offset n)) = Speaks members x m × (data_at + n ≡ length x)
 
 module _ (members : ℕ) (x : List ℕ) where
-  guarded : (t : Bool) (a : Access) → (t ≡ true → Facts members x a) → Facts members x (unless t answer Nothing then a)
-  guarded t a f = unless-cases (Facts members x) t Nothing a (λ e. tt) f
+  guarded : (t : Bool) (a : Option Access) → (t ≡ true → Facts members x a) → Facts members x (unless t answer None then a)
+  guarded t a f = unless-cases (Facts members x) t None a (λ e. tt) f
 
   whole-facts : dev_num_of x < members → Facts members x (whole_of x)
   unfolding whole_of is_request read_in write_in
@@ -34,11 +35,11 @@ module _ (members : ℕ) (x : List ℕ) where
 
 module _ (c x : List ℕ) where
   -- nothing is asked of a card, or what the message asks of any
-  pub access-cases : (P : Access → Type 0) → P Nothing → (Facts (setup_of c).members x (whole_of x) → P (whole_of x)) → P (access_in c x)
+  pub access-cases : (P : Option Access → Type 0) → P None → (Facts (setup_of c).members x (whole_of x) → P (whole_of x)) → P (access_in c x)
   unfolding access_in
   access-cases P f g =
       unless-cases P _ _ _ (λ e. f) λ e.
       unless-cases P _ _ _ (λ u. f) (λ u. g (whole-facts _ x (omega (arith, within-high 1 (setup_of c).members (member_for x) e))))
 
-  pub asked : (a : Access) → a ≡ access_in c x → Facts (setup_of c).members x a
+  pub asked : (a : Option Access) → a ≡ access_in c x → Facts (setup_of c).members x a
   asked a e = rw e (access-cases (Facts (setup_of c).members x) tt (λ f. f))

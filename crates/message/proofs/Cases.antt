@@ -1,5 +1,6 @@
 -- A message by its cases: what is here is all that the proofs above use of the definition of `answer_of`. Assumes nothing.
 use Rattle.std.proofs.Common.{◌≡◌, ℕ, ◌+◌, ◌^◌, ◌<◌, ◌≤◌, true, false, leb, List, [], length, sym, refl, ◌∙◌, arith, length-drop, eq-eqb, eqb-true, leb-true}
+use Rattle.std.specs.Prelude.{Option, Some, None}
 use Rattle.theory.specs.Logic.{unless◌answer◌then◌}
 use Rattle.theory.proofs.Tests.{by_cases, if-cases, unless-cases, both, inside, never}
 use Rattle.wire.specs.Le.{bytes, number}
@@ -7,7 +8,7 @@ use Rattle.wire.proofs.Le.{le_bytes}
 use Rattle.card.specs.Layout.{configuration_size, setup_of, is_member, is_marked, generation_in, with_configuration}
 use Rattle.card.specs.Sound.{is_sound}
 use Rattle.message.specs.declared.Access.{Access}
-use Rattle.message.specs.declared.Access.TheVariants.{Nothing, Read, Write}
+use Rattle.message.specs.declared.Access.TheVariants.{Read, Write}
 use Rattle.message.specs.Format.{member_for, data_at, length_of, data_of, response_header, response_fields, response_of}
 use Rattle.message.specs.Access.{read_in, write_in, whole_of, speaks_for}
 use Rattle.message.specs.Message.{is_applied, next_generation, applied_to, act_of, fitting, access_in, answer_of}
@@ -32,14 +33,14 @@ module _ (c x : List ℕ) (room : ℕ) where
 
 -- ---- whom a message names ----
 
-pub speaks-one : (a : Access) (m k : ℕ) → speaks_for m a ≡ true → speaks_for k a ≡ true → m ≡ k
+pub speaks-one : (a : Option Access) (m k : ℕ) → speaks_for m a ≡ true → speaks_for k a ≡ true → m ≡ k
 unfolding speaks_for
-speaks-one Nothing m k e f = never e
-speaks-one (Read j offset n) m k e f = sym (eqb-true j m e) ∙ eqb-true j k f
-speaks-one (Write j sent offset n) m k e f = sym (eqb-true j m e) ∙ eqb-true j k f
+speaks-one None m k e f = never e
+speaks-one (Some (Read j offset n)) m k e f = sym (eqb-true j m e) ∙ eqb-true j k f
+speaks-one (Some (Write j sent offset n)) m k e f = sym (eqb-true j m e) ∙ eqb-true j k f
 
 -- the member that its device number speaks for
-Numbered : ℕ → List ℕ → Access → Type 0
+Numbered : ℕ → List ℕ → Option Access → Type 0
 Numbered m x a = speaks_for m a ≡ true → member_for x ≡ m
 
 speaks-number : (m : ℕ) (x : List ℕ) → speaks_for m (whole_of x) ≡ true → member_for x ≡ m
@@ -66,12 +67,12 @@ answer-marked c x m room u e =
 -- ---- the card after it: the same, or with another configuration and generation of the member that it names ----
 
 module _ (c x : List ℕ) (Q : List ℕ → Type 0) (f : Q c) where
-  act-card : (a : Access) → Facts (setup_of c).members x a
+  act-card : (a : Option Access) → Facts (setup_of c).members x a
       → ((m : ℕ) (y : List ℕ) (g : ℕ) → is_member c m ≡ true → speaks_for m a ≡ true → Q (with_configuration c m y g)) → Q (act_of c x a).0
   unfolding act_of applied_to speaks_for
-  act-card Nothing t h = f
-  act-card (Read m offset n) t h = f
-  act-card (Write m sent offset n) t h =
+  act-card None t h = f
+  act-card (Some (Read m offset n)) t h = f
+  act-card (Some (Write m sent offset n)) t h =
       unless-cases (λ (y : List ℕ × List ℕ). Q y.0) _ _ _ (λ e. f)
       (λ e. h m _ _ (inside 1 _ m t.0.low t.0.high) (eq-eqb m m refl))
 
@@ -101,11 +102,11 @@ applied-some x current sent offset n e t =
 Keeps : List ℕ → List ℕ × List ℕ → Type 0
 Keeps c y = length_of y.1 ≡ 0 → y.0 ≡ c
 
-act-keeps : (c x : List ℕ) (a : Access) → Facts (setup_of c).members x a → Keeps c (act_of c x a)
+act-keeps : (c x : List ℕ) (a : Option Access) → Facts (setup_of c).members x a → Keeps c (act_of c x a)
 unfolding Keeps act_of applied_to
-act-keeps c x Nothing t = λ e. refl
-act-keeps c x (Read m offset n) t = λ e. refl
-act-keeps c x (Write m sent offset n) t =
+act-keeps c x None t = λ e. refl
+act-keeps c x (Some (Read m offset n)) t = λ e. refl
+act-keeps c x (Some (Write m sent offset n)) t =
     unless-cases (Keeps c) _ _ _ (λ u e. refl) λ u e.
     let s = applied-some x (generation_in c m) sent offset n t.1 u in
     absurd (omega (arith, s.0, s.1, response-length x (next_generation (generation_in c m)) offset (data_of x) (omega (arith, s.1))))

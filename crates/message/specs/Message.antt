@@ -1,12 +1,12 @@
 -- A message, whole: SPEC 13.3. What it asks is done to the configuration and the generation of one member, and answered.
 -- Assumes nothing.
-use Rattle.std.specs.Prelude.{ℕ, ◌+◌, ◌%◌, ◌^◌, Bool, not, leb, List, [], length, nat_eq, nat_le}
+use Rattle.std.specs.Prelude.{ℕ, ◌+◌, ◌%◌, ◌^◌, Bool, not, leb, List, [], length, nat_eq, nat_le, Option, Some, None}
 use Rattle.theory.specs.Logic.{when◌then◌else◌, unless◌answer◌then◌, ◌and◌}
 use Rattle.theory.specs.Bytes.{bytes_at, put}
 use Rattle.card.specs.Layout.{configuration_size, is_member, is_marked, configuration_in, generation_in, with_configuration}
 use Rattle.card.specs.Sound.{is_sound}
 use Rattle.message.specs.declared.Access.{Access}
-use Rattle.message.specs.declared.Access.TheVariants.{Nothing, Read, Write}
+use Rattle.message.specs.declared.Access.TheVariants.{Read, Write}
 use Rattle.message.specs.Format.{member_for, data_of, response_of}
 use Rattle.message.specs.Access.{whole_of}
 
@@ -35,10 +35,10 @@ applied_to c m x offset = (
 
 -- The card after a message, and its response: the generation current after it, the offset sent, and what bytes there are. No
 -- response is the bus outcome (02's term)
-unfoldable pub act_of : List ℕ → List ℕ → Access → List ℕ × List ℕ
-act_of c x Nothing = (c, [])
-act_of c x (Read m offset n) = (c, response_of x (generation_in c m) offset (readable (configuration_in c m) offset n))
-act_of c x (Write m sent offset n) =
+unfoldable pub act_of : List ℕ → List ℕ → Option Access → List ℕ × List ℕ
+act_of c x None = (c, [])
+act_of c x (Some (Read m offset n)) = (c, response_of x (generation_in c m) offset (readable (configuration_in c m) offset n))
+act_of c x (Some (Write m sent offset n)) =
     unless is_applied (generation_in c m) sent offset n answer (c, response_of x (generation_in c m) offset []) then
     applied_to c m x offset
 
@@ -48,10 +48,10 @@ fitting c room y = unless leb (length y.1) room answer (c, []) then y
 
 -- what a message asks of a card: its device number is below N, so that its member is one of the card's, and that member
 -- is not marked (SPEC 13.10). Nothing else of a member's record matters
-unfoldable pub access_in : List ℕ → List ℕ → Access
+unfoldable pub access_in : List ℕ → List ℕ → Option Access
 access_in c x =
-    unless is_member c (member_for x) answer Nothing then
-    unless not (is_marked c (member_for x)) answer Nothing then
+    unless is_member c (member_for x) answer None then
+    unless not (is_marked c (member_for x)) answer None then
     whole_of x
 
 -- a message on a card, with room for so many bytes of response: the card after it and the response

@@ -24,11 +24,15 @@ const HEADER_SIZE: usize = 8;
 
 // A read request goes on with offset 4 and length 4; a write request, and a response, with generation 4, offset 4, length 4
 // and the data.
-const READ_LENGTH_AT: usize = HEADER_SIZE + 4;
+const READ_OFFSET_AT: usize = HEADER_SIZE;
+
+const READ_LENGTH_AT: usize = READ_OFFSET_AT + 4;
 
 const READ_SIZE: usize = READ_LENGTH_AT + 4;
 
-const OFFSET_AT: usize = HEADER_SIZE + 4;
+const GENERATION_AT: usize = HEADER_SIZE;
+
+const OFFSET_AT: usize = GENERATION_AT + 4;
 
 const LENGTH_AT: usize = OFFSET_AT + 4;
 
@@ -41,13 +45,21 @@ const SET_CONFIG: u8 = 0x06;
 // The type of a response to a device's request.
 const RESPONSE: u64 = 1;
 
-// What a message asks: nothing that is answered; bytes of a member's configuration, by offset and length; to write them,
-// with the generation that the driver saw. The data stands in the message.
-#[derive(Clone, Copy)]
+// What a message asks: bytes of a member's configuration, or to write them, with the generation that the driver saw. The data
+// stands in the message.
+#[derive(Clone, Copy, Debug, PartialEq, Eq)]
 pub enum Access {
-    Nothing,
-    Read(u64, u32, u32),
-    Write(u64, u32, u32, u32),
+    Read {
+        member: u64,
+        offset: u32,
+        length: u32,
+    },
+    Write {
+        member: u64,
+        generation: u32,
+        offset: u32,
+        length: u32,
+    },
 }
 
 // ---- decode ----
@@ -73,57 +85,57 @@ fn member_of(message: &[u8]) -> u64
     wire::read_u16(message, DEV_NUM_AT) as u64 + 1
 }
 
-fn read_in(message: &[u8]) -> Access
+fn read_in(message: &[u8]) -> Option<Access>
     ensures { result ≡ read_in message.now }
 {
     if message.len() != READ_SIZE {
-        return Access::Nothing;
+        return None;
     }
-    Access::Read(
-        member_of(message),
-        wire::read_u32(message, HEADER_SIZE),
-        wire::read_u32(message, READ_LENGTH_AT),
-    )
+    Some(Access::Read {
+        member: member_of(message),
+        offset: wire::read_u32(message, READ_OFFSET_AT),
+        length: wire::read_u32(message, READ_LENGTH_AT),
+    })
 }
 
 // The data is as long as the length field says.
-fn write_in(message: &[u8]) -> Access
+fn write_in(message: &[u8]) -> Option<Access>
     ensures { result ≡ write_in message.now }
 {
     if message.len() < DATA_AT {
-        return Access::Nothing;
+        return None;
     }
     let length = wire::read_u32(message, LENGTH_AT);
     if message.len() - DATA_AT != length as usize {
-        return Access::Nothing;
+        return None;
     }
-    Access::Write(
-        member_of(message),
-        wire::read_u32(message, HEADER_SIZE),
-        wire::read_u32(message, OFFSET_AT),
+    Some(Access::Write {
+        member: member_of(message),
+        generation: wire::read_u32(message, GENERATION_AT),
+        offset: wire::read_u32(message, OFFSET_AT),
         length,
-    )
+    })
 }
 
 // One whole request of the two kinds, for a device number below N whose member is not marked.
-fn decode(card: &[u8], message: &[u8]) -> Access
+fn decode(card: &[u8], message: &[u8]) -> Option<Access>
     requires { length card.now ≡ card_size (setup_of card.now).members }
     ensures { result ≡ access_in card.now message.now }
 {
     if !is_request(message) {
-        return Access::Nothing;
+        return None;
     }
     let m = member_of(message);
     if !card::is_member(card, m) {
-        return Access::Nothing;
+        return None;
     }
     if card::is_marked(card, m) {
-        return Access::Nothing;
+        return None;
     }
     match message[MSG_ID_AT] {
         GET_CONFIG => read_in(message),
         SET_CONFIG => write_in(message),
-        _ => Access::Nothing,
+        _ => None,
     }
 }
 
@@ -150,7 +162,7 @@ fn write_fields(reply: &mut [u8], generation: u32, offset: u32, n: usize)
     requires { data_at ≤ length reply.old }
     ensures { reply.new ≡ put header_size (response_fields generation offset n) reply.old }
 {
-    wire::write(reply, HEADER_SIZE, 4, generation as u64);
+    wire::write(reply, GENERATION_AT, 4, generation as u64);
     wire::write(reply, OFFSET_AT, 4, offset as u64);
     wire::write(reply, LENGTH_AT, 4, n as u64);
 }
@@ -212,7 +224,7 @@ fn is_applied(current: u32, sent: u32, offset: u32, n: u32) -> bool
 
 fn read_config(card: &[u8], m: u64, offset: u32, n: u32, message: &[u8], reply: &mut [u8]) -> usize
     requires { HasRecord card.now m × (header_size ≤ length message.now) }
-    ensures { (result, (card.now, reply.new)) ≡ delivered (fitting card.now (length reply.old) (act_of card.now message.now (Access.Read m offset n))) reply.old }
+    ensures { (result, (card.now, reply.new)) ≡ delivered (fitting card.now (length reply.old) (act_of card.now message.now (Some (Access.Read m offset n)))) reply.old }
 {
     let bytes = readable(card::configuration(card, m), offset, n);
     write_response(message, card::generation(card, m), offset, bytes, reply)
@@ -243,7 +255,7 @@ fn write_config(
     reply: &mut [u8],
 ) -> usize
     requires { HasRecord card.old m × (data_at + n ≡ length message.now) }
-    ensures { (result, (card.new, reply.new)) ≡ delivered (fitting card.old (length reply.old) (act_of card.old message.now (Access.Write m sent offset n))) reply.old }
+    ensures { (result, (card.new, reply.new)) ≡ delivered (fitting card.old (length reply.old) (act_of card.old message.now (Some (Access.Write m sent offset n)))) reply.old }
 {
     let current = card::generation(card, m);
     if is_applied(current, sent, offset, n) {
@@ -259,9 +271,20 @@ pub fn message(card: &mut [u8], message: &[u8], reply: &mut [u8]) -> usize
     if !card::is_sound(card) {
         return 0;
     }
-    match decode(card, message) {
-        Access::Nothing => 0,
-        Access::Read(m, offset, n) => read_config(card, m, offset, n, message, reply),
-        Access::Write(m, sent, offset, n) => write_config(card, m, sent, offset, n, message, reply),
+    let Some(access) = decode(card, message) else {
+        return 0;
+    };
+    match access {
+        Access::Read {
+            member,
+            offset,
+            length,
+        } => read_config(card, member, offset, length, message, reply),
+        Access::Write {
+            member,
+            generation,
+            offset,
+            length,
+        } => write_config(card, member, generation, offset, length, message, reply),
     }
 }

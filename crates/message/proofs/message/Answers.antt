@@ -15,8 +15,8 @@ read_config-requires c = (search (rules, read-record), search (rules, read-long)
 pub write_config-requires : goal.write_config-requires
 write_config-requires c = (search (rules, write-record), search (rules, write-long))
 
-pub returns-in-Nothing : goal.returns-in-Nothing
-returns-in-Nothing c = search (rules, nothing-asked)
+pub returns-in_default : goal.returns-in_default
+returns-in_default c = search (rules, nothing-asked)
 
 pub returns-in-Read : goal.returns-in-Read
 returns-in-Read c = search (rules, arm-heard)
