@@ -2,12 +2,13 @@
 use mathlib.Core.Path.{◌≡◌, refl, ap, ◌∙◌}
 use mathlib.Core.Bool.{true}
 use mathlib.Core.List.{List}
+use Rattle.std.proofs.Common.{Result, Ok, Err}
 use Prim.Native.Nat.{ℕ, ◌+◌, ◌-◌, ◌*◌, ◌<◌}
 use native.Mathlib.Omega.{arith}
-use borrow.Author.Tests.{eqb-true, eq-eqb, ne_eqb}
+use borrow.Author.Tests.{eqb-true, eq-eqb}
 use lib.Dec.{eqb}
 use lib.ListN.{length, get_or, replicate}
-use Rattle.std.specs.Prelude.{Err, Ok, None}
+use Rattle.std.specs.Prelude.{None}
 use Rattle.theory.specs.Logic.{unless◌answer◌then◌, ◌and◌}
 use Rattle.theory.proofs.Tests.{by_cases, both, and_i}
 use Rattle.theory.proofs.Lists.{get_or-same}
@@ -18,8 +19,9 @@ use Rattle.member.specs.Member.{features_size, fresh_of}
 use Rattle.member.specs.Objects.{lookup_of}
 use Rattle.member.proofs.Record.{fresh-shaped}
 use Rattle.setups.specs.declared.Setup as setups
+use Rattle.setups.specs.declared.ReadRefusal.{ReadRefusal}
 use Rattle.setups.specs.Setup.{in_numbers}
-use Rattle.setups.specs.Reading.{read_number, read_as, read_setup}
+use Rattle.setups.specs.Reading.{read_number, read_setup}
 use Rattle.setups.specs.Accepted.{GoodSetup}
 use Rattle.setups.specs.Claims.{counts_read}
 use Rattle.setups.proofs.Ranges.{numbers-in}
@@ -33,7 +35,7 @@ use Rattle.card.proofs.FreshLaws.{length-fresh, setup-fresh, use-fresh, record-f
 use Rattle.card.proofs.WholeRecordLaws.{whole-member, whole-configuration, whole-generation, whole-holding, record-written}
 use Rattle.card.proofs.CountLaws.{counts-long}
 use Rattle.card.proofs.SoundLaws.{sound-of, sound-long, sound-has}
-use Rattle.events.specs.Events.{setup_with, refused_setup, set_up, set_up_of, set_up_from, numbered, wipe as wipe_of, reset_card}
+use Rattle.events.specs.Events.{setup_with, refused_setup, set_up, set_up_of, set_up_read, set_up_from, numbered, wipe as wipe_of, reset_card}
 use Rattle.events.proofs.Cases.{on-sound}
 use Rattle.demands.specs.Calls.{wipe, card_reset, answered, step}
 use Rattle.demands.specs.Fresh.{FreshMember, FreshCard, SetupDone, SetupFromDone, SetupsDone, ResetsDone}
@@ -109,20 +111,25 @@ module _ (b : List ℕ) (members : ℕ) (q : List ℕ) (gets sets : ℕ) (featur
   }
 
 module _ (b l : List ℕ) where
-  from-read : (s : setups.Setup) → read_setup l ≡ read_as s
+  from-read : (s : setups.Setup) → read_setup l ≡ Ok s
       → set_up_from b l ≡ set_up b s.members (counts_read s) s.gets s.sets s.features
   unfolding set_up_from set_up_of unless◌answer◌then◌
   from-read s e = rw e
 
-  read-good : (s : setups.Setup) → read_setup l ≡ read_as s
+  read-good : (s : setups.Setup) → read_setup l ≡ Ok s
       → GoodSetup s.members (counts_read s) s.gets s.sets s.features
   read-good s e =
-      let r = rw e at (claims.in_range l (rw e)) in
+      let r = claims.in_range l s e in
       numbers-good _ _ _ _ _ (numbers-in _ _ _ _ r.numbers) r.features
 
-  from-refused : (read_number (read_setup l).answer ≡ 0 → ⊥) → set_up_from b l ≡ (Err BadSetup, replicate (length b) 0)
-  unfolding set_up_from refused_setup unless◌answer◌then◌
-  from-refused n = rw (ne_eqb _ 0 n)
+  refused-read : (o : Result setups.Setup ReadRefusal) → (read_number o ≡ 0 → ⊥) → set_up_read b o ≡ (Err BadSetup, replicate (length b) 0)
+  unfolding refused_setup
+  refused-read (Ok s) n = absurd (n refl)
+  refused-read (Err r) n = refl
+
+  from-refused : (read_number (read_setup l) ≡ 0 → ⊥) → set_up_from b l ≡ (Err BadSetup, replicate (length b) 0)
+  unfolding set_up_from
+  from-refused n = refused-read (read_setup l) n
 
   pub from-is-done : SetupFromDone b l
   from-is-done = record {

@@ -2,6 +2,7 @@
 use mathlib.Core.Path.{◌≡◌, refl}
 use mathlib.Core.Bool.{true}
 use mathlib.Core.List.{[], ◌∷◌}
+use Rattle.std.proofs.Common.{Ok}
 use Prim.Native.Nat.{ℕ, ◌+◌, ◌*◌}
 use native.Mathlib.Omega.{arith}
 use lib.ListN.{length, replicate, length-replicate}
@@ -9,7 +10,7 @@ use Rattle.theory.specs.Logic.{when◌then◌else◌, unless◌answer◌then◌,
 use Rattle.theory.specs.Bytes.{put}
 use Rattle.setups.specs.Bits.{bit, bits_at}
 use Rattle.setups.specs.Setup.{no_counts, sixteen, setup_with}
-use Rattle.setups.specs.Reading.{counts_from, setup_at, head_right, is_version1, read_number, read_as, take_version1, read_setup}
+use Rattle.setups.specs.Reading.{counts_from, setup_at, head_right, is_version1, read_number, take_version1, read_setup}
 use Rattle.setups.specs.Accepted.{GoodSetup}
 use Rattle.setups.specs.Examples.{zeros, bench}
 use Rattle.card.specs.Layout.{setup_of, member_in, counts_of}
@@ -53,7 +54,7 @@ short-card = (setup-is-done (7 ∷ []) 1 (4 ∷ []) 8 0 zeros).other_length (λ 
 
 -- ---- packed ----
 
-is_read : read_setup bench ≡ read_as (setup_with 2 (1 ∷ 1 ∷ []) 1 1 zeros)
+is_read : read_setup bench ≡ Ok (setup_with 2 (1 ∷ 1 ∷ []) 1 1 zeros)
 unfolding when◌then◌else◌ unless◌answer◌then◌ ◌and◌ put bit bits_at no_counts sixteen counts_from setup_at head_right
     is_version1 take_version1 read_setup
 is_read = refl
@@ -61,7 +62,7 @@ is_read = refl
 packed-short : numbered (set_up_from (7 ∷ []) bench) ≡ (4, 0 ∷ [])
 packed-short = (from-is-done (7 ∷ []) bench).other_length (setup_with 2 (1 ∷ 1 ∷ []) 1 1 zeros) is_read (λ e. omega arith)
 
-not-read : read_number (read_setup []).answer ≡ 2
+not-read : read_number (read_setup []) ≡ 2
 unfolding when◌then◌else◌ unless◌answer◌then◌ ◌and◌ bit bits_at head_right is_version1 take_version1 read_setup
 not-read = refl
 

@@ -2,9 +2,9 @@
 use mathlib.Core.Path.{◌≡◌, refl, ap, sym, ◌∙◌}
 use mathlib.Core.Bool.{true}
 use mathlib.Core.List.{List, ◌++◌}
-use Prim.Native.Nat.{ℕ, ◌+◌, ◌≤◌, ◌<◌}
+use Prim.Native.Nat.{ℕ, ◌+◌, ◌-◌, ◌≤◌, ◌<◌}
 use native.Mathlib.Omega.{arith}
-use lib.ListN.{length, drop}
+use lib.ListN.{length, get_or, drop}
 use Rattle.theory.specs.Logic.{unless◌answer◌then◌, within}
 use Rattle.theory.proofs.Tests.{by_cases, never, inside, within_low, within-high}
 use Rattle.protocol.specs.declared.Answer.TheVariants.{Done}
@@ -21,9 +21,8 @@ use Rattle.member.specs.Objects.{lookup_of}
 use Rattle.member.specs.Member.{features_in, with_values}
 use Rattle.setups.specs.declared.Setup.{Setup}
 use Rattle.setups.specs.declared.MemberSetup.{MemberSetup}
-use Rattle.setups.specs.declared.ReadOutcome.{ReadOutcome}
-use Rattle.setups.specs.Reading.{no_setup, read_setup}
-use Rattle.setups.specs.Member.{no_member, member_of, member_setup}
+use Rattle.setups.specs.Reading.{read_setup}
+use Rattle.setups.specs.Member.{no_member, member_of, member_read, member_setup}
 use Rattle.setups.proofs.InRange.{read-cases}
 use Rattle.setups.proofs.Member.{member-in-range}
 use Rattle.card.specs.Layout.{in_use_of, member_in, with_member}
@@ -48,22 +47,25 @@ unfolding member_of no_member unless◌answer◌then◌
 known-within s m e = by_cases (within 1 s.members m) (λ y. y) (λ n. never (rw n at e))
 
 known_member : (setup : List ℕ) (m : ℕ) → (member_setup setup m).known ≡ true → HasMember (read_setup setup) m
-unfolding member_setup no_setup
+unfolding member_setup no_member
 known_member setup m =
-    read-cases (λ (o : ReadOutcome). (member_of o.setup m).known ≡ true → HasMember o m) setup
-    (λ k. let t = known-within no_setup m k in absurd (omega (arith, within_low 1 0 m t, within-high 1 0 m t)))
+    read-cases (λ o. (member_read o m).known ≡ true → HasMember o m) setup (λ k. never k)
     (λ s r k.
     let t = known-within s m k in
-    record { read = refl; low = within_low 1 s.members m t; high = within-high 1 s.members m t })
+    record { setup = s; read = refl; low = within_low 1 s.members m t; high = within-high 1 s.members m t })
+
+member-said : (setup : List ℕ) (m : ℕ) (h : HasMember (read_setup setup) m)
+    → member_setup setup m ≡ record { known = true; queues = get_or h.setup.queues (m - 1) 0; features = h.setup.features }
+unfolding member_setup member_of unless◌answer◌then◌
+member-said setup m h = rw (h.read, inside 1 h.setup.members m h.low h.high)
 
 pub members-known : MembersKnown
-unfolding member_setup member_of unless◌answer◌then◌
 members-known setup m =
     record {
-      known = λ h. rw (inside 1 (read_setup setup).setup.members m h.low h.high);
+      known = λ h. ap (λ (y : MemberSetup). y.known) (member-said setup m h);
       only = known_member setup m;
-      queues = λ k. rw (known-within (read_setup setup).setup m k);
-      features = λ k. rw (known-within (read_setup setup).setup m k);
+      queues = λ h. ap (λ (y : MemberSetup). y.queues) (member-said setup m h);
+      features = λ h. ap (λ (y : MemberSetup). y.features) (member-said setup m h);
     }
 
 -- ---- two lists set one after the other, and the list made of them ----

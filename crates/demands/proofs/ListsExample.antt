@@ -11,7 +11,7 @@ use Rattle.capture.proofs.Sizes.{capture-length}
 use Rattle.card.specs.declared.Setup.{Setup}
 use Rattle.setups.specs.declared.MemberSetup.{MemberSetup}
 use Rattle.setups.specs.Bits.{bit, bits_at}
-use Rattle.setups.specs.Setup.{no_counts, sixteen}
+use Rattle.setups.specs.Setup.{no_counts, sixteen, setup_with}
 use Rattle.setups.specs.Reading.{counts_from, setup_at, head_right, is_version1, take_version1, read_setup}
 use Rattle.setups.specs.Member.{member_of, member_setup}
 use Rattle.difference.specs.Difference.{span_from, place_in, has_row, has_rows, verdict_of, on_verdict, lookup_of, lookup_told, merge_of}
@@ -49,7 +49,7 @@ bench-says = refl
 
 member-said : HasMember (read_setup bench) 2
 unfolding model bit bits_at no_counts sixteen counts_from setup_at head_right is_version1 take_version1 read_setup
-member-said = record { read = refl; low = omega arith; high = omega arith }
+member-said = record { setup = setup_with 2 (1 ∷ 1 ∷ []) 1 1 (replicate 16 0); read = refl; low = omega arith; high = omega arith }
 
 alike : Alike target 1 (member_setup bench 1)
 alike =

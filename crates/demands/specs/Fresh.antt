@@ -1,10 +1,10 @@
 -- SETUP AND RESETS, SPEC 7.2 to 7.4: when setup is done, and what is fresh (01's term) after it, after a wipe and after a card
 -- reset. The numbers are those of the papers, apart from the definitions. Examples: ../proofs/FreshExample.antt. Assumes nothing.
-use Rattle.std.specs.Prelude.{◌≡◌, true, false, List, ◌++◌, ℕ, ◌+◌, ◌-◌, ◌*◌, ◌≤◌, ◌<◌, length, get_or, replicate, None}
+use Rattle.std.specs.Prelude.{◌≡◌, Ok, true, false, List, ◌++◌, ℕ, ◌+◌, ◌-◌, ◌*◌, ◌≤◌, ◌<◌, length, get_or, replicate, None}
 use Rattle.protocol.specs.declared.Mode.TheVariants.{Running}
 use Rattle.member.specs.Objects.{lookup_of}
 use Rattle.setups.specs.declared.Setup as setups
-use Rattle.setups.specs.Reading.{read_number, read_as, read_setup}
+use Rattle.setups.specs.Reading.{read_number, read_setup}
 use Rattle.setups.specs.Accepted.{GoodSetup}
 use Rattle.setups.specs.Claims.{counts_read}
 use Rattle.card.specs.Layout.{setup_of, in_use_of, member_in, counts_of, is_marked, configuration_in, generation_in, holding_in}
@@ -50,11 +50,11 @@ pub record SetupDone (b : List ℕ) (members : ℕ) (queues : List ℕ) (gets se
 
 -- The same of the bytes of a packed setup, which is one that is read
 pub record SetupFromDone (b l : List ℕ) : Type 0 where
-  pub done : (s : setups.Setup) → read_setup l ≡ read_as s → length b ≡ 27 + 1266 * s.members
+  pub done : (s : setups.Setup) → read_setup l ≡ Ok s → length b ≡ 27 + 1266 * s.members
       → ((numbered (set_up_from b l)).0 ≡ 0)
       × FreshCard (set_up_from b l).1 s.members (counts_read s) s.gets s.sets s.features 0
-  pub bad : (read_number (read_setup l).answer ≡ 0 → ⊥) → numbered (set_up_from b l) ≡ (4, replicate (length b) 0)
-  pub other_length : (s : setups.Setup) → read_setup l ≡ read_as s → (length b ≡ 27 + 1266 * s.members → ⊥)
+  pub bad : (read_number (read_setup l) ≡ 0 → ⊥) → numbered (set_up_from b l) ≡ (4, replicate (length b) 0)
+  pub other_length : (s : setups.Setup) → read_setup l ≡ Ok s → (length b ≡ 27 + 1266 * s.members → ⊥)
       → numbered (set_up_from b l) ≡ (4, replicate (length b) 0)
 
 pub record SetupsDone : Type 0 where

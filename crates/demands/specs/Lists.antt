@@ -1,6 +1,6 @@
 -- REQUESTS 7 AND 8: what a packed setup says of a member; and, on commands as bytes, lists that were made or salvaged under it are
 -- set in a member of a card. Assumes nothing.
-use Rattle.std.specs.Prelude.{◌≡◌, true, List, [], ℕ, ◌+◌, ◌-◌, ◌≤◌, length, get_or, take, drop, Some}
+use Rattle.std.specs.Prelude.{◌≡◌, Result, Ok, true, List, [], ℕ, ◌+◌, ◌-◌, ◌≤◌, length, get_or, take, drop, Some}
 use Rattle.protocol.specs.declared.Answer.TheVariants.{Done}
 use Rattle.protocol.specs.declared.Mode.TheVariants.{Stopped}
 use Rattle.protocol.specs.declared.ObjectKind.TheVariants.{Get, Set}
@@ -9,8 +9,8 @@ use Rattle.inventory.specs.Inventory.{parts_size}
 use Rattle.parts.specs.List.{longest_list}
 use Rattle.member.specs.Objects.{lookup_of}
 use Rattle.setups.specs.declared.MemberSetup.{MemberSetup}
-use Rattle.setups.specs.declared.ReadOutcome.{ReadOutcome}
-use Rattle.setups.specs.declared.ReadAnswer.TheVariants as reading
+use Rattle.setups.specs.declared.Setup.{Setup}
+use Rattle.setups.specs.declared.ReadRefusal.{ReadRefusal}
 use Rattle.setups.specs.Reading.{read_setup}
 use Rattle.setups.specs.Member.{member_setup}
 use Rattle.card.specs.Layout.{setup_of, in_use_of, is_member, member_in}
@@ -24,18 +24,19 @@ use Rattle.salvage.specs.Salvage.{Salvage, salvage_under}
 use Rattle.demands.specs.RoundTrip.{capture}
 
 -- What was read of a packed setup has member m: it is not refused, and m is 1 to N.
-pub record HasMember (o : ReadOutcome) (m : ℕ) : Type 0 where
-  pub read : o.answer ≡ reading.Done
+pub record HasMember (o : Result Setup ReadRefusal) (m : ℕ) : Type 0 where
+  pub setup : Setup
+  pub read : o ≡ Ok setup
   pub low : 1 ≤ m
-  pub high : m ≤ o.setup.members
+  pub high : m ≤ setup.members
 
 -- What the setup says of m, by which requests 7 and 8 go: m is known exactly if it is a member; its queue count and the device
 -- features are those that were read. Example: ../proofs/ListsExample.antt
 pub record SaysOf (setup : List ℕ) (m : ℕ) : Type 0 where
   pub known : HasMember (read_setup setup) m → (member_setup setup m).known ≡ true
   pub only : (member_setup setup m).known ≡ true → HasMember (read_setup setup) m
-  pub queues : (member_setup setup m).known ≡ true → (member_setup setup m).queues ≡ get_or (read_setup setup).setup.queues (m - 1) 0
-  pub features : (member_setup setup m).known ≡ true → (member_setup setup m).features ≡ (read_setup setup).setup.features
+  pub queues : (h : HasMember (read_setup setup) m) → (member_setup setup m).queues ≡ get_or h.setup.queues (m - 1) 0
+  pub features : (h : HasMember (read_setup setup) m) → (member_setup setup m).features ≡ h.setup.features
 
 abbrev pub MembersKnown : Type 0
 MembersKnown = (setup : List ℕ) (m : ℕ) → SaysOf setup m

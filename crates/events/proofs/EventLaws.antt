@@ -1,13 +1,11 @@
 -- Setup, hand back, wipe, card reset and card store: what the code does, at each return. Assumes nothing.
 use mathlib.Core.Path.{◌≡◌, refl, ap, sym, ◌∙◌}
-use mathlib.Core.Logic.{◌≢◌}
 use mathlib.Core.Bool.{Bool, true, false, not}
 use mathlib.Core.List.{List}
 use Prim.Native.Nat.{ℕ, ◌-◌, ◌≤◌}
 use native.Mathlib.Nat.{sub-zero}
-use native.Mathlib.Omega.{arith}
 use borrow.Author.Rules.{rules}
-use borrow.Author.Tests.{not-true, not-false, eqb-true, eq-eqb, ne_eqb}
+use borrow.Author.Tests.{not-true, not-false, eqb-true}
 use lib.Dec.{eqb}
 use lib.ListN.{length, take, drop, replicate}
 use Rattle.std.specs.Prelude.{⊤, Ok, Err}
@@ -27,15 +25,12 @@ use Rattle.card.specs.declared.Setup.{Setup}
 use Rattle.card.specs.Layout.{card_header_size, card_size, card_bytes, setup_of, is_member, HasRecord, member_in, with_member, is_marked, with_holding, no_bytes, with_fresh, counts_from, counts_of, fresh_card}
 use Rattle.card.specs.Sound.{is_sound}
 use Rattle.setups.specs.declared.Setup as setups
-use Rattle.setups.specs.declared.ReadOutcome.{ReadOutcome}
-use Rattle.setups.specs.declared.ReadAnswer.{ReadAnswer}
-use Rattle.setups.specs.declared.ReadAnswer.TheVariants as reading
 use Rattle.setups.specs.Setup.{most_members, in_ranges, in_numbers}
 use Rattle.setups.specs.Writing.{InNumbers}
-use Rattle.setups.specs.Reading.{read_number, read_setup}
+use Rattle.setups.specs.Reading.{read_setup}
 use Rattle.setups.proofs.Ranges.{numbers-in}
 use Rattle.setups.proofs.Claims.{claims}
-use Rattle.events.specs.Events.{InBounds, setup_with, refused_setup, set_up, set_up_of, set_up_from, member_answer, if_done, on_member, with_handed_back, store_in}
+use Rattle.events.specs.Events.{InBounds, setup_with, refused_setup, set_up, set_up_of, member_answer, if_done, on_member, with_handed_back, store_in}
 use Rattle.card.proofs.SoundLaws.{sound-of, sound-long, sound-has}
 
 -- ---- what a test that held says ----
@@ -110,27 +105,8 @@ unfolding set_up_of
 set-up-by c d x a e = e ∙ rw sub-zero
 
 -- a setup that was read has at most 16 members
-read-few : (l : List ℕ) → (read_setup l).answer ≡ reading.Done → (read_setup l).setup.members ≤ most_members
-read-few l e = (numbers-in _ _ _ _ (claims.in_range l e).numbers).few
-
-number-done : (a : ReadAnswer) → read_number a ≡ 0 → a ≡ reading.Done
-number-done reading.Done e = refl
-number-done reading.Version2 e = absurd (omega arith)
-number-done reading.Refused e = absurd (omega arith)
-
--- a packed setup was read as o, and its answer has the number r
-module _ (c l : List ℕ) (o : ReadOutcome) (r : ℕ) (e : o ≡ read_setup l) (n : r ≡ read_number o.answer) where
-  pub packed-refused : r ≢ 0 → (d : List ℕ) → d ≡ replicate (length c) 0 → (Err BadSetup, d) ≡ set_up_from c l
-  unfolding set_up_from refused_setup
-  packed-refused h d p = stop _ _ _ _ (rw (← e, ← n) (ne_eqb r 0 h)) (ap (λ x. (Err BadSetup, x)) p)
-
-  module _ (h : r ≡ 0) where
-    pub packed-few : o.setup.members ≤ most_members
-    packed-few = rw e (read-few l (rw (← e) (number-done o.answer (sym n ∙ h))))
-
-    pub packed-done : (a : EventAnswer) (d : List ℕ) → (a, d) ≡ set_up_of c o.setup → (a, d) ≡ set_up_from c l
-    unfolding set_up_from
-    packed-done a d p = pass _ _ _ _ (rw (← e, ← n) (eq-eqb r 0 h)) (p ∙ rw e)
+pub read-few : (l : List ℕ) (x : setups.Setup) → Ok x ≡ read_setup l → x.members ≤ most_members
+read-few l x e = (numbers-in _ _ _ _ (claims.in_range l x (sym e)).numbers).few
 
 -- ---- events ----
 

@@ -1,6 +1,6 @@
 -- Setup and the card events (01's term): SPEC 7. Each gives the first answer that applies, and the card after it. Assumes
 -- nothing.
-use Rattle.std.specs.Prelude.{not, List, ℕ, ◌≤◌, eqb, length, take, replicate, Ok, Err}
+use Rattle.std.specs.Prelude.{not, Result, List, ℕ, ◌≤◌, eqb, length, take, replicate, Ok, Err}
 use Rattle.theory.specs.Logic.{unless◌answer◌then◌, ◌and◌}
 use Rattle.protocol.specs.declared.EventRefusal.TheVariants.{NotSound, NoMember, BadSetup, WrongMark}
 use Rattle.protocol.specs.Answers.{EventAnswer, event_number}
@@ -9,10 +9,11 @@ use Rattle.values.specs.Apply.{storable}
 use Rattle.member.specs.Member.{features_size, handed_back, with_part}
 use Rattle.card.specs.declared.Setup.{Setup}
 use Rattle.setups.specs.declared.Setup as setups
+use Rattle.setups.specs.declared.ReadRefusal.{ReadRefusal}
 use Rattle.card.specs.Layout.{card_size, setup_of, is_member, member_in, with_member, counts_of, is_marked, with_holding, no_bytes, with_fresh, fresh_card}
 use Rattle.card.specs.Sound.{is_sound}
 use Rattle.setups.specs.Setup.{in_numbers}
-use Rattle.setups.specs.Reading.{read_number, read_setup}
+use Rattle.setups.specs.Reading.{read_setup}
 
 abbrev pub setup_with : ℕ → ℕ → ℕ → List ℕ → Setup
 setup_with members gets sets features = record { members = members; gets = gets; sets = sets; features = features }
@@ -38,10 +39,12 @@ set_up c members queues gets sets features =
 unfoldable pub set_up_of : List ℕ → setups.Setup → EventAnswer × List ℕ
 set_up_of c s = set_up c s.members (take s.members s.queues) s.gets s.sets s.features
 
+abbrev pub set_up_read : List ℕ → Result setups.Setup ReadRefusal → EventAnswer × List ℕ
+set_up_read c (Ok s) = set_up_of c s
+set_up_read c (Err r) = refused_setup c
+
 unfoldable pub set_up_from : List ℕ → List ℕ → EventAnswer × List ℕ
-set_up_from c l =
-    unless eqb (read_number (read_setup l).answer) 0 answer refused_setup c then
-    set_up_of c (read_setup l).setup
+set_up_from c l = set_up_read c (read_setup l)
 
 -- an event for one member: refused on a card that is not sound, and for a member that it has not got
 unfoldable pub member_answer : List ℕ → ℕ → EventAnswer

@@ -122,14 +122,13 @@ fn set_up_of(card: &mut [u8], s: setups::Setup) -> Result<(), EventRefusal>
 pub fn set_up_from(card: &mut [u8], setup: &[u8]) -> Result<(), EventRefusal>
     ensures { (result, card.new) ≡ set_up_from card.old setup.now }
 {
-    let read = setups::read(setup);
-    let answer = read.answer;
-    if setups::read_number(answer) != 0 {
-        wire::zero(card);
-        return Err(EventRefusal::BadSetup);
+    match setups::read(setup) {
+        Ok(s) => set_up_of(card, s),
+        Err(_) => {
+            wire::zero(card);
+            Err(EventRefusal::BadSetup)
+        }
     }
-    let s = read.setup;
-    set_up_of(card, s)
 }
 
 // ---- events ----

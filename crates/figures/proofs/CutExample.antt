@@ -9,7 +9,6 @@ use Rattle.theory.specs.Bytes.{put}
 use Rattle.wire.specs.Le.{bytes}
 use Rattle.setups.specs.declared.Setup.{Setup}
 use Rattle.setups.specs.Setup.{setup_with}
-use Rattle.setups.specs.Reading.{read_as}
 use Rattle.setups.specs.Examples.{bench, zeros}
 use Rattle.tally.specs.Counts.{◌plus◌}
 use Rattle.tally.specs.Rows.{longest, row_count}
@@ -110,8 +109,8 @@ took-2 : Took (waiting 5) (put 0 chunk1 buffer) chunk2 (taking p3) buffer3
 unfolding every_model
 took-2 =
     setup-whole (waiting 5) (put 0 chunk1 buffer) chunk2 took-1.ready refl (omega arith) buffer2 refl (taking p3) buffer3
-    (open-taken buffer2 length1 refl (read_as setup) refl 0 refl captures.started (taking p3) buffer3 refl
-    (captures-taken 1 zeros captures.started buffer2 length1 p3 buffer3 (half_length refl)) refl)
+    (open-taken buffer2 length1 refl setup captures.started (taking p3) buffer3 refl refl
+    (captures-taken 1 zeros captures.started buffer2 length1 p3 buffer3 (half_length refl)))
 
 whole_length : captures.Took 1 zeros p3 buffer3 length2 p4 buffer4
 unfolding every_model opened

@@ -2,6 +2,7 @@
 use mathlib.Core.Path.{◌≡◌, refl, ap, ◌∙◌}
 use mathlib.Core.Bool.{true, false}
 use mathlib.Core.List.{List, [], ◌∷◌, ◌++◌}
+use Rattle.std.proofs.Common.{Ok}
 use Prim.Native.Nat.{ℕ, zero, suc, ◌+◌, ◌<◌}
 use native.Mathlib.Omega.{arith}
 use lib.ListN.{length, get_or, replicate, length-append, length-replicate}
@@ -10,7 +11,7 @@ use Rattle.wire.specs.Le.{le, bytes, number}
 use Rattle.wire.proofs.Le.{length-bytes}
 use Rattle.setups.specs.declared.Setup.{Setup}
 use Rattle.setups.specs.Setup.{setup_with}
-use Rattle.setups.specs.Reading.{read_as, read_version1}
+use Rattle.setups.specs.Reading.{read_version1}
 use Rattle.setups.specs.Examples.{bench, zeros}
 use Rattle.figures.specs.Encoding.{encoded, Encodable, Left, nothing, in_length, in_capture, Ending, fewer, as_many, Whole}
 use Rattle.figures.specs.Examples.{part_bytes, status}
@@ -19,7 +20,7 @@ use Rattle.figures.proofs.Sheets.{model}
 abbrev setup : Setup
 setup = setup_with 2 (1 ∷ 1 ∷ []) 1 1 zeros
 
-read-bench : read_version1 bench ≡ read_as setup
+read-bench : read_version1 bench ≡ Ok setup
 unfolding model
 read-bench = refl
 

@@ -6,8 +6,7 @@ use Prim.Native.Nat.{ℕ}
 use native.Mathlib.Omega.{arith}
 use lib.ListN.{replicate}
 use Rattle.theory.specs.Bytes.{put}
-use Rattle.setups.specs.declared.ReadAnswer.TheVariants.{Version2}
-use Rattle.setups.specs.Reading.{refused_as}
+use Rattle.setups.specs.declared.ReadRefusal.TheVariants.{Version2}
 use Rattle.tally.specs.Rows.{longest}
 use Rattle.figures.specs.State.{waiting, refused, over, Took}
 use Rattle.figures.specs.Claims.{Fed, none, next}
@@ -35,7 +34,7 @@ unfolding model
 took-second =
     setup-whole (waiting 0) buffer second (however-cut.starts buffer refl) refl (omega arith) (put 0 second buffer) refl refused
     (put 0 second buffer)
-    (open-refused (put 0 second buffer) (0 ∷ []) refl (refused_as Version2) refl 1 refl refused refl (λ e. omega arith))
+    (open-refused (put 0 second buffer) (0 ∷ []) refl Version2 refused refl refl)
 
 fed-second : Fed (waiting 0) buffer (second ∷ []) refused (put 0 second buffer)
 fed-second = next took-second none

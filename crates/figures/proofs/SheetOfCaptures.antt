@@ -2,6 +2,7 @@
 use mathlib.Core.Path.{◌≡◌, refl, ap, sym, ◌∙◌}
 use mathlib.Core.Bool.{Bool, true, false}
 use mathlib.Core.List.{List, [], ◌∷◌, ◌++◌, append-nil}
+use Rattle.std.proofs.Common.{Ok}
 use Prim.Native.Nat.{ℕ, ◌+◌}
 use native.Mathlib.Omega.{arith}
 use lib.ListN.{length, get_or, length-append}
@@ -11,7 +12,7 @@ use Rattle.theory.specs.Items.{items_from}
 use Rattle.theory.proofs.Tests.{by_cases, never}
 use Rattle.decimal.specs.Decimal.{line}
 use Rattle.setups.specs.declared.Setup.{Setup}
-use Rattle.setups.specs.Reading.{read_as, read_version1}
+use Rattle.setups.specs.Reading.{read_version1}
 use Rattle.tally.specs.Rows.{rows}
 use Rattle.sheet.specs.Text.{figures, name_at, number_line, text_of}
 use Rattle.stream.specs.Stream.{is_whole}
@@ -64,7 +65,7 @@ whole-if l cs rest ended f j (fewer h (in_length k m)) n = absurd (n refl)
 whole-if l cs rest ended f j (fewer h (in_capture k m)) n = absurd (n refl)
 whole-if l cs rest ended f j (as_many e) n = absurd (n refl)
 
-module _ (x : List ℕ) (s : Setup) (e : length x ≡ 19) (read : read_version1 x ≡ read_as s) where
+module _ (x : List ℕ) (s : Setup) (e : length x ≡ 19) (read : read_version1 x ≡ Ok s) where
   -- the lines with a number
   abbrev lines : List (List ℕ) → List ℕ
   lines cs = lines_of names (numbers (first_count s) s.features cs)

@@ -1,44 +1,42 @@
 -- The two sheets that 02 gives, by computation, and setups that are refused. Assumes nothing.
 use mathlib.Core.Path.{◌≡◌, refl}
-use mathlib.Core.Logic.{◌≢◌}
 use mathlib.Core.Bool.{true}
 use mathlib.Core.List.{List, [], ◌∷◌}
+use Rattle.std.proofs.Common.{Result, Ok, Err, IsErr}
 use Prim.Native.Nat.{ℕ}
 use lib.ListN.{replicate}
 use Rattle.theory.specs.Logic.{when◌then◌else◌, unless◌answer◌then◌, ◌and◌}
 use Rattle.theory.specs.Bytes.{put}
 use Rattle.setups.specs.Bits.{bit, bits_at}
 use Rattle.setups.specs.Setup.{no_counts, sixteen}
-use Rattle.setups.specs.Reading.{counts_from, setup_at, head_right, is_version1, no_setup, take_version1, read_version1}
+use Rattle.setups.specs.Reading.{counts_from, setup_at, head_right, is_version1, take_version1, read_version1}
 use Rattle.setups.specs.Examples.{bench, zeros}
 use Rattle.setups.specs.declared.Setup.{Setup}
-use Rattle.setups.specs.declared.ReadAnswer.{ReadAnswer}
-use Rattle.setups.specs.declared.ReadAnswer.TheVariants.{Done, Version2, Refused}
+use Rattle.setups.specs.declared.ReadRefusal.{ReadRefusal}
 use Rattle.tally.specs.Rows.{rows, row_count}
 use Rattle.sheet.specs.Text.{figures, text_of}
 use Rattle.stream.specs.Stream.{captures_in, is_whole}
 use Rattle.stream.specs.Totals.{total, totals, figures_of}
-use Rattle.figures.specs.Sheet.{refused_text, sheet_as, sheet_of}
+use Rattle.figures.specs.Sheet.{refused_text, sheet_under, sheet_of}
 use Rattle.figures.specs.Claims.{Sheets}
 
 -- what computes where a proof says `unfolding model`
 unfoldable pub model : Unit {0}
 unfolding when◌then◌else◌ unless◌answer◌then◌ ◌and◌ put bit bits_at no_counts sixteen counts_from setup_at head_right is_version1
-    no_setup take_version1 read_version1 captures_in is_whole total totals figures_of rows sheet_of
+    take_version1 read_version1 captures_in is_whole total totals figures_of rows sheet_of
 model = tt
 
 bare-sheet : sheet_of bench ≡ text_of (figures (replicate row_count 0) true)
 unfolding model
 bare-sheet = refl
 
-not_done : (a : ReadAnswer) (s : Setup) (l : List ℕ) → a ≢ Done → sheet_as a s l ≡ refused_text
-not_done Done s l n = absurd (n refl)
-not_done Version2 s l n = refl
-not_done Refused s l n = refl
+refused_as : (o : Result Setup ReadRefusal) (l : List ℕ) → IsErr o → sheet_under o l ≡ refused_text
+refused_as (Ok s) l e = cc
+refused_as (Err r) l e = refl
 
 pub sheets : Sheets
 unfolding sheet_of
-sheets = record { bare = bare-sheet; refused = λ l n. not_done _ _ _ n }
+sheets = record { bare = bare-sheet; refused = λ l e. refused_as _ _ e }
 
 -- ---- setups that are refused ----
 

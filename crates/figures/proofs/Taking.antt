@@ -1,6 +1,7 @@
 -- What a chunk leaves, in each phase: laws for the needs and returns of the functions. Assumes nothing.
-use mathlib.Core.Path.{◌≡◌, refl, ap, sym, ◌∙◌}
+use mathlib.Core.Path.{◌≡◌, ap, sym, ◌∙◌}
 use mathlib.Core.List.{List, ◌++◌, append_assoc}
+use Rattle.std.proofs.Common.{Result, Ok, Err}
 use Prim.Native.Nat.{ℕ, ◌+◌, ◌-◌, ◌≤◌, ◌<◌}
 use native.Mathlib.Nat.{sub-zero}
 use native.Mathlib.Omega.{arith}
@@ -10,11 +11,9 @@ use Rattle.theory.specs.Bytes.{put}
 use Rattle.theory.proofs.Bytes.{length-put}
 use Rattle.theory.proofs.Lent.{tail-is}
 use Rattle.setups.specs.declared.Setup.{Setup}
-use Rattle.setups.specs.declared.ReadAnswer.{ReadAnswer}
-use Rattle.setups.specs.declared.ReadAnswer.TheVariants.{Done, Version2, Refused}
-use Rattle.setups.specs.declared.ReadOutcome.{ReadOutcome}
+use Rattle.setups.specs.declared.ReadRefusal.{ReadRefusal}
 use Rattle.setups.specs.Setup.{features_size}
-use Rattle.setups.specs.Reading.{read_number, read_version1}
+use Rattle.setups.specs.Reading.{read_version1}
 use Rattle.tally.specs.Rows.{longest}
 use Rattle.sheet.specs.Text.{text_of, sheet_room}
 use Rattle.sheet.proofs.Lines.{text-short}
@@ -24,7 +23,7 @@ use Rattle.stream.specs.Progress as captures
 use Rattle.stream.proofs.Feeding.{counts-fit}
 use Rattle.stream.proofs.Rest.{held_more}
 use Rattle.stream.proofs.Ends.{started-ready, from_start}
-use Rattle.figures.specs.Sheet.{setup_size, refused_text, first_count, sheet_as, sheet_under, sheet_of}
+use Rattle.figures.specs.Sheet.{setup_size, first_count, sheet_under, sheet_of}
 use Rattle.figures.specs.State.{without, waiting, refused, counting, sheet_in, sheet_from, finished_in, finished_of, Standing, Ready, Took, TookBehind}
 use Rattle.figures.specs.declared.Phase.{Phase}
 use Rattle.figures.specs.declared.Phase.TheVariants as phase
@@ -51,16 +50,6 @@ captures-taken q features p b chunk r after t =
 
 -- ---- the setup has come whole ----
 
-refused-as : (a : ReadAnswer) (s : Setup) (l : List ℕ) → (read_number a ≡ 0 → ⊥) → refused_text ≡ sheet_as a s l
-refused-as Done s l h = absurd (h refl)
-refused-as Version2 s l h = refl
-refused-as Refused s l h = refl
-
-taken_as : (a : ReadAnswer) (s : Setup) (l : List ℕ) → read_number a ≡ 0 → sheet_as Done s l ≡ sheet_as a s l
-taken_as Done s l h = refl
-taken_as Version2 s l h = absurd (omega arith)
-taken_as Refused s l h = absurd (omega arith)
-
 -- x is a setup, l what follows it
 pub sheet-behind : (x l : List ℕ) → length x ≡ setup_size → sheet_of (x ++ l) ≡ sheet_under (read_version1 x) l
 unfolding sheet_of
@@ -73,25 +62,24 @@ module _ (b rest : List ℕ) (h : length b ≡ longest) where
   pub open-ready : (q : ℕ) (features : List ℕ) (p : Progress) → p ≡ captures.started → Ready (counting q features p) b
   open-ready q features p e = rw e (counting-ready q features captures.started b (started-ready b h))
 
-  module _ (o : ReadOutcome) (e : o ≡ read_version1 (take setup_size b)) (n : ℕ) (f : n ≡ read_number o.answer) where
-    front : (l : List ℕ) → sheet_under o l ≡ sheet_of (take setup_size b ++ l)
-    front l = rw e (sym (sheet-behind (take setup_size b) l (length-take-le setup_size b setup-room)))
+  front : (o : Result Setup ReadRefusal) → o ≡ read_version1 (take setup_size b) → (l : List ℕ)
+      → sheet_under o l ≡ sheet_of (take setup_size b ++ l)
+  front o e l = rw e (sym (sheet-behind (take setup_size b) l (length-take-le setup_size b setup-room)))
 
-    pub open-refused : (r : State) → r ≡ refused → (n ≡ 0 → ⊥) → TookBehind b rest r b
-    open-refused r z k = rw z (record {
-      ready = without-ready phase.Refused 0 b h tt;
-      same = λ l. refused-as o.answer o.setup (rest ++ l) (λ g. k (f ∙ g)) ∙ front (rest ++ l);
-    })
+  pub open-refused : (x : ReadRefusal) (r : State) → Err x ≡ read_version1 (take setup_size b) → r ≡ refused → TookBehind b rest r b
+  open-refused x r e z = rw z (record {
+    ready = without-ready phase.Refused 0 b h tt;
+    same = λ l. front (Err x) e (rest ++ l);
+  })
 
-    pub open-taken : (p : Progress) (r : State) (after : List ℕ) → p ≡ captures.started
-        → Took (counting (first_count o.setup) o.setup.features p) b rest r after → n ≡ 0 → TookBehind b rest r after
-    open-taken p r after z t k = record {
-      ready = t.ready;
-      same = λ l.
-          t.same l ∙ ap (λ x. sheet_from (counting (first_count o.setup) o.setup.features x) b (rest ++ l)) z
-          ∙ ap text_of (from_start (first_count o.setup) o.setup.features b (rest ++ l))
-          ∙ taken_as o.answer o.setup (rest ++ l) (sym f ∙ k) ∙ front (rest ++ l);
-    }
+  pub open-taken : (s : Setup) (p : Progress) (r : State) (after : List ℕ) → Ok s ≡ read_version1 (take setup_size b)
+      → p ≡ captures.started → Took (counting (first_count s) s.features p) b rest r after → TookBehind b rest r after
+  open-taken s p r after e z t = record {
+    ready = t.ready;
+    same = λ l.
+        t.same l ∙ ap (λ x. sheet_from (counting (first_count s) s.features x) b (rest ++ l)) z
+        ∙ ap text_of (from_start (first_count s) s.features b (rest ++ l)) ∙ front (Ok s) e (rest ++ l);
+  }
 
 -- ---- the phase under way ----
 

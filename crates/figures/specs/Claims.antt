@@ -1,7 +1,6 @@
 -- WHAT IS CLAIMED of a stream and its sheet: 02, request 11. ../proofs/Example.antt has chunks that meet the hypotheses. Assumes
 -- nothing.
-use Rattle.std.specs.Prelude.{◌≡◌, ◌≢◌, true, List, [], ◌∷◌, ◌++◌, ℕ, ◌+◌, length, get_or, take, drop, replicate}
-use Rattle.setups.specs.declared.ReadAnswer.TheVariants.{Done}
+use Rattle.std.specs.Prelude.{◌≡◌, IsErr, true, List, [], ◌∷◌, ◌++◌, ℕ, ◌+◌, length, get_or, take, drop, replicate}
 use Rattle.setups.specs.Reading.{read_version1}
 use Rattle.setups.specs.Examples.{bench}
 use Rattle.tally.specs.Rows.{longest, row_count}
@@ -56,4 +55,4 @@ pub record Sheets : Type 0 where
   pub bare : sheet_of bench ≡ text_of (figures (replicate row_count 0) true)
   -- a setup that the reader of version 1 does not take: `setup refused` alone, whatever follows. Example: version-2 in
   -- ../proofs/Sheets.antt
-  pub refused : (l : List ℕ) → (read_version1 (take setup_size l)).answer ≢ Done → sheet_of l ≡ refused_text
+  pub refused : (l : List ℕ) → IsErr (read_version1 (take setup_size l)) → sheet_of l ≡ refused_text

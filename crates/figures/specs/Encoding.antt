@@ -1,12 +1,12 @@
 -- WHAT IS CLAIMED of a sheet and the captures that it counts, each a plain list of bytes. The numbers, names and words stand
 -- here once more, apart from the definitions that the contracts cite. ../proofs/EncodingExample.antt has streams that meet the
 -- hypotheses. Assumes nothing.
-use Rattle.std.specs.Prelude.{◌≡◌, Bool, true, false, not, List, [], ◌∷◌, ◌++◌, ℕ, ◌+◌, ◌≤◌, ◌<◌, eqb, ltb, length, get_or}
+use Rattle.std.specs.Prelude.{◌≡◌, Ok, Bool, true, false, not, List, [], ◌∷◌, ◌++◌, ℕ, ◌+◌, ◌≤◌, ◌<◌, eqb, ltb, length, get_or}
 use Rattle.theory.specs.Logic.{when◌then◌else◌, ◌and◌, indicator}
 use Rattle.wire.specs.Le.{bytes, number}
 use Rattle.decimal.specs.Decimal.{decimal}
 use Rattle.setups.specs.declared.Setup.{Setup}
-use Rattle.setups.specs.Reading.{read_as, read_version1}
+use Rattle.setups.specs.Reading.{read_version1}
 use Rattle.parts.specs.declared.ListForm.TheVariants.{Parts}
 use Rattle.parts.specs.List.{parts_of}
 use Rattle.rules.specs.declared.Cause.{Cause}
@@ -147,14 +147,14 @@ pub record EndsIn (last text : List ℕ) : Type 0 where
 pub record SheetOfCaptures : Type 0 where
   -- the sheet has the numbers of the captures before the end, and says how the stream ended
   pub sheet : (x : List ℕ) (s : Setup) (cs : List (List ℕ)) (rest : List ℕ) (ended : Bool)
-      → length x ≡ 19 → read_version1 x ≡ read_as s → Encodable cs → Ending 4294967295 cs rest ended
+      → length x ≡ 19 → read_version1 x ≡ Ok s → Encodable cs → Ending 4294967295 cs rest ended
       → sheet_of (x ++ (encoded cs ++ rest)) ≡ lines_of names (numbers (first_count s) s.features cs) ++ last_line ended
   -- there is no other stream
   pub every : (l : List ℕ) → ((i : ℕ) → get_or l i 0 < 256) → Apart 4294967295 l
   -- its last line is `end whole` exactly if it is whole, and else `end torn`
-  pub whole : (x : List ℕ) (s : Setup) (l : List ℕ) → length x ≡ 19 → read_version1 x ≡ read_as s
+  pub whole : (x : List ℕ) (s : Setup) (l : List ℕ) → length x ≡ 19 → read_version1 x ≡ Ok s
       → Whole l → EndsIn end_whole (sheet_of (x ++ l))
-  pub only_whole : (x : List ℕ) (s : Setup) (l : List ℕ) → length x ≡ 19 → read_version1 x ≡ read_as s
+  pub only_whole : (x : List ℕ) (s : Setup) (l : List ℕ) → length x ≡ 19 → read_version1 x ≡ Ok s
       → ((i : ℕ) → get_or l i 0 < 256) → EndsIn end_whole (sheet_of (x ++ l)) → Whole l
-  pub torn : (x : List ℕ) (s : Setup) (l : List ℕ) → length x ≡ 19 → read_version1 x ≡ read_as s
+  pub torn : (x : List ℕ) (s : Setup) (l : List ℕ) → length x ≡ 19 → read_version1 x ≡ Ok s
       → ((i : ℕ) → get_or l i 0 < 256) → (Whole l → ⊥) → EndsIn end_torn (sheet_of (x ++ l))

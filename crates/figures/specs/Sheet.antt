@@ -1,9 +1,7 @@
 -- The sheet of a stream: 02, request 11. Assumes nothing.
-use Rattle.std.specs.Prelude.{List, [], ◌∷◌, ℕ, get_or, take, drop}
+use Rattle.std.specs.Prelude.{Result, Ok, Err, List, [], ◌∷◌, ℕ, get_or, take, drop}
 use Rattle.setups.specs.declared.Setup.{Setup}
-use Rattle.setups.specs.declared.ReadAnswer.{ReadAnswer}
-use Rattle.setups.specs.declared.ReadAnswer.TheVariants.{Done, Version2, Refused}
-use Rattle.setups.specs.declared.ReadOutcome.{ReadOutcome}
+use Rattle.setups.specs.declared.ReadRefusal.{ReadRefusal}
 use Rattle.setups.specs.Reading.{read_version1}
 use Rattle.sheet.specs.Text.{text_of}
 use Rattle.stream.specs.Stream.{most, captures_in}
@@ -23,13 +21,9 @@ abbrev pub first_count : Setup → ℕ
 first_count s = get_or s.queues 0 0
 
 -- the captures behind a setup, by what its reader answers; version 2 is refused, equal counts or not
-abbrev pub sheet_as : ReadAnswer → Setup → List ℕ → List ℕ
-sheet_as Done s l = text_of (figures_of (first_count s) s.features (captures_in most l))
-sheet_as Version2 s l = refused_text
-sheet_as Refused s l = refused_text
-
-abbrev pub sheet_under : ReadOutcome → List ℕ → List ℕ
-sheet_under o l = sheet_as o.answer o.setup l
+abbrev pub sheet_under : Result Setup ReadRefusal → List ℕ → List ℕ
+sheet_under (Ok s) l = text_of (figures_of (first_count s) s.features (captures_in most l))
+sheet_under (Err r) l = refused_text
 
 -- the setup is the first 19 bytes; fewer are no setup
 unfoldable pub sheet_of : List ℕ → List ℕ

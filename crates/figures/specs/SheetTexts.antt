@@ -1,6 +1,5 @@
 -- WHAT IS CLAIMED of sheets byte for byte: the texts of Examples.antt. Assumes nothing.
-use Rattle.std.specs.Prelude.{◌≡◌, ◌≢◌, List, ℕ, take}
-use Rattle.setups.specs.declared.ReadAnswer.TheVariants.{Done}
+use Rattle.std.specs.Prelude.{◌≡◌, IsErr, List, ℕ, take}
 use Rattle.setups.specs.Reading.{read_version1}
 use Rattle.setups.specs.Examples.{bench}
 use Rattle.figures.specs.Sheet.{sheet_of}
@@ -11,6 +10,6 @@ pub record SheetTexts : Type 0 where
   pub bare : sheet_of bench ≡ bare_sheet
   -- a setup that the reader of version 1 does not take: `setup refused` alone, whatever follows. Example: version-2 in
   -- ../proofs/SheetTexts.antt
-  pub refused : (l : List ℕ) → (read_version1 (take 19 l)).answer ≢ Done → sheet_of l ≡ refused_sheet
+  pub refused : (l : List ℕ) → IsErr (read_version1 (take 19 l)) → sheet_of l ≡ refused_sheet
   -- captures of each cause, long and accepted ones: no line has the number of another
   pub every_line : sheet_of every_kind ≡ every_kind_sheet

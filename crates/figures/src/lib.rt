@@ -90,15 +90,14 @@ fn open_captures(buffer: &mut [u8], rest: &[u8]) -> State
     requires { length buffer.old ≡ longest }
     ensures { TookBehind buffer.old rest.now result buffer.new }
 {
-    let outcome = setups::read_version_1(&buffer[0..SETUP_SIZE]);
-    let answer = outcome.answer;
-    if setups::read_number(answer) != 0 {
-        return refuse();
+    match setups::read_version_1(&buffer[0..SETUP_SIZE]) {
+        Ok(setup) => {
+            let queues = setup.queues;
+            let features = setup.features;
+            take_captures(stream::start(), queues[0], features, buffer, rest)
+        }
+        Err(_) => refuse(),
     }
-    let setup = outcome.setup;
-    let queues = setup.queues;
-    let features = setup.features;
-    take_captures(stream::start(), queues[0], features, buffer, rest)
 }
 
 // Bytes of the setup, and what follows it.

@@ -23,7 +23,7 @@ ghost use Rattle.kajurnat.specs.Told.{told};
 ghost use Rattle.kajurnat.specs.SetupTold.{setup_told};
 
 use host::Command;
-use setups::ReadOutcome;
+use setups::{ReadRefusal, Setup};
 
 // Raised whenever a card's bytes change their meaning: a card that was kept is for the same version.
 pub fn kajurnat_version() -> u32
@@ -85,7 +85,7 @@ pub fn kajurnat_setup_write(
 // What was read of a packed setup, in buffers of 16 bytes for the queue counts and the features: 0, or the number of the
 // refusal and nothing written.
 fn tell_setup(
-    read: ReadOutcome,
+    read: Result<Setup, ReadRefusal>,
     members: &mut u8,
     queues: &mut [u8],
     gets: &mut u8,
@@ -94,18 +94,16 @@ fn tell_setup(
 ) -> u8
     ensures { (result, (members.new, (queues.new, (gets.new, (sets.new, features.new))))) ≡ setup_told read members.old queues.old gets.old sets.old features.old }
 {
-    let answer = read.answer;
-    let number = setups::read_number(answer);
-    if number != 0 {
-        return number;
-    }
+    let s = match read {
+        Ok(s) => s,
+        Err(refusal) => return setups::read_number(refusal),
+    };
     if queues.len() != setups::MOST_MEMBERS {
-        return 2;
+        return setups::read_number(ReadRefusal::Malformed);
     }
     if features.len() != setups::FEATURES_SIZE {
-        return 2;
+        return setups::read_number(ReadRefusal::Malformed);
     }
-    let s = read.setup;
     let counts = s.queues;
     let own = s.features;
     *members = s.members;

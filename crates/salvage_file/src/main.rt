@@ -80,17 +80,15 @@ fn read_damaged(rt: &HostRuntime, setup: &[u8], member: u64, queues: u8) -> io::
 }
 
 fn find_member(rt: &HostRuntime, setup: &[u8], path: &[u8]) -> io::Result<()> {
-    let outcome = setups::read(setup);
-    let members = outcome.setup.members;
-    if members == 0 {
+    let Ok(read) = setups::read(setup) else {
         return report::no_setup(&rt.stderr(), path);
-    }
+    };
     let mut text = [0u8; 20];
     let n = input::argument(rt, 2, &mut text);
     let member = input::number(&text[..n]);
     let m = setups::member_setup(setup, member);
     if !m.known {
-        return report::no_member(&rt.stderr(), members);
+        return report::no_member(&rt.stderr(), read.members);
     }
     read_damaged(rt, setup, member, m.queues)
 }

@@ -1,20 +1,22 @@
 -- The claims hold. Assumes nothing.
 use mathlib.Core.Path.{◌≡◌, refl, ap, sym}
 use mathlib.Core.List.{List}
+use Rattle.std.proofs.Common.{Ok, Err}
 use Prim.Native.Nat.{ℕ, ◌≤◌}
 use native.Mathlib.Omega.{arith}
 use lib.Dec.{eqb}
 use lib.ListN.{length, take, length-append}
 use lib.Seq.{take_at}
 use Rattle.theory.specs.Logic.{when◌then◌else◌}
-use Rattle.theory.proofs.Tests.{by_cases, never}
+use Rattle.theory.proofs.Tests.{by_cases}
 use Rattle.theory.proofs.Bytes.{put_front, drop-after}
-use Rattle.setups.specs.declared.ReadAnswer.TheVariants.{Done, Version2}
+use Rattle.setups.specs.declared.Setup.{Setup}
+use Rattle.setups.specs.declared.ReadRefusal.TheVariants.{Version2}
 use Rattle.setups.specs.Reading.{version_in, read_version1, read_setup}
 use Rattle.setups.specs.Writing.{packed_setup, written}
-use Rattle.setups.specs.Claims.{ReadsBack, InRange, Claims}
+use Rattle.setups.specs.Claims.{ReadsBack, Claims}
 use Rattle.setups.proofs.ReadBack.{reads-back, reads-version-1}
-use Rattle.setups.proofs.InRange.{read-cases}
+use Rattle.setups.proofs.InRange.{read-cases, in-range}
 use Rattle.setups.proofs.Member.{member-in-range}
 use Rattle.setups.proofs.Accepted.{written-cases, writes, reads}
 use Rattle.setups.proofs.WrittenBack.{written_back}
@@ -46,19 +48,12 @@ module _ (buffer : List ℕ) (members : ℕ) (q : List ℕ) (gets sets : ℕ) (f
 
 -- ---- the readers ----
 
-read_alike : (l : List ℕ) → (read_version1 l).answer ≡ Done → read_setup l ≡ read_version1 l
+read_alike : (l : List ℕ) (s : Setup) → read_version1 l ≡ Ok s → read_setup l ≡ Ok s
 unfolding read_version1 read_setup when◌then◌else◌
-read_alike l e = by_cases (eqb (version_in l) 2) (λ t. let d = rw t at e in cc) (λ t. rw t)
+read_alike l s e = by_cases (eqb (version_in l) 2) (λ t. let d = rw t at e in cc) (λ t. rw t (rw t at e))
 
-never-named : (l : List ℕ) → (read_setup l).answer ≡ Version2 → ⊥
-never-named l =
-    read-cases (λ o. o.answer ≡ Version2 → ⊥) l (λ e. never cc)
-    (λ s r e. never cc)
-
-in-range : (l : List ℕ) → (read_setup l).answer ≡ Done → InRange (read_setup l).setup
-in-range l =
-    read-cases (λ o. o.answer ≡ Done → InRange o.setup) l (λ e. never cc)
-    (λ s r e. r)
+never-named : (l : List ℕ) → read_setup l ≡ Err Version2 → ⊥
+never-named l = read-cases (λ o. o ≡ Err Version2 → ⊥) l (λ e. cc) (λ s r e. cc)
 
 pub claims : Claims
 claims = record {

@@ -2,6 +2,7 @@
 use mathlib.Core.Path.{◌≡◌, refl, ap}
 use mathlib.Core.Bool.{true}
 use mathlib.Core.List.{List}
+use Rattle.std.proofs.Common.{Result, Ok, Err}
 use Prim.Native.Nat.{ℕ, zero, suc, ◌+◌, ◌≤◌}
 use native.Mathlib.Omega.{arith}
 use borrow.Author.Tests.{eq-eqb}
@@ -10,11 +11,11 @@ use lib.Seq.{take_at}
 use Rattle.theory.proofs.Tests.{both, and_i, inside, if-cases, unless-cases}
 use Rattle.theory.proofs.Bytes.{put_front}
 use Rattle.setups.specs.declared.Setup.{Setup}
-use Rattle.setups.specs.declared.ReadOutcome.{ReadOutcome}
-use Rattle.setups.specs.declared.ReadAnswer.TheVariants.{Refused}
+use Rattle.setups.specs.declared.ReadRefusal.{ReadRefusal}
+use Rattle.setups.specs.declared.ReadRefusal.TheVariants.{Malformed}
 use Rattle.setups.specs.Bits.{bits_at}
 use Rattle.setups.specs.Setup.{most_members, features_size, in_ranges, all, is_count, in_numbers, no_counts, sixteen}
-use Rattle.setups.specs.Reading.{members_in, counts_from, setup_at, head_right, is_version1, is_version2, read_as, refused_as, take_version1, take_version2, read_setup}
+use Rattle.setups.specs.Reading.{members_in, counts_from, setup_at, head_right, is_version1, is_version2, take_version1, take_version2, read_setup}
 use Rattle.setups.specs.Claims.{InRange}
 use Rattle.setups.proofs.Fields.{bits_below}
 use Rattle.setups.proofs.Reading.{version-1-long, version-2-long}
@@ -57,9 +58,12 @@ pub version-2-in-range : (l : List ℕ) → is_version2 (members_in l) l ≡ tru
 unfolding is_version2
 version-2-in-range l t = setup-in-range l 24 2 (both _ _ (both _ _ (both _ _ t).0).0).1 (version-2-long l t)
 
-pub read-cases : (P : ReadOutcome → Type 0) (l : List ℕ) → P (refused_as Refused) → ((s : Setup) → InRange s → P (read_as s)) → P (read_setup l)
+pub read-cases : (P : Result Setup ReadRefusal → Type 0) (l : List ℕ) → P (Err Malformed) → ((s : Setup) → InRange s → P (Ok s)) → P (read_setup l)
 unfolding read_setup take_version1 take_version2
 read-cases P l x f =
     if-cases P _ _ _
     (λ e. unless-cases P _ _ _ (λ t. x) (λ t. f _ (version-2-in-range l t)))
     (λ e. unless-cases P _ _ _ (λ t. x) (λ t. f _ (version-1-in-range l t)))
+
+pub in-range : (l : List ℕ) (s : Setup) → read_setup l ≡ Ok s → InRange s
+in-range l s = read-cases (λ o. o ≡ Ok s → InRange s) l (λ e. cc) (λ x r e. let d : x ≡ s = cc in rw d at r)

@@ -2,6 +2,7 @@
 use mathlib.Core.Path.{◌≡◌, refl, ap, sym, ◌∙◌}
 use mathlib.Core.Bool.{true}
 use mathlib.Core.List.{List, [], ◌∷◌, ◌++◌, map}
+use Rattle.std.proofs.Common.{Ok, Err}
 use Prim.Native.Nat.{ℕ, suc, ◌+◌, ◌-◌, ◌*◌, ◌/◌, ◌%◌, ◌≤◌}
 use native.Mathlib.Nat.{add-zero}
 use native.Mathlib.Omega.{arith}
@@ -13,10 +14,10 @@ use lib.Seq.{drop_at}
 use Rattle.theory.specs.Logic.{when◌then◌else◌}
 use Rattle.theory.proofs.Tests.{by_cases, and_i, both, within_low}
 use Rattle.theory.proofs.Ladder.{is_le, pass}
-use Rattle.setups.specs.declared.ReadAnswer.TheVariants.{Version2}
+use Rattle.setups.specs.declared.ReadRefusal.TheVariants.{Version2}
 use Rattle.setups.specs.Bits.{bits_at, Field, field, widths, packed}
 use Rattle.setups.specs.Setup.{features_size, all, is_count, setup_with}
-use Rattle.setups.specs.Reading.{count_bytes, padding, counts_from, setup_at, head_right, is_version1, is_version2, read_as, refused_as, take_version1, take_version2, read_version1, read_setup}
+use Rattle.setups.specs.Reading.{count_bytes, padding, counts_from, setup_at, head_right, is_version1, is_version2, take_version1, take_version2, read_version1, read_setup}
 use Rattle.setups.specs.Writing.{head_fields, count_field, count_fields, first_count, are_equal, fields_of, packed_setup, InNumbers}
 use Rattle.setups.proofs.Ranges.{count_less}
 use Rattle.setups.proofs.Fields.{length-big, Fit, Reads, packed-reads}
@@ -124,7 +125,7 @@ module _ (members : ℕ) (q : List ℕ) (gets sets : ℕ) (h : InNumbers members
   version-1-head : Head (packed fields1 ++ features) 1 members (first_count q - 1) gets sets []
   version-1-head = head-is 1 (first_count q - 1) (omega arith) (count_less (first_count q) (first-count members q gets sets h)) Fit.none (rw widths-head)
 
-  version-1-read : all (eqb (first_count q)) q ≡ true → take_version1 (packed fields1 ++ features) ≡ read_as (setup_with members q gets sets features)
+  version-1-read : all (eqb (first_count q)) q ≡ true → take_version1 (packed fields1 ++ features) ≡ Ok (setup_with members q gets sets features)
   unfolding take_version1 is_version1
   version-1-read e =
       let a = version-1-head in
@@ -132,7 +133,7 @@ module _ (members : ℕ) (q : List ℕ) (gets sets : ℕ) (h : InNumbers members
       let c = count-read (packed fields1 ++ features) 8 (first_count q) q e (omega (arith, a.count-is)) in
       let t : is_version1 (packed fields1 ++ features) ≡ true =
       and_i _ _ (and_i _ _ (eq-eqb _ _ a.version-is) (eq-eqb _ _ (whole_long fields1 ∙ rw widths-head))) (head-right fields1 a) in
-      sym (pass _ _ _ _ t (ap read_as (sym (setup-is fields1 a 8 0 c))))
+      sym (pass _ _ _ _ t (ap Ok (sym (setup-is fields1 a 8 0 c))))
 
   -- others, as version 2
   abbrev fields2 : List Field
@@ -144,7 +145,7 @@ module _ (members : ℕ) (q : List ℕ) (gets sets : ℕ) (h : InNumbers members
   version-2-head : Head (packed fields2 ++ features) 2 members 0 gets sets (count_fields q)
   version-2-head = head-is 2 0 (omega arith) (omega arith) (padded-fit q h.counts) (rw version-2-wide (omega arith))
 
-  version-2-read : take_version2 (packed fields2 ++ features) ≡ read_as (setup_with members q gets sets features)
+  version-2-read : take_version2 (packed fields2 ++ features) ≡ Ok (setup_with members q gets sets features)
   unfolding take_version2 is_version2 count_fields
   version-2-read =
       let l = packed fields2 ++ features in
@@ -155,16 +156,16 @@ module _ (members : ℕ) (q : List ℕ) (gets sets : ℕ) (h : InNumbers members
       let t : is_version2 (bits_at 4 4 l + 1) l ≡ true =
       rw m (and_i _ _ (and_i _ _ (and_i _ _ (eq-eqb _ _ (whole_long fields2 ∙ rw version-2-wide (omega arith))) (head-right fields2 a))
       (eq-eqb _ _ a.count-is)) (eq-eqb _ _ p)) in
-      sym (pass _ _ _ _ t (ap read_as (sym (setup-is fields2 a 24 2 c.0))))
+      sym (pass _ _ _ _ t (ap Ok (sym (setup-is fields2 a 24 2 c.0))))
 
   -- both readers of either
-  pub reads-back : read_setup (packed_setup members q gets sets features) ≡ read_as (setup_with members q gets sets features)
+  pub reads-back : read_setup (packed_setup members q gets sets features) ≡ Ok (setup_with members q gets sets features)
   unfolding read_setup packed_setup fields_of are_equal when◌then◌else◌
   reads-back =
       by_cases (all (eqb (first_count q)) q) (λ e. rw (e, version-1-head.version-is) (version-1-read e)) (λ e. rw (e, version-2-head.version-is) version-2-read)
 
   pub reads-version-1 : read_version1 (packed_setup members q gets sets features)
-      ≡ (when are_equal q then read_as (setup_with members q gets sets features) else refused_as Version2)
+      ≡ (when are_equal q then Ok (setup_with members q gets sets features) else Err Version2)
   unfolding read_version1 packed_setup fields_of are_equal when◌then◌else◌
   reads-version-1 =
       by_cases (all (eqb (first_count q)) q) (λ e. rw (e, version-1-head.version-is) (version-1-read e)) (λ e. rw (e, version-2-head.version-is))

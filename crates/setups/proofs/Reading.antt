@@ -1,5 +1,5 @@
 -- Laws of the readers: queue counts, and the returns. Assumes nothing.
-use mathlib.Core.Path.{◌≡◌, ap, sym, ◌∙◌}
+use mathlib.Core.Path.{◌≡◌, sym, ◌∙◌}
 use mathlib.Core.Bool.{Bool, true}
 use mathlib.Core.List.{List}
 use Prim.Native.Nat.{ℕ, suc, ◌+◌, ◌-◌, ◌≤◌, ◌<◌}
@@ -10,10 +10,9 @@ use Rattle.theory.specs.Bytes.{bytes_at, put}
 use Rattle.theory.proofs.Bytes.{put-nil, put-cons, put_all}
 use Rattle.theory.proofs.Tests.{both, tests}
 use Rattle.theory.proofs.Lent.{tail-is}
-use Rattle.setups.specs.declared.Setup.{Setup}
 use Rattle.setups.specs.Bits.{bits_at}
 use Rattle.setups.specs.Setup.{features_size, no_counts, sixteen}
-use Rattle.setups.specs.Reading.{members_in, counts_from, setup_at, is_version1, is_version2, read_as}
+use Rattle.setups.specs.Reading.{members_in, counts_from, setup_at, is_version1, is_version2}
 
 -- ---- the queue counts ----
 
@@ -54,9 +53,6 @@ setup-read l z q f from step n g s h k e₁ e₂ e₃ e₄ e₅ =
     rw (e₂, e₃, e₁, e₄, e₅, features-copied l z (length l - 16) (omega arith) h k)
 
 -- ---- the returns ----
-
-pub read_is : (s x : Setup) → s ≡ x → read_as s ≡ read_as x
-read_is s x e = ap read_as e
 
 -- what is taken is long enough to hold the features
 pub version-1-long : (l : List ℕ) → is_version1 l ≡ true → features_size ≤ length l

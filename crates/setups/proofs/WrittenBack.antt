@@ -2,6 +2,7 @@
 use mathlib.Core.Path.{◌≡◌, refl, ap, sym, ◌∙◌}
 use mathlib.Core.Bool.{true, false}
 use mathlib.Core.List.{List, [], ◌∷◌, ◌++◌, map}
+use Rattle.std.proofs.Common.{Ok}
 use Prim.Native.Nat.{ℕ, zero, suc, ◌+◌, ◌-◌, ◌*◌, ◌/◌, ◌%◌, ◌^◌, ◌≤◌, ◌<◌}
 use native.Mathlib.Nat.{zero-add, pow-suc}
 use native.Mathlib.Omega.{arith}
@@ -11,13 +12,12 @@ use lib.ListN.{length, get_or, take, drop, take-append-drop}
 use lib.Pow.{pow-add, shr-shr}
 use lib.Seq.{take-suc}
 use Rattle.theory.specs.Logic.{when◌then◌else◌, unless◌answer◌then◌}
-use Rattle.theory.proofs.Tests.{by_cases, and_i, never}
+use Rattle.theory.proofs.Tests.{by_cases, and_i}
 use Rattle.theory.proofs.Bytes.{put_front}
 use Rattle.setups.specs.declared.Setup.{Setup}
-use Rattle.setups.specs.declared.ReadOutcome.{ReadOutcome}
 use Rattle.setups.specs.Bits.{bit, bits_at, Field, field, widths, joined, big_endian, packed}
 use Rattle.setups.specs.Setup.{all}
-use Rattle.setups.specs.Reading.{version_in, members_in, gets_in, sets_in, padding, counts_from, setup_at, is_version1, is_version2, read_as, take_version1, take_version2, read_setup}
+use Rattle.setups.specs.Reading.{version_in, members_in, gets_in, sets_in, padding, counts_from, setup_at, is_version1, is_version2, take_version1, take_version2, read_setup}
 use Rattle.setups.specs.Writing.{head_fields, count_field, count_fields, first_count, are_equal, fields_of, packed_setup, written}
 use Rattle.setups.specs.Accepted.{EqualCounts}
 use Rattle.setups.specs.Claims.{counts_read, InRange}
@@ -184,19 +184,21 @@ module _ (l : List ℕ) (h : (i : ℕ) → get_or l i 0 < 256) where
         let g = numbers-good _ _ _ _ _ n r.features in
         rw c (written-good buffer _ _ _ _ _ g (rw e room) ∙ rw (e, put_front l buffer room))
 
-    pub written_back : (s : Setup) → read_setup l ≡ read_as s → (bits_at 0 4 l ≡ 2 → EqualCounts (counts_read s) → ⊥)
+    pub written_back : (s : Setup) → read_setup l ≡ Ok s → (bits_at 0 4 l ≡ 2 → EqualCounts (counts_read s) → ⊥)
         → written buffer s.members (counts_read s) s.gets s.sets s.features ≡ (length l, l ++ drop (length l) buffer)
     unfolding read_setup take_version1 take_version2 when◌then◌else◌ unless◌answer◌then◌
     written_back s e differ = by_cases (eqb (version_in l) 2)
         (λ t. by_cases (is_version2 (members_in l) l)
         (λ u.
-        let d : setup_at l 24 2 ≡ s = ap (λ (o : ReadOutcome). o.setup) (rw (t, u) at e) in
+        let f = rw (t, u) at e in
+        let d : setup_at l 24 2 ≡ s = cc in
         let v = eqb-true _ 2 t in
         let q : are_equal (counts_from l 24 2 (members_in l)) ≡ false = rw (← counts-taken 24 2, d) (unequal-counts _ (differ v)) in
         rw (← d) (put_back 24 2 (version-2-back v u q) (version-2-in-range l u)))
-        (λ u. let d = ap (λ (o : ReadOutcome). o.answer) (rw (t, u) at e) in never cc))
+        (λ u. let f = rw (t, u) at e in cc))
         (λ t. by_cases (is_version1 l)
         (λ u.
-        let d : setup_at l 8 0 ≡ s = ap (λ (o : ReadOutcome). o.setup) (rw (t, u) at e) in
+        let f = rw (t, u) at e in
+        let d : setup_at l 8 0 ≡ s = cc in
         rw (← d) (put_back 8 0 (version-1-back u) (version-1-in-range l u)))
-        (λ u. let d = ap (λ (o : ReadOutcome). o.answer) (rw (t, u) at e) in never cc))
+        (λ u. let f = rw (t, u) at e in cc))

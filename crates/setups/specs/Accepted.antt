@@ -58,8 +58,8 @@ pub record Packed2 (n : ℕ) (l : List ℕ) : Type 0 where
 -- The reader of version 1 answers 0 for version 1, 1 for version 2, by the first four bits alone, and 2 for all else; the reader
 -- of both answers 0 for either, and 2 for all else
 pub record Readers (l : List ℕ) : Type 0 where
-  pub read1 : Packed1 l → (read_number (read_version1 l).answer ≡ 0) × (read_number (read_setup l).answer ≡ 0)
-  pub read2 : (n : ℕ) → Packed2 n l → read_number (read_setup l).answer ≡ 0
-  pub named2 : bits_at 0 4 l ≡ 2 → read_number (read_version1 l).answer ≡ 1
-  pub refused1 : (Packed1 l → ⊥) → (bits_at 0 4 l ≡ 2 → ⊥) → read_number (read_version1 l).answer ≡ 2
-  pub refused : (Packed1 l → ⊥) → (Packed2 (bits_at 4 4 l + 1) l → ⊥) → read_number (read_setup l).answer ≡ 2
+  pub read1 : Packed1 l → (read_number (read_version1 l) ≡ 0) × (read_number (read_setup l) ≡ 0)
+  pub read2 : (n : ℕ) → Packed2 n l → read_number (read_setup l) ≡ 0
+  pub named2 : bits_at 0 4 l ≡ 2 → read_number (read_version1 l) ≡ 1
+  pub refused1 : (Packed1 l → ⊥) → (bits_at 0 4 l ≡ 2 → ⊥) → read_number (read_version1 l) ≡ 2
+  pub refused : (Packed1 l → ⊥) → (Packed2 (bits_at 4 4 l + 1) l → ⊥) → read_number (read_setup l) ≡ 2

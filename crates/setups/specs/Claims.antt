@@ -1,11 +1,11 @@
 -- WHAT IS CLAIMED of packed setups: 02, request 9. Assumes nothing.
-use Rattle.std.specs.Prelude.{◌≡◌, true, List, ◌++◌, ℕ, ◌≤◌, ◌<◌, length, get_or, take, drop}
+use Rattle.std.specs.Prelude.{◌≡◌, true, Ok, Err, List, ◌++◌, ℕ, ◌≤◌, ◌<◌, length, get_or, take, drop}
 use Rattle.theory.specs.Logic.{when◌then◌else◌}
 use Rattle.setups.specs.declared.Setup.{Setup}
 use Rattle.setups.specs.declared.MemberSetup.{MemberSetup}
-use Rattle.setups.specs.declared.ReadAnswer.TheVariants.{Done, Version2}
+use Rattle.setups.specs.declared.ReadRefusal.TheVariants.{Version2}
 use Rattle.setups.specs.Setup.{features_size, is_count, in_numbers, setup_with}
-use Rattle.setups.specs.Reading.{read_as, refused_as, read_version1, read_setup}
+use Rattle.setups.specs.Reading.{read_version1, read_setup}
 use Rattle.setups.specs.Member.{member_setup}
 use Rattle.setups.specs.Bits.{bits_at}
 use Rattle.setups.specs.Writing.{are_equal, written}
@@ -14,9 +14,9 @@ use Rattle.setups.specs.Accepted.{EqualCounts, Writer, Readers}
 -- n bytes of a setup were written at the front of a buffer, which is b now: they read back the same, where the counts are
 -- equal by the reader of version 1 too, and the rest of the buffer keeps its bytes
 pub record ReadsBack (buffer : List ℕ) (members : ℕ) (queues : List ℕ) (gets sets : ℕ) (features : List ℕ) (n : ℕ) (b : List ℕ) : Type 0 where
-  pub same_setup : read_setup (take n b) ≡ read_as (setup_with members queues gets sets features)
+  pub same_setup : read_setup (take n b) ≡ Ok (setup_with members queues gets sets features)
   pub by_version1 : read_version1 (take n b)
-      ≡ (when are_equal queues then read_as (setup_with members queues gets sets features) else refused_as Version2)
+      ≡ (when are_equal queues then Ok (setup_with members queues gets sets features) else Err Version2)
   pub rest_kept : drop n b ≡ drop n buffer
 
 -- the queue counts of the members of a setup that was read
@@ -45,13 +45,13 @@ pub record Claims : Type 0 where
   pub unwritten : (buffer : List ℕ) (members : ℕ) (queues : List ℕ) (gets sets : ℕ) (features b : List ℕ)
       → ◌≡◌ {A = ℕ × List ℕ} (0, b) (written buffer members queues gets sets features) → b ≡ buffer
   -- what the reader of version 1 takes the reader of both takes alike
-  pub alike : (l : List ℕ) → (read_version1 l).answer ≡ Done → read_setup l ≡ read_version1 l
+  pub alike : (l : List ℕ) (s : Setup) → read_version1 l ≡ Ok s → read_setup l ≡ Ok s
   -- the reader of both never refuses version 2 by name
-  pub never_named : (l : List ℕ) → (read_setup l).answer ≡ Version2 → ⊥
-  pub in_range : (l : List ℕ) → (read_setup l).answer ≡ Done → InRange (read_setup l).setup
+  pub never_named : (l : List ℕ) → read_setup l ≡ Err Version2 → ⊥
+  pub in_range : (l : List ℕ) (s : Setup) → read_setup l ≡ Ok s → InRange s
   pub member_in_range : (l : List ℕ) (m : ℕ) → (member_setup l m).known ≡ true → MemberInRange (member_setup l m)
   -- what is read as version 1, or as version 2 with counts that differ, is written back to the same bytes
   pub written_back : (l buffer : List ℕ) → ((i : ℕ) → get_or l i 0 < 256) → length l ≤ length buffer
-      → (s : Setup) → read_setup l ≡ read_as s
+      → (s : Setup) → read_setup l ≡ Ok s
       → (bits_at 0 4 l ≡ 2 → EqualCounts (counts_read s) → ⊥)
       → written buffer s.members (counts_read s) s.gets s.sets s.features ≡ (length l, l ++ drop (length l) buffer)

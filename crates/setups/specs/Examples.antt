@@ -1,10 +1,11 @@
 -- WORKED EXAMPLES of packed setups: the setup of 01, one of version 2, and each refusal. Assumes nothing.
-use Rattle.std.specs.Prelude.{◌≡◌, true, List, [], ◌∷◌, ◌++◌, map, ℕ, replicate}
-use Rattle.setups.specs.declared.ReadAnswer.TheVariants.{Version2, Refused}
-use Rattle.setups.specs.declared.ReadOutcome.{ReadOutcome}
+use Rattle.std.specs.Prelude.{◌≡◌, true, Result, Ok, Err, List, [], ◌∷◌, ◌++◌, map, ℕ, replicate}
+use Rattle.setups.specs.declared.Setup.{Setup}
+use Rattle.setups.specs.declared.ReadRefusal.{ReadRefusal}
+use Rattle.setups.specs.declared.ReadRefusal.TheVariants.{Version2, Malformed}
 use Rattle.setups.specs.declared.MemberSetup.{MemberSetup}
 use Rattle.setups.specs.Setup.{setup_with}
-use Rattle.setups.specs.Reading.{read_as, refused_as, read_version1, read_setup}
+use Rattle.setups.specs.Reading.{read_version1, read_setup}
 use Rattle.setups.specs.Member.{no_member, member_setup}
 use Rattle.setups.specs.Writing.{written}
 
@@ -72,46 +73,46 @@ SetupsWritten =
 
 pub record Read : Type 0 where
   pub bytes : List ℕ
-  pub both : ReadOutcome
-  pub version1 : ReadOutcome
+  pub both : Result Setup ReadRefusal
+  pub version1 : Result Setup ReadRefusal
 
 -- alike by both readers
-abbrev pub reads : List ℕ → ReadOutcome → Read
+abbrev pub reads : List ℕ → Result Setup ReadRefusal → Read
 reads l o = record { bytes = l; both = o; version1 = o }
 
 -- by the reader of version 1 refused by name
-abbrev pub reads2 : List ℕ → ReadOutcome → Read
-reads2 l o = record { bytes = l; both = o; version1 = refused_as Version2 }
+abbrev pub reads2 : List ℕ → Result Setup ReadRefusal → Read
+reads2 l o = record { bytes = l; both = o; version1 = Err Version2 }
 
 unfoldable pub setups_read : List Read
 setups_read =
-    reads bench (read_as (setup_with 2 (1 ∷ 1 ∷ []) 1 1 zeros))
-    ∷ reads2 five (read_as (setup_with 5 (1 ∷ 2 ∷ 3 ∷ 4 ∷ 4 ∷ []) 8 5 features))
+    reads bench (Ok (setup_with 2 (1 ∷ 1 ∷ []) 1 1 zeros))
+    ∷ reads2 five (Ok (setup_with 5 (1 ∷ 2 ∷ 3 ∷ 4 ∷ 4 ∷ []) 8 5 features))
     -- version 2 with equal counts
-    ∷ reads2 (0x21 ∷ 0x04 ∷ 0x40 ∷ 0x50 ∷ zeros) (read_as (setup_with 2 (2 ∷ 2 ∷ []) 1 1 zeros))
+    ∷ reads2 (0x21 ∷ 0x04 ∷ 0x40 ∷ 0x50 ∷ zeros) (Ok (setup_with 2 (2 ∷ 2 ∷ []) 1 1 zeros))
     -- no bytes; one byte, of version 1 and of version 2; a byte too few and one too many
-    ∷ reads [] (refused_as Refused)
-    ∷ reads (0x11 ∷ []) (refused_as Refused)
-    ∷ reads2 (0x2f ∷ []) (refused_as Refused)
-    ∷ reads (0x11 ∷ 0x04 ∷ 0x40 ∷ replicate 15 0) (refused_as Refused)
-    ∷ reads (bench ++ (0 ∷ [])) (refused_as Refused)
-    ∷ reads2 (0x24 ∷ 0x21 ∷ 0x40 ∷ 0x1b ∷ features) (refused_as Refused)
+    ∷ reads [] (Err Malformed)
+    ∷ reads (0x11 ∷ []) (Err Malformed)
+    ∷ reads2 (0x2f ∷ []) (Err Malformed)
+    ∷ reads (0x11 ∷ 0x04 ∷ 0x40 ∷ replicate 15 0) (Err Malformed)
+    ∷ reads (bench ++ (0 ∷ [])) (Err Malformed)
+    ∷ reads2 (0x24 ∷ 0x21 ∷ 0x40 ∷ 0x1b ∷ features) (Err Malformed)
     -- versions 0 and 3
-    ∷ reads (0x01 ∷ 0x04 ∷ 0x40 ∷ zeros) (refused_as Refused)
-    ∷ reads (0x31 ∷ 0x04 ∷ 0x40 ∷ zeros) (refused_as Refused)
+    ∷ reads (0x01 ∷ 0x04 ∷ 0x40 ∷ zeros) (Err Malformed)
+    ∷ reads (0x31 ∷ 0x04 ∷ 0x40 ∷ zeros) (Err Malformed)
     -- the six zero bits, in both versions; the bits after the fields; the Q field of version 2
-    ∷ reads (0x11 ∷ 0x04 ∷ 0x41 ∷ zeros) (refused_as Refused)
-    ∷ reads2 (0x24 ∷ 0x21 ∷ 0x60 ∷ 0x1b ∷ 0xc0 ∷ features) (refused_as Refused)
-    ∷ reads2 (0x24 ∷ 0x21 ∷ 0x40 ∷ 0x1b ∷ 0xe0 ∷ features) (refused_as Refused)
-    ∷ reads2 (0x24 ∷ 0x61 ∷ 0x40 ∷ 0x1b ∷ 0xc0 ∷ features) (refused_as Refused)
+    ∷ reads (0x11 ∷ 0x04 ∷ 0x41 ∷ zeros) (Err Malformed)
+    ∷ reads2 (0x24 ∷ 0x21 ∷ 0x60 ∷ 0x1b ∷ 0xc0 ∷ features) (Err Malformed)
+    ∷ reads2 (0x24 ∷ 0x21 ∷ 0x40 ∷ 0x1b ∷ 0xe0 ∷ features) (Err Malformed)
+    ∷ reads2 (0x24 ∷ 0x61 ∷ 0x40 ∷ 0x1b ∷ 0xc0 ∷ features) (Err Malformed)
     -- G 9, S 9
-    ∷ reads (0x11 ∷ 0x24 ∷ 0x40 ∷ zeros) (refused_as Refused)
-    ∷ reads (0x11 ∷ 0x06 ∷ 0x40 ∷ zeros) (refused_as Refused)
+    ∷ reads (0x11 ∷ 0x24 ∷ 0x40 ∷ zeros) (Err Malformed)
+    ∷ reads (0x11 ∷ 0x06 ∷ 0x40 ∷ zeros) (Err Malformed)
     ∷ []
 
 abbrev pub SetupsRead : Type 0
 SetupsRead =
-    map {B = ReadOutcome × ReadOutcome} (λ (r : Read). (read_setup r.bytes, read_version1 r.bytes)) setups_read
+    map {B = Result Setup ReadRefusal × Result Setup ReadRefusal} (λ (r : Read). (read_setup r.bytes, read_version1 r.bytes)) setups_read
     ≡ map (λ (r : Read). (r.both, r.version1)) setups_read
 
 -- ---- one member ----

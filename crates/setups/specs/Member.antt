@@ -1,8 +1,9 @@
 -- What a packed setup says of one member: 02, request 9, for requests 7 and 8. Assumes nothing.
-use Rattle.std.specs.Prelude.{true, false, List, ℕ, ◌-◌, get_or, replicate}
+use Rattle.std.specs.Prelude.{true, false, Result, Ok, Err, List, ℕ, ◌-◌, get_or, replicate}
 use Rattle.theory.specs.Logic.{unless◌answer◌then◌, within}
 use Rattle.setups.specs.declared.Setup.{Setup}
 use Rattle.setups.specs.declared.MemberSetup.{MemberSetup}
+use Rattle.setups.specs.declared.ReadRefusal.{ReadRefusal}
 use Rattle.setups.specs.Setup.{features_size}
 use Rattle.setups.specs.Reading.{read_setup}
 
@@ -15,6 +16,10 @@ member_of s m =
     unless within 1 s.members m answer no_member then
     record { known = true; queues = get_or s.queues (m - 1) 0; features = s.features }
 
--- a bad setup is read as one of no members, so that it says nothing of any
+-- a bad setup says nothing of any
+abbrev pub member_read : Result Setup ReadRefusal → ℕ → MemberSetup
+member_read (Ok s) m = member_of s m
+member_read (Err r) m = no_member
+
 unfoldable pub member_setup : List ℕ → ℕ → MemberSetup
-member_setup l m = member_of (read_setup l).setup m
+member_setup l m = member_read (read_setup l) m

@@ -1,12 +1,11 @@
 -- Packed setups read: 02, request 9. Assumes nothing.
-use Rattle.std.specs.Prelude.{Bool, List, [], ◌∷◌, ℕ, zero, suc, ◌+◌, ◌*◌, ◌-◌, ◌/◌, leb, eqb, length, drop, replicate}
+use Rattle.std.specs.Prelude.{Bool, Result, Ok, Err, List, [], ◌∷◌, ℕ, zero, suc, ◌+◌, ◌*◌, ◌-◌, ◌/◌, leb, eqb, length, drop}
 use Rattle.theory.specs.Logic.{when◌then◌else◌, unless◌answer◌then◌, ◌and◌}
 use Rattle.setups.specs.declared.Setup.{Setup}
-use Rattle.setups.specs.declared.ReadAnswer.{ReadAnswer}
-use Rattle.setups.specs.declared.ReadAnswer.TheVariants.{Done, Version2, Refused}
-use Rattle.setups.specs.declared.ReadOutcome.{ReadOutcome}
+use Rattle.setups.specs.declared.ReadRefusal.{ReadRefusal}
+use Rattle.setups.specs.declared.ReadRefusal.TheVariants.{Version2, Malformed}
 use Rattle.setups.specs.Bits.{bits_at}
-use Rattle.setups.specs.Setup.{features_size, no_counts, setup_with}
+use Rattle.setups.specs.Setup.{features_size, setup_with}
 
 -- ---- the fields ----
 
@@ -70,33 +69,23 @@ is_version2 n l =
 
 -- ---- the readers ----
 
--- the answer as its number
-abbrev pub read_number : ReadAnswer → ℕ
-read_number Done = 0
-read_number Version2 = 1
-read_number Refused = 2
-
-abbrev pub read_as : Setup → ReadOutcome
-read_as s = record { answer = Done; setup = s }
-
--- nothing is read
-unfoldable pub no_setup : Setup
-no_setup = record { members = 0; queues = no_counts; gets = 0; sets = 0; features = replicate features_size 0 }
-
-abbrev pub refused_as : ReadAnswer → ReadOutcome
-refused_as a = record { answer = a; setup = no_setup }
+-- what was read, as its number
+abbrev pub read_number : Result Setup ReadRefusal → ℕ
+read_number (Ok s) = 0
+read_number (Err Version2) = 1
+read_number (Err Malformed) = 2
 
 -- in version 1 the count at position 8 is every member's; in version 2 the counts stand from position 24 on
-unfoldable pub take_version1 : List ℕ → ReadOutcome
-take_version1 l = unless is_version1 l answer refused_as Refused then read_as (setup_at l 8 0)
+unfoldable pub take_version1 : List ℕ → Result Setup ReadRefusal
+take_version1 l = unless is_version1 l answer Err Malformed then Ok (setup_at l 8 0)
 
-unfoldable pub take_version2 : List ℕ → ReadOutcome
-take_version2 l = unless is_version2 (members_in l) l answer refused_as Refused then read_as (setup_at l 24 2)
+unfoldable pub take_version2 : List ℕ → Result Setup ReadRefusal
+take_version2 l = unless is_version2 (members_in l) l answer Err Malformed then Ok (setup_at l 24 2)
 
 -- the reader of version 1, which refuses version 2 by name, before all else; no bytes have no version
-unfoldable pub read_version1 : List ℕ → ReadOutcome
-read_version1 l = when eqb (version_in l) 2 then refused_as Version2 else take_version1 l
+unfoldable pub read_version1 : List ℕ → Result Setup ReadRefusal
+read_version1 l = when eqb (version_in l) 2 then Err Version2 else take_version1 l
 
 -- the reader of both versions
-unfoldable pub read_setup : List ℕ → ReadOutcome
+unfoldable pub read_setup : List ℕ → Result Setup ReadRefusal
 read_setup l = when eqb (version_in l) 2 then take_version2 l else take_version1 l

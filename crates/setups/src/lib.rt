@@ -28,18 +28,11 @@ pub struct Setup {
     pub features: [u8; FEATURES_SIZE],
 }
 
-#[derive(Clone, Copy)]
-pub enum ReadAnswer {
-    Done,
+// Why bytes are not read as a setup: they are one of version 2, which that reader does not read, or none.
+#[derive(Clone, Copy, Debug, PartialEq, Eq)]
+pub enum ReadRefusal {
     Version2,
-    Refused,
-}
-
-// Refused, the setup is all zero.
-#[derive(Clone, Copy)]
-pub struct ReadOutcome {
-    pub answer: ReadAnswer,
-    pub setup: Setup,
+    Malformed,
 }
 
 // What a setup says of one member. Where it says nothing, `known` is false, the queue count 0 and the features zeros.
@@ -99,28 +92,28 @@ pub fn in_numbers(members: u64, queues: &[u8], gets: u64, sets: u64) -> bool
 
 // ---- reading ----
 
-pub fn read_number(answer: ReadAnswer) -> u8
-    ensures { result ≡ read_number answer }
+// A refusal as its number; a setup that is read has 0.
+pub fn read_number(refusal: ReadRefusal) -> u8
+    ensures { result ≡ read_number (Err refusal) }
 {
-    match answer {
-        ReadAnswer::Done => 0,
-        ReadAnswer::Version2 => 1,
-        ReadAnswer::Refused => 2,
+    match refusal {
+        ReadRefusal::Version2 => 1,
+        ReadRefusal::Malformed => 2,
     }
 }
 
 // The reader of version 1, which refuses version 2 by name.
-pub fn read_version_1(s: &[u8]) -> ReadOutcome
+pub fn read_version_1(s: &[u8]) -> Result<Setup, ReadRefusal>
     ensures { result ≡ read_version1 s.now }
 {
     if reader::bits(s, 0, 4) == 2 {
-        return reader::refused(ReadAnswer::Version2);
+        return Err(ReadRefusal::Version2);
     }
     reader::take_version_1(s)
 }
 
 // The reader of both versions.
-pub fn read(s: &[u8]) -> ReadOutcome
+pub fn read(s: &[u8]) -> Result<Setup, ReadRefusal>
     ensures { result ≡ read_setup s.now }
 {
     if reader::bits(s, 0, 4) == 2 {
@@ -165,8 +158,10 @@ fn member_of(s: Setup, member: u64) -> MemberSetup
 pub fn member_setup(s: &[u8], member: u64) -> MemberSetup
     ensures { result ≡ member_setup s.now member }
 {
-    let outcome = read(s);
-    member_of(outcome.setup, member)
+    match read(s) {
+        Ok(setup) => member_of(setup, member),
+        Err(_) => no_member(),
+    }
 }
 
 // ---- writing ----

@@ -2,9 +2,9 @@
 ghost use Rattle.std.specs.Prelude.{◌≡◌, ◌^◌, ◌≤◌, ◌<◌, length};
 ghost use Rattle.setups.specs.Bits.{bit, bits_at};
 ghost use Rattle.setups.specs.Setup.{features_size, sixteen};
-ghost use Rattle.setups.specs.Reading.{counts_from, setup_at, head_right, is_version1, is_version2, refused_as, take_version1, take_version2};
+ghost use Rattle.setups.specs.Reading.{counts_from, setup_at, head_right, is_version1, is_version2, take_version1, take_version2};
 
-use super::{FEATURES_SIZE, HEAD_SIZE, MOST_MEMBERS, ReadAnswer, ReadOutcome, Setup};
+use super::{FEATURES_SIZE, HEAD_SIZE, MOST_MEMBERS, ReadRefusal, Setup};
 
 // The queue counts of version 2 stand behind the head.
 const COUNTS_AT: usize = 24;
@@ -108,42 +108,21 @@ fn is_version_2(s: &[u8], n: usize) -> bool
     bits(s, COUNTS_AT + 2 * n, 8 * count_bytes - 2 * n) == 0
 }
 
-pub fn refused(answer: ReadAnswer) -> ReadOutcome
-    ensures { result ≡ refused_as answer }
-{
-    ReadOutcome {
-        answer,
-        setup: Setup {
-            members: 0,
-            queues: [0u8; MOST_MEMBERS],
-            gets: 0,
-            sets: 0,
-            features: [0u8; FEATURES_SIZE],
-        },
-    }
-}
-
-pub fn take_version_1(s: &[u8]) -> ReadOutcome
+pub fn take_version_1(s: &[u8]) -> Result<Setup, ReadRefusal>
     ensures { result ≡ take_version1 s.now }
 {
     if !is_version_1(s) {
-        return refused(ReadAnswer::Refused);
+        return Err(ReadRefusal::Malformed);
     }
-    ReadOutcome {
-        answer: ReadAnswer::Done,
-        setup: setup_at(s, 8, 0),
-    }
+    Ok(setup_at(s, 8, 0))
 }
 
-pub fn take_version_2(s: &[u8]) -> ReadOutcome
+pub fn take_version_2(s: &[u8]) -> Result<Setup, ReadRefusal>
     ensures { result ≡ take_version2 s.now }
 {
     let n = bits(s, 4, 4) as usize + 1;
     if !is_version_2(s, n) {
-        return refused(ReadAnswer::Refused);
+        return Err(ReadRefusal::Malformed);
     }
-    ReadOutcome {
-        answer: ReadAnswer::Done,
-        setup: setup_at(s, COUNTS_AT, 2),
-    }
+    Ok(setup_at(s, COUNTS_AT, 2))
 }

@@ -1,12 +1,15 @@
 use borrow.Author.Rules.{rules}
-use Rattle.events.proofs.EventLaws.{packed-refused, packed-few, packed-done}
+use Rattle.events.specs.Events.{refused_setup, set_up_from}
+use Rattle.events.proofs.EventLaws.{read-few}
 use Rattle.events.proofs.set_up_from.Goals as goal
 
-pub returns-then-read_number-ne0 : goal.returns-then-read_number-ne0
-returns-then-read_number-ne0 c = search (rules, packed-refused)
+pub returns-in-Err : goal.returns-in-Err
+unfolding set_up_from refused_setup
+returns-in-Err c = search rules
 
 pub set_up_of-requires : goal.set_up_of-requires
-set_up_of-requires c = search (rules, packed-few)
+set_up_of-requires c = search (rules, read-few)
 
-pub returns : goal.returns
-returns c = search (rules, packed-done)
+pub returns-in-Ok : goal.returns-in-Ok
+unfolding set_up_from
+returns-in-Ok c = search rules

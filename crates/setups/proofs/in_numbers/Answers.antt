@@ -4,10 +4,6 @@ use Rattle.theory.proofs.Ladder.{ladder}
 use Rattle.setups.specs.Setup.{in_numbers}
 use Rattle.setups.proofs.in_numbers.Goals as goal
 
-pub in_ranges-requires : goal.in_ranges-requires
-unfolding in_numbers
-in_ranges-requires c = search rules
-
 pub returns-then-not-in_ranges : goal.returns-then-not-in_ranges
 unfolding in_numbers
 returns-then-not-in_ranges c = search ladder
@@ -15,10 +11,6 @@ returns-then-not-in_ranges c = search ladder
 pub returns-then-queues-members : goal.returns-then-queues-members
 unfolding in_numbers
 returns-then-queues-members c = search ladder
-
-pub are_within-requires : goal.are_within-requires
-unfolding in_numbers
-are_within-requires c = search rules
 
 pub returns : goal.returns
 unfolding in_numbers

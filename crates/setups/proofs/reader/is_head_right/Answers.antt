@@ -4,25 +4,13 @@ use Rattle.theory.proofs.Ladder.{ladder}
 use Rattle.setups.specs.Reading.{head_right}
 use Rattle.setups.proofs.reader.is_head_right.Goals as goal
 
-pub bits-requires : goal.bits-requires
-unfolding head_right
-bits-requires c = search rules
-
 pub returns-then-bits-ne0 : goal.returns-then-bits-ne0
 unfolding head_right
 returns-then-bits-ne0 c = search ladder
 
-pub bits-requires-2 : goal.bits-requires-2
-unfolding head_right
-bits-requires-2 c = search rules
-
 pub returns-then-bits-gt8 : goal.returns-then-bits-gt8
 unfolding head_right
 returns-then-bits-gt8 c = search ladder
-
-pub bits-requires-3 : goal.bits-requires-3
-unfolding head_right
-bits-requires-3 c = search rules
 
 pub returns : goal.returns
 unfolding head_right

@@ -4,25 +4,13 @@ use Rattle.theory.proofs.Ladder.{ladder}
 use Rattle.setups.specs.Reading.{is_version1}
 use Rattle.setups.proofs.reader.is_version_1.Goals as goal
 
-pub bits-requires : goal.bits-requires
-unfolding is_version1
-bits-requires c = search rules
-
 pub returns-then-bits-ne1 : goal.returns-then-bits-ne1
 unfolding is_version1
 returns-then-bits-ne1 c = search ladder
 
-pub overflow_add-t-5 : goal.overflow_add-t-5
-unfolding is_version1
-overflow_add-t-5 c = search rules
-
 pub returns-then-s : goal.returns-then-s
 unfolding is_version1
 returns-then-s c = search ladder
-
-pub is_head_right-requires : goal.is_head_right-requires
-unfolding is_version1
-is_head_right-requires c = search rules
 
 pub returns : goal.returns
 unfolding is_version1
