@@ -1,20 +1,21 @@
 -- What the returns of the code need, beside the laws of the ladder. Assumes nothing.
 use Rattle.std.specs.Prelude.{Result, Ok, Err}
 use Rattle.protocol.specs.declared.Answer.{Answer}
-use mathlib.Core.Path.{◌≡◌, refl, sym, ◌∙◌}
+use mathlib.Core.Path.{◌≡◌, refl, ap, sym, ◌∙◌}
 use mathlib.Core.Bool.{Bool, true, false, not}
-use mathlib.Core.List.{List}
+use mathlib.Core.List.{List, [], ◌∷◌}
 use Prim.Native.Nat.{ℕ, zero, suc, ◌+◌, ◌*◌, ◌-◌, ◌^◌, ◌≤◌}
 use native.Mathlib.Nat.{le_antisymm}
 use native.Mathlib.Omega.{arith}
 use borrow.Author.Tests.{not-false, eq-eqb, ne_eqb}
 use lib.Dec.{ltb, eqb}
-use lib.ListN.{length, get_or, take, drop, drop_of_length-le}
+use Rattle.std.specs.List.{list_all}
+use lib.ListN.{length, take, drop}
 use Rattle.theory.specs.Logic.{when◌then◌else◌, unless◌answer◌then◌}
 use Rattle.theory.proofs.Tests.{by_cases, both, either, inside, within_low, within-high, tests}
 use Rattle.theory.proofs.Ladder.{pass, stop, and_right, said-true, said-false}
 use Rattle.theory.proofs.Lent.{tail-is}
-use Rattle.wire.proofs.Le.{le_step, le_split}
+use Rattle.wire.proofs.Le.{le_split}
 use Rattle.wire.specs.Le.{le, number}
 use Rattle.protocol.specs.declared.Answer.TheVariants.{BadField}
 use Rattle.protocol.specs.declared.ObjectKind.TheVariants.{Set}
@@ -37,24 +38,21 @@ metadata-list zero n o = absurd (n refl)
 metadata-list (suc zero) n o = absurd (o refl)
 metadata-list (suc (suc b)) n o = refl
 
--- no bit from a place on: a byte that is 0 leaves it to those after it, any other decides, and so does the end
-module _ (d : List ℕ) (at i : ℕ) (e : eqb (le (drop at d)) 0 ≡ eqb (le (drop i d)) 0) where
-  pub zero-on : get_or d i 0 ≡ 0 → eqb (le (drop at d)) 0 ≡ eqb (le (drop (i + 1) d)) 0
-  zero-on h =
-      let s : le (drop i d) ≡ 256 * le (drop (i + 1) d) = omega (arith, le_step d i) in
-      e ∙ by_cases (eqb (le (drop (i + 1) d)) 0)
-      (λ t. eq-eqb (le (drop i d)) 0 (omega tests) ∙ sym t)
-      (λ t. ne_eqb (le (drop i d)) 0 (λ z. omega tests) ∙ sym t)
-
-  pub zero-not : (get_or d i 0 ≡ 0 → ⊥) → false ≡ eqb (le (drop at d)) 0
-  zero-not h = sym (e ∙ ne_eqb (le (drop i d)) 0 (λ (z : le (drop i d) ≡ 0). h (omega (arith, le_step d i))))
-
-  pub zero-end : length d ≤ i → true ≡ eqb (le (drop at d)) 0
-  unfolding le
-  zero-end h = sym (e ∙ rw (drop_of_length-le d h))
+-- no bit is set: each byte is 0
+pub zero_all : (d : List ℕ) → list_all (λ b. eqb b 0) d ≡ eqb (le d) 0
+unfolding le
+zero_all [] = refl
+zero_all (b ∷ d) =
+    by_cases (eqb b 0)
+    (λ e. by_cases (eqb (le d) 0) (λ f. rw (zero_all d, e, f) (sym (eq-eqb (b + 256 * le d) 0 (omega tests))))
+    (λ f. rw (zero_all d, e, f) (sym (ne_eqb (b + 256 * le d) 0 (λ z. omega tests)))))
+    (λ e. rw e (sym (ne_eqb (b + 256 * le d) 0 (λ z. omega tests))))
 
 -- the long mask: a bit after the first word is not supported, and without one the word is the mask
-module _ (d : List ℕ) (t : Bool) (e : t ≡ eqb (le (drop 8 d)) 0) where
+module _ (d : List ℕ) (t : Bool) (tail : t ≡ eqb (le (take (length d - 8) (drop 8 d))) 0) where
+  e : t ≡ eqb (le (drop 8 d)) 0
+  e = tail ∙ ap (λ x. eqb (le x) 0) (tail-is 8 d)
+
   pub mask-long : not t ≡ true → Err BadField ≡ use_in d
   unfolding use_in supported_only
   mask-long h =

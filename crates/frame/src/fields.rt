@@ -166,25 +166,18 @@ fn mode_in(m: u64, d: &[u8]) -> Result<Ask, Answer>
     Ok(Ask::Change(m, ChangeOp::SetMode(protocol::mode_of(d[0]))))
 }
 
-// No bit is set from a place on.
-fn is_zero_from(d: &[u8], at: usize) -> bool
-    ensures { result ≡ eqb (le (drop at d.now)) 0 }
+// No bit is set.
+fn is_zero(d: &[u8]) -> bool
+    ensures { result ≡ eqb (le d.now) 0 }
 {
-    let mut i = at;
-    while i < d.len() {
-        if d[i] != 0 {
-            return false;
-        }
-        i += 1;
-    }
-    true
+    d.iter().all(|b| *b == 0)
 }
 
 fn use_in(d: &[u8]) -> Result<Ask, Answer>
     requires { 8 ≤ length d.now }
     ensures { result ≡ use_in d.now }
 {
-    if !is_zero_from(d, WORD_SIZE) {
+    if !is_zero(&d[WORD_SIZE..]) {
         return Err(Answer::BadField);
     }
     let mask = wire::read_u64(d, 0);
