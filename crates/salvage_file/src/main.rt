@@ -7,6 +7,9 @@ mod report;
 
 ghost use Rattle.salvage_file.specs.Counts.{IsPrefixLen};
 
+use arrayvec::ArrayVec;
+use inventory::ROWS;
+use report::{Failure, Report};
 use std::{fs, io};
 
 // One byte more than the longest setup, of 16 members in version 2, and one more than the longest list: what is longer than
@@ -14,18 +17,50 @@ use std::{fs, io};
 const SETUP_ROOM: usize = 24;
 
 const DAMAGED_ROOM: usize = 4065;
-// The list, the flags of its parts and the causes, for a member with four queues.
+
+// The list for a member with four queues.
 const LIST_ROOM: usize = 445;
-
-const PARTS: usize = 15;
-
-const CAUSES: usize = 4;
 
 // The longest path, and the zero behind it.
 const PATH_ROOM: usize = 4096;
 
+// The longest text for a member's number.
+const NUMBER_ROOM: usize = 20;
+
 // The system's number for text that is none.
 const EILSEQ: i32 = 84;
+
+// std opens what is named in UTF-8 alone; another name is one that the system cannot read.
+fn read_setup(rt: &HostRuntime, path: &[u8]) -> io::Result<ArrayVec<u8, SETUP_ROOM>> {
+    let Ok(name) = str::from_utf8(path) else {
+        return Err(io::Error::from_raw_os_error(EILSEQ));
+    };
+    input::read_whole(&mut fs::open(rt, name)?)
+}
+
+fn read_damaged(rt: &HostRuntime) -> io::Result<ArrayVec<u8, DAMAGED_ROOM>> {
+    input::read_whole(&mut rt.stdin())
+}
+
+// A member's number, and how many queues it has.
+fn find_member<'a>(
+    rt: &HostRuntime,
+    setup: &[u8],
+    path: &'a [u8],
+) -> Result<(u64, u8), Failure<'a>> {
+    let Ok(read) = setups::read(setup) else {
+        return Err(Failure::NoSetup(path));
+    };
+    let mut room = [0u8; NUMBER_ROOM];
+    let Some(member) = input::argument(rt, 2, &mut room).and_then(input::number) else {
+        return Err(Failure::NoMember(read.members));
+    };
+    let m = setups::member_setup(setup, member);
+    if !m.known {
+        return Err(Failure::NoMember(read.members));
+    }
+    Ok((member, m.queues))
+}
 
 // The library's call; what it writes is part of the list.
 fn salvaged(
@@ -42,16 +77,17 @@ fn salvaged(
     salvage::salvage(setup, member, damaged, list, kept, dropped, left)
 }
 
-fn repair(
+// Writes what is salvaged.
+fn repair<'a>(
     rt: &HostRuntime,
     setup: &[u8],
     member: u64,
     queues: u8,
     damaged: &[u8],
-) -> io::Result<()> {
+) -> Result<Report, Failure<'a>> {
     let mut list = [0u8; LIST_ROOM];
-    let mut kept = [0u8; PARTS];
-    let mut dropped = [0u32; CAUSES];
+    let mut kept = [0u8; ROWS];
+    let mut dropped = [0u32; 4];
     let mut left = 0u32;
     let n = salvaged(
         setup,
@@ -63,64 +99,36 @@ fn repair(
         &mut left,
     );
     if n == 0 {
-        return report::too_long(&rt.stderr());
+        return Err(Failure::TooLong);
     }
     if let Err(e) = rt.write_all(&list[..n]) {
-        return report::not_written(&rt.stderr(), &e);
+        return Err(Failure::NotWritten(e));
     }
-    report::show(&rt.stderr(), queues, &kept, &dropped, left)
+    Ok(Report {
+        queues,
+        kept,
+        dropped,
+        left,
+    })
 }
 
-fn read_damaged(rt: &HostRuntime, setup: &[u8], member: u64, queues: u8) -> io::Result<()> {
-    let mut damaged = [0u8; DAMAGED_ROOM];
-    match input::read_whole(&mut rt.stdin(), &mut damaged) {
-        Ok(n) => repair(rt, setup, member, queues, &damaged[..n]),
-        Err(e) => report::not_read(&rt.stderr(), b"standard input", &e),
-    }
-}
-
-fn find_member(rt: &HostRuntime, setup: &[u8], path: &[u8]) -> io::Result<()> {
-    let Ok(read) = setups::read(setup) else {
-        return report::no_setup(&rt.stderr(), path);
-    };
-    let mut text = [0u8; 20];
-    let n = input::argument(rt, 2, &mut text);
-    let member = input::number(&text[..n]);
-    let m = setups::member_setup(setup, member);
-    if !m.known {
-        return report::no_member(&rt.stderr(), read.members);
-    }
-    read_damaged(rt, setup, member, m.queues)
-}
-
-fn read_setup(rt: &HostRuntime, file: &mut fs::File, path: &[u8]) -> io::Result<()> {
-    let mut setup = [0u8; SETUP_ROOM];
-    match input::read_whole(file, &mut setup) {
-        Ok(n) => find_member(rt, &setup[..n], path),
-        Err(e) => report::not_read(&rt.stderr(), path, &e),
-    }
-}
-
-// std opens what is named in UTF-8 alone; another name is one that the system cannot read.
-fn open(rt: &HostRuntime, path: &[u8]) -> io::Result<fs::File> {
-    match str::from_utf8(path) {
-        Ok(name) => fs::open(rt, name),
-        Err(_) => Err(io::Error::from_raw_os_error(EILSEQ)),
-    }
-}
-
-fn open_setup(rt: &HostRuntime, path: &[u8]) -> io::Result<()> {
-    match open(rt, path) {
-        Ok(mut file) => read_setup(rt, &mut file, path),
-        Err(e) => report::not_read(&rt.stderr(), path, &e),
-    }
+fn run<'a>(rt: &HostRuntime, path: &'a [u8]) -> Result<Report, Failure<'a>> {
+    let input: &[u8] = b"standard input";
+    let setup = read_setup(rt, path).map_err(|e| Failure::NotRead(path, e))?;
+    let (member, queues) = find_member(rt, setup.as_slice(), path)?;
+    let damaged = read_damaged(rt).map_err(|e| Failure::NotRead(input, e))?;
+    repair(rt, setup.as_slice(), member, queues, damaged.as_slice())
 }
 
 fn main(rt: HostRuntime) -> io::Result<()> {
+    let err = rt.stderr();
     if !input::has_argument(&rt, 2) || input::has_argument(&rt, 3) {
-        return report::usage(&rt.stderr());
+        return Failure::Usage.tell(&err);
     }
-    let mut path = [0u8; PATH_ROOM];
-    let n = input::argument(&rt, 1, &mut path);
-    open_setup(&rt, &path[..n])
+    let mut room = [0u8; PATH_ROOM];
+    let path = input::argument(&rt, 1, &mut room).unwrap_or(&[]);
+    match run(&rt, path) {
+        Ok(report) => print!(err; "{report}"),
+        Err(failure) => failure.tell(&err),
+    }
 }
