@@ -8,16 +8,14 @@ use lib.ListN.{length}
 use borrow.Author.Tests.{not-false}
 use Rattle.theory.proofs.Tests.{inside}
 use Rattle.wire.specs.Le.{bytes}
-use Rattle.protocol.specs.declared.Answer.{Answer}
-use Rattle.protocol.specs.declared.Answer.TheVariants.{Done}
+use Rattle.protocol.specs.declared.Body.{Body}
+use Rattle.protocol.specs.declared.Refusal.{Refusal}
 use Rattle.protocol.specs.declared.ReadOp.{ReadOp}
 use Rattle.protocol.specs.declared.ChangeOp.{ChangeOp}
-use Rattle.protocol.specs.Answers.{is_done}
+use Rattle.protocol.specs.Answers.{outcome_of}
 use Rattle.protocol.specs.Opcodes.{supported_mask}
 use Rattle.member.specs.declared.Member.{Member}
 use Rattle.member.specs.Record.{member_of}
-use Rattle.reads.specs.declared.Reading.{Reading}
-use Rattle.changes.specs.declared.Changed.{Changed}
 use Rattle.changes.specs.Changes.{change_of}
 use Rattle.reads.specs.Reads.{read_of}
 use Rattle.card.specs.declared.Setup.{Setup}
@@ -27,7 +25,7 @@ use Rattle.frame.specs.declared.Ask.{Ask}
 use Rattle.frame.specs.declared.Ask.TheVariants.{QueryList, Read, Change}
 use Rattle.frame.specs.Frame.{asked_list, given_list}
 use Rattle.frame.proofs.Asked.{asked}
-use Rattle.reply.specs.Result.{result_of}
+use Rattle.reply.specs.Result.{result_given}
 use Rattle.reply.specs.Reply.{head_size, reply_of, replied, written}
 use Rattle.admin.specs.Command.{ask_in, perform, conclude, delivered, command_of}
 use Rattle.admin.proofs.Concluded.{kept, answer-kept, refused, changed, heard}
@@ -39,42 +37,41 @@ Left = ℕ × (List ℕ × List ℕ)
 -- ---- members ----
 
 -- bs are the member's bytes, where they stand in the card
-pub read_told : (c r l l' : List ℕ) (m n q : ℕ) (bs list values : List ℕ) (op : ReadOp) (y : Reading)
+pub read_told : (c r l l' : List ℕ) (m n q : ℕ) (bs list values : List ℕ) (op : ReadOp) (y : Result Body Refusal)
     → bs ≡ member_bytes_in c m → list ≡ asked_list r → y ≡ read_of list op (member_of bs) → q ≡ (member_of bs).queues → values ≡ (member_of bs).values
-    → (n, l') ≡ written (replied y.answer (result_of q list values y.body) (length l)) l
+    → (n, l') ≡ written (replied (outcome_of y) (result_given q list values y) (length l)) l
     → (n, (c, l')) ≡ delivered (conclude c (length l) (perform c r (Ok (Read m op)))) l
 unfolding perform member_in
 read_told c r l l' m n q bs list values op y f g h u v k = kept c _ _ l l' n (k ∙ rw (h, u, v, g, f))
 
 module _ (c r l l' : List ℕ) (m n : ℕ) (s : Setup) (x : Member) (list : List ℕ) (e : s ≡ setup_of c) (f : x ≡ member_in c m) where
-  module _ (op : ChangeOp) (y : Changed) (g : list ≡ given_list r)
-      (h : y ≡ change_of s.gets s.sets list op x)
-      (k : (n, l') ≡ written (reply_of y.answer []) l) (room : head_size ≤ length l) (b : Bool) (said : b ≡ is_done y.answer) where
-    pub change-refused : not b ≡ true → (n, (c, l')) ≡ delivered (conclude c (length l) (perform c r (Ok (Change m op)))) l
+  module _ (op : ChangeOp) (y : Result Member Refusal) (g : list ≡ given_list r) (h : y ≡ change_of s.gets s.sets list op x) (room : head_size ≤ length l) where
+    pub change-refused : (a : Refusal) → y ≡ Err a → (n, l') ≡ written (reply_of (Err a) []) l
+        → (n, (c, l')) ≡ delivered (conclude c (length l) (perform c r (Ok (Change m op)))) l
     unfolding perform
-    change-refused t = rw (← f, ← e, ← g, ← h) (refused c y.answer l l' n room k b said _ t)
+    change-refused a t k = rw (← f, ← e, ← g, ← h, t) (refused c (Err a) l l' n room k _ refl)
 
-    pub change-told : (d : List ℕ) → not b ≡ false → d ≡ with_member c m y.member
+    pub change-told : (z : Member) → y ≡ Ok z → (n, l') ≡ written (reply_of (Ok tt) []) l → (d : List ℕ) → d ≡ with_member c m z
         → (n, (d, l')) ≡ delivered (conclude c (length l) (perform c r (Ok (Change m op)))) l
     unfolding perform
-    change-told d t i = rw (← f, ← e, ← g, ← h) (changed c y.answer l l' n room k b said _ d t i)
+    change-told z t k d i = rw (← f, ← e, ← g, ← h, t) (changed c (Ok tt) l l' n room k _ d refl i)
 
 -- ---- the arms of a command ----
 
-module _ (c r l : List ℕ) (b : Bool) (x a : Result Ask Answer) (room : head_size ≤ length l) (sound : b ≡ is_sound c) (n : not b ≡ false)
+module _ (c r l : List ℕ) (b : Bool) (x a : Result Ask Refusal) (room : head_size ≤ length l) (sound : b ≡ is_sound c) (n : not b ≡ false)
     (e : x ≡ ask_in c r) (f : x ≡ a) where
   pub answered : (y : Left) → y ≡ delivered (conclude c (length l) (perform c r a)) l → y ≡ command_of c r l
   answered y h = heard c r l room (sym sound ∙ not-false b n) y (h ∙ rw (sym f ∙ e))
 
-pub refusal-told : (c r l l' : List ℕ) (b : Bool) (x : Result Ask Answer) (k : ℕ) → head_size ≤ length l → b ≡ is_sound c → not b ≡ false
-    → x ≡ ask_in c r → (a : Answer) → x ≡ Err a → (k, l') ≡ written (reply_of a []) l → (k, (c, l')) ≡ command_of c r l
+pub refusal-told : (c r l l' : List ℕ) (b : Bool) (x : Result Ask Refusal) (k : ℕ) → head_size ≤ length l → b ≡ is_sound c → not b ≡ false
+    → x ≡ ask_in c r → (a : Refusal) → x ≡ Err a → (k, l') ≡ written (reply_of (Err a) []) l → (k, (c, l')) ≡ command_of c r l
 unfolding perform
-refusal-told c r l l' b x k room sound n e a f h = answered c r l b x (Err a) room sound n e f _ (answer-kept c a l l' k room h)
+refusal-told c r l l' b x k room sound n e a f h = answered c r l b x (Err a) room sound n e f _ (answer-kept c (Err a) l l' k room h)
 
-pub query-told : (c r l l' : List ℕ) (k : ℕ) → (k, l') ≡ written (replied Done (bytes 8 supported_mask) (length l)) l
+pub query-told : (c r l l' : List ℕ) (k : ℕ) → (k, l') ≡ written (replied (Ok tt) (bytes 8 supported_mask) (length l)) l
     → (k, (c, l')) ≡ delivered (conclude c (length l) (perform c r (Ok QueryList))) l
 unfolding perform
-query-told c r l l' k h = kept c Done _ l l' k h
+query-told c r l l' k h = kept c (Ok tt) _ l l' k h
 
 -- a member that a request asks for is one of the card's
 module _ (c r : List ℕ) (x : Ask) (m : ℕ) (e : ask_in c r ≡ Ok x) where

@@ -1,5 +1,5 @@
 -- What the reply's writer left, and what becomes of the card: steps 11 and 12. Assumes nothing.
-use Rattle.std.specs.Prelude.{Ok}
+use Rattle.std.specs.Prelude.{Ok, is_ok}
 use mathlib.Core.Path.{◌≡◌, refl, ap, sym, ◌∙◌}
 use mathlib.Core.Bool.{Bool, true, false, not}
 use mathlib.Core.List.{List, []}
@@ -10,9 +10,7 @@ use borrow.Author.Tests.{le-leb, lt-leb, not-true, not-false}
 use Rattle.theory.specs.Logic.{when◌then◌else◌, unless◌answer◌then◌, ◌and◌}
 use Rattle.theory.proofs.Tests.{by_cases, and-false}
 use Rattle.theory.proofs.Bytes.{put-nil}
-use Rattle.protocol.specs.declared.Answer.{Answer}
-use Rattle.protocol.specs.declared.Answer.TheVariants.{Done}
-use Rattle.protocol.specs.Answers.{is_done}
+use Rattle.protocol.specs.Answers.{Answer}
 use Rattle.card.specs.Layout.{with_in_use}
 use Rattle.card.specs.Sound.{is_sound}
 use Rattle.frame.specs.declared.Ask.TheVariants.{UseList}
@@ -23,7 +21,7 @@ use Rattle.admin.specs.Command.{effect, ask_in, perform, conclude, respond, deli
 -- n and l' are what the writer left of the buffer l: answer a, result x
 module _ (c : List ℕ) (a : Answer) (x l l' : List ℕ) (n : ℕ) (e : (n, l') ≡ written (replied a x (length l)) l) where
   -- the card that stands is `next` after a success, c after a refusal
-  left : (next d : List ℕ) → d ≡ (when is_done (final_of a (length x) (length l)) then next else c)
+  left : (next d : List ℕ) → d ≡ (when is_ok (final_of a (length x) (length l)) then next else c)
       → (n, (d, l')) ≡ delivered (conclude c (length l) (effect a next x)) l
   unfolding conclude delivered written
   left next d h = rw (h, ap (λ (y : ℕ × List ℕ). y.0) e, ap (λ (y : ℕ × List ℕ). y.1) e)
@@ -31,7 +29,7 @@ module _ (c : List ℕ) (a : Answer) (x l l' : List ℕ) (n : ℕ) (e : (n, l') 
   -- nothing was to change
   pub kept : (n, (c, l')) ≡ delivered (conclude c (length l) (effect a c x)) l
   unfolding when◌then◌else◌
-  kept = left c c (by_cases (is_done (final_of a (length x) (length l))) (λ d. rw d) (λ d. rw d))
+  kept = left c c (by_cases (is_ok (final_of a (length x) (length l))) (λ d. rw d) (λ d. rw d))
 
 -- a reply with no result always fits
 module _ (c : List ℕ) (a : Answer) (l l' : List ℕ) (n : ℕ) (room : head_size ≤ length l) (e : (n, l') ≡ written (reply_of a []) l) where
@@ -41,20 +39,20 @@ module _ (c : List ℕ) (a : Answer) (l l' : List ℕ) (n : ℕ) (room : head_si
   pub answer-kept : (n, (c, l')) ≡ delivered (conclude c (length l) (effect a c [])) l
   answer-kept = kept c a [] l l' n full
 
-  module _ (b : Bool) (said : b ≡ is_done a) (next : List ℕ) where
-    pub refused : not b ≡ true → (n, (c, l')) ≡ delivered (conclude c (length l) (effect a next [])) l
+  module _ (next : List ℕ) where
+    pub refused : is_ok a ≡ false → (n, (c, l')) ≡ delivered (conclude c (length l) (effect a next [])) l
     unfolding when◌then◌else◌
-    refused t = left c a [] l l' n full next c (rw (final-empty a (length l) room, sym said ∙ not-true b t))
+    refused t = left c a [] l l' n full next c (rw (final-empty a (length l) room, t))
 
-    pub changed : (d : List ℕ) → not b ≡ false → d ≡ next → (n, (d, l')) ≡ delivered (conclude c (length l) (effect a next [])) l
+    pub changed : (d : List ℕ) → is_ok a ≡ true → d ≡ next → (n, (d, l')) ≡ delivered (conclude c (length l) (effect a next [])) l
     unfolding when◌then◌else◌
-    changed d t h = left c a [] l l' n full next d (h ∙ rw (final-empty a (length l) room, sym said ∙ not-false b t))
+    changed d t h = left c a [] l l' n full next d (h ∙ rw (final-empty a (length l) room, t))
 
 -- list use: its reply is 8 bytes, so it always stands
-pub used : (c r l l' d : List ℕ) (mask n : ℕ) → (n, l') ≡ written (reply_of Done []) l → head_size ≤ length l → d ≡ with_in_use c mask
+pub used : (c r l l' d : List ℕ) (mask n : ℕ) → (n, l') ≡ written (reply_of (Ok tt) []) l → head_size ≤ length l → d ≡ with_in_use c mask
     → (n, (d, l')) ≡ delivered (conclude c (length l) (perform c r (Ok (UseList mask)))) l
 unfolding perform
-used c r l l' d mask n e h k = changed c Done l l' n h e true refl (with_in_use c mask) d refl k
+used c r l l' d mask n e h k = changed c (Ok tt) l l' n h e (with_in_use c mask) d refl k
 
 -- ---- step 1 ----
 

@@ -1,7 +1,7 @@
 -- A command that is obeyed is for a member that is not marked; and no command marks a member, nor takes its mark. Assumes
 -- nothing.
 use Rattle.std.specs.Prelude.{Result, Ok, Err}
-use Rattle.protocol.specs.declared.Answer.{Answer}
+use Rattle.protocol.specs.declared.Refusal.{Refusal}
 use mathlib.Core.Path.{◌≡◌, refl, ap, sym, ◌∙◌}
 use mathlib.Core.Bool.{true, false}
 use mathlib.Core.List.{List}
@@ -23,7 +23,7 @@ named_here c r m n = inside 1 _ m n.low n.high
 pub named-unmarked : (c r : List ℕ) (m : ℕ) → NamedIn c r m → (member_in c m).marked ≡ false
 named-unmarked c r m n = sym (marked-is c m (named_here c r m n)) ∙ ap (is_marked c) (sym n.target) ∙ n.unmarked
 
-perform-mark : (c : List ℕ) → Sound c → (r : List ℕ) (k : ℕ) (a : Result Ask Answer) → FactsIn c r a → is_marked (perform c r a).card k ≡ is_marked c k
+perform-mark : (c : List ℕ) → Sound c → (r : List ℕ) (k : ℕ) (a : Result Ask Refusal) → FactsIn c r a → is_marked (perform c r a).card k ≡ is_marked c k
 unfolding perform
 perform-mark c s r k (Err a) f = refl
 perform-mark c s r k (Ok QueryList) f = refl

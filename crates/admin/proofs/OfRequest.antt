@@ -1,6 +1,6 @@
 -- What is asked of a card, and the list of a request. Assumes nothing.
 use Rattle.std.specs.Prelude.{Result}
-use Rattle.protocol.specs.declared.Answer.{Answer}
+use Rattle.protocol.specs.declared.Refusal.{Refusal}
 use mathlib.Core.Path.{◌≡◌, ◌∙◌}
 use mathlib.Core.Bool.{Bool}
 use mathlib.Core.List.{List}
@@ -23,7 +23,7 @@ target-asked : (members ids in_use m : ℕ) (c r : List ℕ) → m ≡ (when leb
 unfolding ask_of within ◌and◌ when◌then◌else◌ unless◌answer◌then◌
 target-asked members ids in_use m c r e = rw e (by_cases (leb data_at (length r)) (λ t. rw t) (λ t. rw t))
 
-pub is-asked : (c r : List ℕ) (s : Setup) (u m : ℕ) (t : Bool) (a : Result Ask Answer) → s ≡ setup_of c → u ≡ in_use_of c
+pub is-asked : (c r : List ℕ) (s : Setup) (u m : ℕ) (t : Bool) (a : Result Ask Refusal) → s ≡ setup_of c → u ≡ in_use_of c
     → m ≡ (when leb data_at (length r) then target_of r else 0) → t ≡ is_marked c m
     → a ≡ ask_of s.members (s.gets + s.sets) u t r → a ≡ ask_in c r
 unfolding ask_in

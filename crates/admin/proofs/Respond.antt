@@ -1,5 +1,5 @@
 -- A command, as its steps: what is here is all that the other proofs use of the definition of `respond`. Assumes nothing.
-use Rattle.std.specs.Prelude.{Result}
+use Rattle.std.specs.Prelude.{Result, is_ok}
 use mathlib.Core.Path.{◌≡◌, refl}
 use mathlib.Core.Bool.{true, false}
 use mathlib.Core.List.{List, []}
@@ -9,8 +9,8 @@ use lib.ListN.{length}
 use borrow.Author.Tests.{leb-true, le-leb}
 use Rattle.theory.specs.Logic.{when◌then◌else◌, unless◌answer◌then◌, ◌and◌}
 use Rattle.theory.proofs.Tests.{both, if-cases, unless-cases}
-use Rattle.protocol.specs.declared.Answer.{Answer}
-use Rattle.protocol.specs.Answers.{is_done}
+use Rattle.protocol.specs.declared.Refusal.{Refusal}
+use Rattle.protocol.specs.Answers.{Answer}
 use Rattle.card.specs.Layout.{setup_of, in_use_of, is_marked}
 use Rattle.card.specs.Sound.{is_sound}
 use Rattle.frame.specs.declared.Ask.{Ask}
@@ -23,7 +23,7 @@ use Rattle.admin.specs.Command.{ask_in, Effect, perform, conclude, respond}
 abbrev pub NamedIn : List ℕ → List ℕ → ℕ → Type 0
 NamedIn c r m = Named (setup_of c).members (is_marked c (target_of r)) r m
 
-abbrev pub FactsIn : List ℕ → List ℕ → Result Ask Answer → Type 0
+abbrev pub FactsIn : List ℕ → List ℕ → Result Ask Refusal → Type 0
 FactsIn c r a = Facts (setup_of c).members ((setup_of c).gets + (setup_of c).sets) (is_marked c (target_of r)) r a
 
 pub asked_of : (c r : List ℕ) → FactsIn c r (ask_in c r)
@@ -35,7 +35,7 @@ abbrev pub last_answer : ℕ → Effect → Answer
 last_answer room e = final_of e.outcome (length e.result) room
 
 abbrev pub ended : List ℕ → ℕ → Effect → List ℕ × List ℕ
-ended c room e = (when is_done (last_answer room e) then e.card else c, reply_of (last_answer room e) e.result)
+ended c room e = (when is_ok (last_answer room e) then e.card else c, reply_of (last_answer room e) e.result)
 
 module _ (c r : List ℕ) (room : ℕ) where
   -- step 1
@@ -57,4 +57,4 @@ module _ (c r : List ℕ) (room : ℕ) where
   card-cases P f g =
       let e = perform c r (ask_in c r) in
       respond-cases (λ (y : List ℕ × List ℕ). P y.0) f
-      (λ h s. if-cases P (is_done (last_answer room e)) e.card c (λ t. g s) (λ t. f))
+      (λ h s. if-cases P (is_ok (last_answer room e)) e.card c (λ t. g s) (λ t. f))

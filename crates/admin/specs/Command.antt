@@ -1,15 +1,13 @@
 -- A command, whole: SPEC 6.1. Assumes nothing.
-use Rattle.std.specs.Prelude.{List, [], ℕ, ◌+◌, leb, length, Result, Ok, Err}
+use Rattle.std.specs.Prelude.{Result, Ok, Err, is_ok, List, [], ℕ, ◌+◌, leb, length}
 use Rattle.theory.specs.Logic.{when◌then◌else◌, unless◌answer◌then◌, ◌and◌}
 use Rattle.wire.specs.Le.{bytes}
-use Rattle.protocol.specs.declared.Answer.{Answer}
-use Rattle.protocol.specs.declared.Answer.TheVariants.{Done}
-use Rattle.protocol.specs.Answers.{is_done}
+use Rattle.protocol.specs.declared.Refusal.{Refusal}
+use Rattle.protocol.specs.declared.Body.{Body}
+use Rattle.protocol.specs.Answers.{Answer, outcome_of}
 use Rattle.protocol.specs.Opcodes.{supported_mask}
 use Rattle.member.specs.declared.Member.{Member}
-use Rattle.reads.specs.declared.Reading.{Reading}
-use Rattle.changes.specs.declared.Changed.{Changed}
-use Rattle.changes.specs.Changes.{change_of}
+use Rattle.changes.specs.Changes.{member_after, change_of}
 use Rattle.reads.specs.Reads.{read_of}
 use Rattle.card.specs.Layout.{setup_of, in_use_of, with_in_use, member_in, with_member, is_marked}
 use Rattle.card.specs.Sound.{is_sound}
@@ -17,11 +15,11 @@ use Rattle.frame.specs.declared.Ask.{Ask}
 use Rattle.frame.specs.declared.Ask.TheVariants.{QueryList, UseList, Read, Change}
 use Rattle.frame.specs.Frame.{target_of, asked_list, given_list}
 use Rattle.frame.specs.Ask.{ask_of}
-use Rattle.reply.specs.Result.{result_of}
+use Rattle.reply.specs.Result.{result_given}
 use Rattle.reply.specs.Reply.{head_size, final_of, replied, written}
 
 -- steps 2 to 7: what a request asks of this card
-unfoldable pub ask_in : List ℕ → List ℕ → Result Ask Answer
+unfoldable pub ask_in : List ℕ → List ℕ → Result Ask Refusal
 ask_in c r =
     ask_of (setup_of c).members ((setup_of c).gets + (setup_of c).sets) (in_use_of c) (is_marked c (target_of r)) r
 
@@ -34,17 +32,17 @@ pub record Effect : Type 0 where
 abbrev pub effect : Answer → List ℕ → List ℕ → Effect
 effect a c x = record { outcome = a; card = c; result = x }
 
-abbrev pub reading : List ℕ → List ℕ → Member → Reading → Effect
-reading c list m x = effect x.answer c (result_of m.queues list m.values x.body)
+abbrev pub reading : List ℕ → List ℕ → Member → Result Body Refusal → Effect
+reading c list m x = effect (outcome_of x) c (result_given m.queues list m.values x)
 
-abbrev pub changing : List ℕ → ℕ → Changed → Effect
-changing c m x = effect x.answer (with_member c m x.member) []
+abbrev pub changing : List ℕ → ℕ → Result Member Refusal → Effect
+changing c m x = effect (outcome_of x) (with_member c m (member_after (member_in c m) x)) []
 
 -- steps 8 to 10
-unfoldable pub perform : List ℕ → List ℕ → Result Ask Answer → Effect
-perform c r (Err a) = effect a c []
-perform c r (Ok QueryList) = effect Done c (bytes 8 supported_mask)
-perform c r (Ok (UseList mask)) = effect Done (with_in_use c mask) []
+unfoldable pub perform : List ℕ → List ℕ → Result Ask Refusal → Effect
+perform c r (Err a) = effect (Err a) c []
+perform c r (Ok QueryList) = effect (Ok tt) c (bytes 8 supported_mask)
+perform c r (Ok (UseList mask)) = effect (Ok tt) (with_in_use c mask) []
 perform c r (Ok (Read m op)) =
     reading c (asked_list r) (member_in c m) (read_of (asked_list r) op (member_in c m))
 perform c r (Ok (Change m op)) =
@@ -53,7 +51,7 @@ perform c r (Ok (Change m op)) =
 -- steps 11 and 12: the card after, which a refusal leaves as it was, and the reply
 unfoldable pub conclude : List ℕ → ℕ → Effect → List ℕ × List ℕ
 conclude c room e =
-    (when is_done (final_of e.outcome (length e.result) room) then e.card else c, replied e.outcome e.result room)
+    (when is_ok (final_of e.outcome (length e.result) room) then e.card else c, replied e.outcome e.result room)
 
 -- a command on a card, with room for so many bytes of reply: the card after it and the reply
 unfoldable pub respond : List ℕ → List ℕ → ℕ → List ℕ × List ℕ

@@ -8,10 +8,10 @@ ghost use Rattle.reply.specs.Reply.{head_size};
 ghost use Rattle.admin.specs.Command.{ask_in, perform, conclude, delivered, command_of};
 
 use frame::Ask;
-use protocol::{Answer, ChangeOp, ReadOp};
+use protocol::{ChangeOp, ReadOp, Refusal};
 
 // Steps 2 to 7: what a request asks of this card.
-fn asked(card: &[u8], request: &[u8]) -> Result<Ask, Answer>
+fn asked(card: &[u8], request: &[u8]) -> Result<Ask, Refusal>
     requires { is_sound card.now ≡ true }
     ensures { result ≡ ask_in card.now request.now }
 {
@@ -40,11 +40,9 @@ fn read_member(card: &[u8], m: u64, op: ReadOp, request: &[u8], reply: &mut [u8]
     let bytes = card::member_bytes(card, m);
     let list = from(request, frame::ASKED_AT);
     let reading = reads::read(bytes, op, list);
-    let answer = reading.answer;
-    let body = reading.body;
     let queues = member::queues_of(bytes);
     let values = member::values_of(bytes);
-    reply::write_reading(answer, body, queues, list, values, reply)
+    reply::write_reading(reading, queues, list, values, reply)
 }
 
 // Steps 8 to 12 of a command that changes a member.
@@ -54,15 +52,13 @@ fn change_member(card: &mut [u8], m: u64, op: ChangeOp, request: &[u8], reply: &
 {
     let s = card::setup_of(card);
     let before = card::load_member(card, m);
-    let outcome = changes::change(before, op, s.gets, s.sets, from(request, frame::GIVEN_AT));
-    let answer = outcome.answer;
-    let after = outcome.member;
-    let n = reply::write_answer(answer, reply);
-    if !protocol::is_done(answer) {
-        return n;
+    match changes::change(before, op, s.gets, s.sets, from(request, frame::GIVEN_AT)) {
+        Ok(after) => {
+            card::save_member(card, m, after);
+            reply::write_answer(Ok(()), reply)
+        }
+        Err(refusal) => reply::write_answer(Err(refusal), reply),
     }
-    card::save_member(card, m, after);
-    n
 }
 
 // List use: always a success, since its reply is 8 bytes.
@@ -71,7 +67,7 @@ fn use_list(card: &mut [u8], mask: u64, request: &[u8], reply: &mut [u8]) -> usi
     ensures { (result, (card.new, reply.new)) ≡ delivered (conclude card.old (length reply.old) (perform card.old request.now (Ok (Ask.UseList mask)))) reply.old }
 {
     card::set_in_use(card, mask);
-    reply::write_answer(Answer::Done, reply)
+    reply::write_answer(Ok(()), reply)
 }
 
 // Steps 8 to 12 of what a request asks.
@@ -99,6 +95,6 @@ pub fn command(card: &mut [u8], request: &[u8], reply: &mut [u8]) -> usize
     }
     match asked(card, request) {
         Ok(ask) => obey(card, ask, request, reply),
-        Err(a) => reply::write_answer(a, reply),
+        Err(refusal) => reply::write_answer(Err(refusal), reply),
     }
 }

@@ -3,80 +3,57 @@
 
 ghost use Rattle.std.specs.Prelude.{◌≡◌};
 ghost use Rattle.member.specs.Member.{features_in, with_mode};
+ghost use Rattle.member.specs.Objects.{with_object};
 ghost use Rattle.rules.specs.Rules.{cause_of, is_accepted};
 ghost use Rattle.changes.specs.Changes.{limited, create_of, modify_of, destroy_of, set_parts_of, change_of};
-ghost use Rattle.changes.specs.Changes.{refuse as refused, done as accepted};
 
 use member::{FEATURES_SIZE, Member};
-use protocol::{Answer, ChangeOp, Mode, ObjectKind};
+use protocol::{ChangeOp, Mode, ObjectKind, Refusal};
 
-// The outcome of an operation that changes the member: refused, it is the member as it was.
-#[derive(Clone, Copy)]
-pub struct Changed {
-    pub answer: Answer,
-    pub member: Member,
-}
-
-fn refuse(m: Member, answer: Answer) -> Changed
-    ensures { result ≡ refused m answer }
+// The member with an object of this kind at the id, if it then has room for its objects.
+fn put(m: Member, id: usize, kind: ObjectKind, gets: u8, sets: u8) -> Result<Member, Refusal>
+    ensures { result ≡ limited gets sets (with_object m id (Some kind)) }
 {
-    Changed { answer, member: m }
-}
-
-fn done(m: Member) -> Changed
-    ensures { result ≡ accepted m }
-{
-    Changed {
-        answer: Answer::Done,
-        member: m,
-    }
-}
-
-// n, if it has room for its objects; else m.
-fn if_room(m: Member, n: Member, gets: u8, sets: u8) -> Changed
-    ensures { result ≡ limited gets sets m n }
-{
+    let n = m.with_object(id, Some(kind));
     if !n.has_room(gets, sets) {
-        return refuse(m, Answer::NoRoom);
+        return Err(Refusal::NoRoom);
     }
-    done(n)
+    Ok(n)
 }
 
-fn create(m: Member, id: usize, kind: ObjectKind, gets: u8, sets: u8) -> Changed
+fn create(m: Member, id: usize, kind: ObjectKind, gets: u8, sets: u8) -> Result<Member, Refusal>
     ensures { result ≡ create_of gets sets id kind m }
 {
     let None = m.lookup(id) else {
-        return refuse(m, Answer::Exists);
+        return Err(Refusal::Exists);
     };
-    let n = m.with_object(id, Some(kind));
-    if_room(m, n, gets, sets)
+    put(m, id, kind, gets, sets)
 }
 
-fn modify(m: Member, id: usize, kind: ObjectKind, gets: u8, sets: u8) -> Changed
+fn modify(m: Member, id: usize, kind: ObjectKind, gets: u8, sets: u8) -> Result<Member, Refusal>
     ensures { result ≡ modify_of gets sets id kind m }
 {
     let Some(_) = m.lookup(id) else {
-        return refuse(m, Answer::NotLive);
+        return Err(Refusal::NotLive);
     };
-    let n = m.with_object(id, Some(kind));
-    if_room(m, n, gets, sets)
+    put(m, id, kind, gets, sets)
 }
 
-fn destroy(m: Member, id: usize) -> Changed
+fn destroy(m: Member, id: usize) -> Result<Member, Refusal>
     ensures { result ≡ destroy_of id m }
 {
     let Some(_) = m.lookup(id) else {
-        return refuse(m, Answer::NotLive);
+        return Err(Refusal::NotLive);
     };
-    done(m.without_object(id))
+    Ok(m.without_object(id))
 }
 
-fn set_mode(m: Member, mode: Mode) -> Changed
-    ensures { result ≡ accepted (with_mode m mode) }
+fn set_mode(m: Member, mode: Mode) -> Member
+    ensures { result ≡ with_mode m mode }
 {
     match mode {
-        Mode::Running => done(m.resume()),
-        Mode::Stopped => done(m.stop()),
+        Mode::Running => m.resume(),
+        Mode::Stopped => m.stop(),
     }
 }
 
@@ -90,27 +67,27 @@ fn accepts(m: Member, list: &[u8]) -> bool
 }
 
 // Steps 8, 9 and 10 of parts set; all or nothing.
-fn set_parts(m: Member, id: usize, list: &[u8]) -> Changed
+fn set_parts(m: Member, id: usize, list: &[u8]) -> Result<Member, Refusal>
     ensures { result ≡ set_parts_of id list.now m }
 {
     let Some(kind) = m.lookup(id) else {
-        return refuse(m, Answer::NotLive);
+        return Err(Refusal::NotLive);
     };
     let ObjectKind::Set = kind else {
-        return refuse(m, Answer::WrongKind);
+        return Err(Refusal::WrongKind);
     };
     let mode = m.mode;
     let Mode::Stopped = mode else {
-        return refuse(m, Answer::Running);
+        return Err(Refusal::Running);
     };
     if !accepts(m, list) {
-        return refuse(m, Answer::BadList);
+        return Err(Refusal::BadList);
     }
-    done(m.set_parts(list))
+    Ok(m.set_parts(list))
 }
 
-// A command that changes the member; list holds the parts given.
-pub fn change(m: Member, op: ChangeOp, gets: u8, sets: u8, list: &[u8]) -> Changed
+// The member after a command that changes it; list holds the parts given.
+pub fn change(m: Member, op: ChangeOp, gets: u8, sets: u8, list: &[u8]) -> Result<Member, Refusal>
     ensures { result ≡ change_of gets sets list.now op m }
 {
     match op {
@@ -118,6 +95,6 @@ pub fn change(m: Member, op: ChangeOp, gets: u8, sets: u8, list: &[u8]) -> Chang
         ChangeOp::Modify(id, kind) => modify(m, id, kind, gets, sets),
         ChangeOp::Destroy(id) => destroy(m, id),
         ChangeOp::SetParts(id) => set_parts(m, id, list),
-        ChangeOp::SetMode(mode) => set_mode(m, mode),
+        ChangeOp::SetMode(mode) => Ok(set_mode(m, mode)),
     }
 }

@@ -8,7 +8,6 @@ use native.Mathlib.Omega.{arith}
 use lib.ListN.{length}
 use Rattle.theory.specs.Bytes.{bytes_at}
 use Rattle.theory.proofs.Tests.{within-high}
-use Rattle.protocol.specs.declared.Answer.TheVariants.{Done}
 use Rattle.protocol.specs.declared.ObjectKind.TheVariants.{Get}
 use Rattle.protocol.specs.Opcodes.{bit}
 use Rattle.inventory.specs.Inventory.{values_size, parts_size}
@@ -18,7 +17,7 @@ use Rattle.rules.specs.Rules.{cause_of, is_accepted}
 use Rattle.capture.specs.Capture.{capture_of}
 use Rattle.capture.proofs.Sizes.{capture-length}
 use Rattle.restore.proofs.RoundTrip.{accepted as capture-accepted, captured as capture-restored}
-use Rattle.std.specs.Prelude.{Some}
+use Rattle.std.specs.Prelude.{Some, Ok}
 use Rattle.member.specs.Objects.{lookup_of}
 use Rattle.card.specs.declared.Setup.{Setup}
 use Rattle.card.specs.Layout.{in_use_of, member_in}
@@ -72,7 +71,7 @@ module _ (c : List ℕ) (m i : ℕ) (d : List ℕ) (k j : ℕ) (x : Acceptable c
   unfolding list
   list-accepted = capture-accepted q v few-queues long-source allowed-source w features-same
 
-  captured-is : (r : ℕ) → 8 + parts_size q ≤ r → capture c m i r ≡ head_of Done ++ list
+  captured-is : (r : ℕ) → 8 + parts_size q ≤ r → capture c m i r ≡ head_of (Ok tt) ++ list
   unfolding list
   captured-is r h =
       rw x.same_queues at (capture-is c m source i r x.source_get x.capture_in_use (rw (x.same_queues, list-long) h))
@@ -83,7 +82,7 @@ module _ (c : List ℕ) (m i : ℕ) (d : List ℕ) (k j : ℕ) (x : Acceptable c
   abbrev after : List ℕ
   after = card_set d k j taker list (ap is_accepted list-accepted)
 
-  restored-is : (r₁ r₂ : ℕ) → 8 + parts_size q ≤ r₁ → 8 ≤ r₂ → restore d k j (capture c m i r₁) r₂ ≡ (after, head_of Done)
+  restored-is : (r₁ r₂ : ℕ) → 8 + parts_size q ≤ r₁ → 8 ≤ r₂ → restore d k j (capture c m i r₁) r₂ ≡ (after, head_of (Ok tt))
   restored-is r₁ r₂ h g =
       let n = list-long in
       let f = few-queues in
@@ -99,7 +98,7 @@ module _ (c : List ℕ) (m i : ℕ) (d : List ℕ) (k j : ℕ) (x : Acceptable c
       rw (member-after d k j taker list (ap is_accepted list-accepted)) (capture-restored q v few-queues long-source allowed-source w long-target features-same)
 
   recaptured-is : (l r : ℕ) → lookup_of (member_in d k) l ≡ Some Get → bit (in_use_of d) 0x0f ≡ true → 8 + parts_size q ≤ r
-      → capture after k l r ≡ head_of Done ++ list
+      → capture after k l r ≡ head_of (Ok tt) ++ list
   recaptured-is l r g u h =
       rw values-after at
       (capture-is after k reached-after l r (lookup-after d k j taker list (ap is_accepted list-accepted) l ∙ g)

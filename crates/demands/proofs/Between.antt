@@ -11,7 +11,7 @@ use lib.ListN.{length, get_or}
 use Rattle.std.specs.Prelude.{Ok, Err, is_ok, Option, Some, None}
 use Rattle.theory.specs.Logic.{when◌then◌else◌, unless◌answer◌then◌, ◌or◌, within}
 use Rattle.theory.proofs.Tests.{both}
-use Rattle.protocol.specs.declared.Answer.TheVariants.{Marked}
+use Rattle.protocol.specs.declared.Refusal.TheVariants.{Marked}
 use Rattle.protocol.specs.Answers.{EventAnswer, event_number}
 use Rattle.protocol.specs.Opcodes.{names_member}
 use Rattle.frame.specs.Frame.{opcode_of, group_of, target_of}
@@ -72,9 +72,9 @@ module _ (c : List ℕ) (m : ℕ) (s : is_sound c ≡ true) (u : is_marked c m �
       rw (p.0, p.1, v, p.2, eqb-true (target_of r) m p.3, here, u)
 
   command-refused : (r : List ℕ) (room : ℕ) → names m (command r room) ≡ true → usable (in_use_of c) (opcode_of r) ≡ true → 8 ≤ room
-      → respond c r room ≡ (c, head_of Marked)
+      → respond c r room ≡ (c, head_of (Err Marked))
   unfolding perform when◌then◌else◌
-  command-refused r room n v l = rw (respond-is c r room l s, asked-marked r room n v, final-empty Marked room l, reply-empty)
+  command-refused r room n v l = rw (respond-is c r room l s, asked-marked r room n v, final-empty (Err Marked) room l, reply-empty)
 
   between : Between c m
   unfolding step names begin_of feed_of finish_of drop_of

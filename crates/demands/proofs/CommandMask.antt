@@ -1,6 +1,6 @@
 -- What a command that does not name m does to the masked card of Mask.antt. Assumes nothing.
-use Rattle.std.specs.Prelude.{Result, Ok, Err}
-use Rattle.protocol.specs.declared.Answer.{Answer}
+use Rattle.std.specs.Prelude.{Result, Ok, Err, is_ok}
+use Rattle.protocol.specs.declared.Refusal.{Refusal}
 use mathlib.Core.Path.{◌≡◌, refl, sym, ◌∙◌}
 use mathlib.Core.Logic.{◌≢◌}
 use mathlib.Core.Bool.{true, false}
@@ -11,7 +11,6 @@ use lib.ListN.{length}
 use borrow.Author.Tests.{eqb-false, leb-true}
 use Rattle.theory.specs.Logic.{when◌then◌else◌, ◌and◌}
 use Rattle.theory.proofs.Tests.{by_cases, and-true}
-use Rattle.protocol.specs.Answers.{is_done}
 use Rattle.card.specs.Layout.{card_size, setup_of, member_in}
 use Rattle.card.specs.Sound.{is_sound}
 use Rattle.card.proofs.RecordLaws.{setup-with-record, record-other}
@@ -42,7 +41,7 @@ module _ (m : ℕ) (low : 1 ≤ m) (c : List ℕ) (s : is_sound c ≡ true) (r :
       unmasked : member_in (mask m c) k ≡ member_in c k
       unmasked = record-other c m _ 0 k low f.low another
 
-    perform-alike : (a : Result Ask Answer) → FactsIn c r a → Alike m (perform (mask m c) r a) (perform c r a)
+    perform-alike : (a : Result Ask Refusal) → FactsIn c r a → Alike m (perform (mask m c) r a) (perform c r a)
     unfolding perform
     perform-alike (Err a) f = record { outcomes = refl; results = refl; cards = mask-mask m low c whole }
     perform-alike (Ok QueryList) f = record { outcomes = refl; results = refl; cards = mask-mask m low c whole }
@@ -59,7 +58,7 @@ module _ (m : ℕ) (low : 1 ≤ m) (c : List ℕ) (s : is_sound c ≡ true) (r :
   unfolding when◌then◌else◌
   ended-alike e f h =
       rw (h.outcomes, h.results)
-      (refl, by_cases (is_done (last_answer room f)) (λ t. rw t h.cards) (λ t. rw t (mask-mask m low c whole)))
+      (refl, by_cases (is_ok (last_answer room f)) (λ t. rw t h.cards) (λ t. rw t (mask-mask m low c whole)))
 
   pub respond-answers : names m (command r room) ≡ false
       → ((respond (mask m c) r room).1 ≡ (respond c r room).1) × (mask m (respond (mask m c) r room).0 ≡ mask m (respond c r room).0)

@@ -1,6 +1,6 @@
 -- Commands, card stores, hand backs and the calls of a restore leave every configuration as it was. Assumes nothing.
 use Rattle.std.specs.Prelude.{Result, Ok, Err}
-use Rattle.protocol.specs.declared.Answer.{Answer}
+use Rattle.protocol.specs.declared.Refusal.{Refusal}
 use mathlib.Core.Path.{◌≡◌, refl, ap, ◌∙◌}
 use mathlib.Core.Bool.{true}
 use mathlib.Core.List.{List}
@@ -78,7 +78,7 @@ module _ (c : List ℕ) (m : ℕ) (h : is_member c m ≡ true) where
   low : 1 ≤ m
   low = within_low _ _ m h
 
-  perform_kept : (r : List ℕ) (a : Result Ask Answer) → FactsIn c r a → SameConfiguration c (perform c r a).card m
+  perform_kept : (r : List ℕ) (a : Result Ask Refusal) → FactsIn c r a → SameConfiguration c (perform c r a).card m
   unfolding perform
   perform_kept r (Err a) f = kept c m
   perform_kept r (Ok QueryList) f = kept c m

@@ -1,4 +1,5 @@
 -- DEMAND 1: where nothing is written, what a command leaves of the buffer, and setup. Refusals: Refusals.antt. Assumes nothing.
+use Rattle.std.specs.Prelude.{is_ok}
 use mathlib.Core.Path.{◌≡◌, refl, ap, sym, ◌∙◌}
 use mathlib.Core.Logic.{◌≢◌}
 use mathlib.Core.Bool.{true, false}
@@ -13,8 +14,7 @@ use Rattle.theory.specs.Logic.{◌and◌}
 use Rattle.theory.proofs.Tests.{by_cases, both, unless-cases, false-and, and-false}
 use Rattle.theory.proofs.Bytes.{put-nil, put_front}
 use Rattle.theory.proofs.Lists.{get_or-same}
-use Rattle.protocol.specs.declared.Answer.{Answer}
-use Rattle.protocol.specs.Answers.{EventAnswer, is_done, event_number}
+use Rattle.protocol.specs.Answers.{Answer, EventAnswer, event_number}
 use Rattle.card.specs.Layout.{setup_of, counts_of}
 use Rattle.card.specs.Sound.{is_sound}
 use Rattle.card.proofs.HeaderLaws.{members-read}
@@ -44,7 +44,7 @@ not-written = record {
 
 reply-short : (a : Answer) (x : List ℕ) (room : ℕ) → 8 ≤ room → length (reply_of (final_of a (length x) room) x) ≤ room
 reply-short a x room h =
-    by_cases (is_done (final_of a (length x) room))
+    by_cases (is_ok (final_of a (length x) room))
     (λ t. rw (reply-done _ x t, length-append, head-long) (final-room a (length x) room t))
     (λ t. rw (reply-refused _ x t, head-long) h)
 

@@ -1,6 +1,6 @@
 -- Commands and card stores leave every holding place as it was. Assumes nothing.
 use Rattle.std.specs.Prelude.{Result, Ok, Err}
-use Rattle.protocol.specs.declared.Answer.{Answer}
+use Rattle.protocol.specs.declared.Refusal.{Refusal}
 use mathlib.Core.Path.{◌≡◌, refl, ap, ◌∙◌}
 use mathlib.Core.Logic.{◌≢◌}
 use mathlib.Core.Bool.{true}
@@ -17,7 +17,7 @@ use Rattle.member.specs.Record.{member_size, holding_size, member_of, member_byt
 use Rattle.member.specs.Objects.{with_object}
 use Rattle.values.proofs.Kept.{done-allowed}
 use Rattle.member.proofs.Sound.{sound-part}
-use Rattle.changes.specs.Changes.{change_of}
+use Rattle.changes.specs.Changes.{member_after, change_of}
 use Rattle.changes.proofs.Kept.{change-cases, change-sound}
 use Rattle.card.specs.Layout.{member_bytes_at, holding_at, setup_of, is_member, member_in, with_member, holding_in, with_in_use}
 use Rattle.card.proofs.RecordBytesLaws.{bytes-other}
@@ -35,10 +35,10 @@ use Rattle.demands.specs.Calls.{step}
 use Rattle.demands.specs.Holding.{SameHolding, HoldingKept}
 
 -- no change of a member touches what is held
-change-held : (gets sets : ℕ) (list : List ℕ) (op : ChangeOp) (m : Member) → (change_of gets sets list op m).member.held ≡ m.held
+change-held : (gets sets : ℕ) (list : List ℕ) (op : ChangeOp) (m : Member) → (member_after m (change_of gets sets list op m)).held ≡ m.held
 unfolding with_object
 change-held gets sets list op m =
-    change-cases gets sets m (λ x. x.member.held ≡ m.held) (λ a e. refl) list op
+    change-cases gets sets m (λ x. (member_after m x).held ≡ m.held) (λ a. refl) list op
     (λ id slot p e. refl) (λ id. refl) (λ mode. refl) (λ e. refl)
 
 -- m is any member of the card
@@ -76,7 +76,7 @@ module _ (c : List ℕ) (m : ℕ) (h : is_member c m ≡ true) where
     member-kept : SameHolding c (with_member c k y) m
     member-kept = by_cases (eqb m k) (λ t. own-kept (eqb-true m k t)) (λ t. other-kept (eqb-false m k t))
 
-  perform_kept : Sound c → (r : List ℕ) (a : Result Ask Answer) → FactsIn c r a → SameHolding c (perform c r a).card m
+  perform_kept : Sound c → (r : List ℕ) (a : Result Ask Refusal) → FactsIn c r a → SameHolding c (perform c r a).card m
   unfolding perform
   perform_kept s r (Err a) f = kept
   perform_kept s r (Ok QueryList) f = kept

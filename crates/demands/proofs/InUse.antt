@@ -1,6 +1,6 @@
 -- REQUEST 2: empty list use leaves nothing in use, and then no command is carried out until a reset of the card. Assumes nothing.
 use Rattle.std.specs.Prelude.{Result, Ok, Err}
-use Rattle.protocol.specs.declared.Answer.{Answer}
+use Rattle.protocol.specs.declared.Refusal.{Refusal}
 use mathlib.Core.Path.{◌≡◌, refl, sym, ◌∙◌}
 use mathlib.Core.Logic.{◌≢◌}
 use mathlib.Core.Bool.{true}
@@ -11,7 +11,7 @@ use borrow.Author.Tests.{eq-eqb}
 use Rattle.theory.specs.Logic.{when◌then◌else◌, unless◌answer◌then◌, ◌and◌, ◌or◌, within}
 use Rattle.theory.proofs.Tests.{both, unless-cases, or-true, never}
 use Rattle.wire.specs.Le.{le, bytes, number}
-use Rattle.protocol.specs.declared.Answer.TheVariants.{Done, BadLength, BadGroup, BadOpcode}
+use Rattle.protocol.specs.declared.Refusal.TheVariants.{BadLength, BadGroup, BadOpcode}
 use Rattle.protocol.specs.Opcodes.{opcode_rows, opcode_row, supported, bit, names_member, supported_only}
 use Rattle.protocol.proofs.Masks.{bit-out}
 use Rattle.frame.specs.declared.Ask.{Ask}
@@ -39,7 +39,7 @@ use Rattle.demands.proofs.Integrity.{integrity}
 -- ---- every command is refused ----
 
 -- with nothing in use no request comes past step 4
-none-asked : (c r : List ℕ) → in_use_of c ≡ 0 → (P : Result Ask Answer → Type 0) → P (Err BadLength) → P (Err BadGroup) → P (Err BadOpcode) → P (ask_in c r)
+none-asked : (c r : List ℕ) → in_use_of c ≡ 0 → (P : Result Ask Refusal → Type 0) → P (Err BadLength) → P (Err BadGroup) → P (Err BadOpcode) → P (ask_in c r)
 unfolding ask_in ask_of framed_of usable
 none-asked c r e P f g k =
     unless-cases P _ _ _ (λ t. f) λ t.
@@ -54,9 +54,9 @@ blocked c r room e =
     respond-cases c r room (λ (y : List ℕ × List ℕ). refused (written y.1) ≡ true) refl
     (λ h s.
     none-asked c r e (λ x. refused (written (ended c room (perform c r x)).1) ≡ true)
-    (rw (final-empty BadLength room h, reply-empty BadLength))
-    (rw (final-empty BadGroup room h, reply-empty BadGroup))
-    (rw (final-empty BadOpcode room h, reply-empty BadOpcode)))
+    (rw (final-empty (Err BadLength) room h, reply-empty (Err BadLength)))
+    (rw (final-empty (Err BadGroup) room h, reply-empty (Err BadGroup)))
+    (rw (final-empty (Err BadOpcode) room h, reply-empty (Err BadOpcode))))
 
 -- ---- no other call changes the list in use ----
 
@@ -89,7 +89,7 @@ asked-empty c m b =
 empties : (c : List ℕ) (m room : ℕ) → is_sound c ≡ true → bit (in_use_of c) 0x01 ≡ true → 8 ≤ room → in_use_of (step c (command (request 0x01 1 m []) room)).0 ≡ 0
 unfolding step perform when◌then◌else◌
 empties c m room s b h =
-    rw (respond-is c (request 0x01 1 m []) room h s, asked-empty c m b, final-empty Done room h)
+    rw (respond-is c (request 0x01 1 m []) room h s, asked-empty c m b, final-empty (Ok tt) room h)
     (use-same c 0 (sound-long c (sound-of c s)) (omega arith))
 
 pub nothing-in-use : NothingInUse

@@ -11,7 +11,7 @@ use Rattle.theory.specs.Bytes.{put}
 use Rattle.theory.proofs.Tests.{unless-cases}
 use Rattle.theory.proofs.Bytes.{take-before, drop-after, length-bytes_at-le}
 use Rattle.wire.specs.Le.{bytes}
-use Rattle.protocol.specs.declared.Answer.{Answer}
+use Rattle.protocol.specs.declared.Refusal.{Refusal}
 use Rattle.protocol.specs.Answers.{EventAnswer}
 use Rattle.protocol.specs.declared.ObjectKind.{ObjectKind}
 use Rattle.protocol.specs.declared.ChangeOp.TheVariants.{SetParts}
@@ -21,8 +21,7 @@ use Rattle.member.specs.declared.Member.{Member}
 use Rattle.member.specs.Objects.{lookup_of}
 use Rattle.member.specs.Record.{member_size, holding_size, member_bytes}
 use Rattle.member.specs.Member.{handed_back}
-use Rattle.changes.specs.declared.Changed.{Changed}
-use Rattle.changes.specs.Changes.{refuse, set_parts_of, change_of}
+use Rattle.changes.specs.Changes.{member_after, set_parts_of, change_of}
 use Rattle.changes.proofs.Kept.{change-sound}
 use Rattle.card.specs.Layout.{in_use_at, member_bytes_at, holding_at, record_size, setup_of, record_at, with_in_use, with_record_bytes, member_in, with_member, with_holding, no_bytes, with_record}
 use Rattle.card.proofs.MemberLaws.{member-same}
@@ -87,7 +86,7 @@ wipe-outside c m g =
 -- ---- a command, by its opcode ----
 
 -- what holds of a refusal and of what the fields at the opcode ask, holds of what the request asks
-ask-at : (c r : List ℕ) (op : ℕ) → opcode_of r ≡ op → (P : Result Ask Answer → Type 0) → ((a : Answer) → P (Err a))
+ask-at : (c r : List ℕ) (op : ℕ) → opcode_of r ≡ op → (P : Result Ask Refusal → Type 0) → ((a : Refusal) → P (Err a))
     → P (fields_of ((setup_of c).gets + (setup_of c).sets) (target_of r) op (data_of r)) → P (ask_in c r)
 unfolding ask_in ask_of framed_of
 ask-at c r op e P f g =
@@ -102,7 +101,7 @@ ask-at c r op e P f g =
 use-outside : (c r : List ℕ) (room : ℕ) → opcode_of r ≡ 0x01 → SameOutside in_use_at 8 (respond c r room).0 c
 unfolding perform with_in_use fields_of use_in when◌then◌else◌ bytes
 use-outside c r room e =
-    let P : Result Ask Answer → Type 0 = λ a. SameOutside in_use_at 8 (perform c r a).card c in
+    let P : Result Ask Refusal → Type 0 = λ a. SameOutside in_use_at 8 (perform c r a).card c in
     card-cases c r room (λ d. SameOutside in_use_at 8 d c) (same _ _ c)
     (λ s. ask-at c r 0x01 e P (λ a. same _ _ c)
     (unless-cases P _ _ _ (λ t. same _ _ c) (λ t. put-outside in_use_at 8 _ c (omega arith))))
@@ -111,18 +110,18 @@ use-outside c r room e =
 Kept : Member → Member → Type 0
 Kept m x = (x.mode ≡ m.mode) × (x.objects ≡ m.objects)
 
-found-kept : (m : Member) (x : Option ObjectKind) (f : ObjectKind → Changed) (a : Answer) → ((k : ObjectKind) → Kept m (f k).member)
-    → Kept m (on_found x f (refuse m a)).member
+found-kept : (m : Member) (x : Option ObjectKind) (f : ObjectKind → Result Member Refusal) (a : Refusal) → ((k : ObjectKind) → Kept m (member_after m (f k)))
+    → Kept m (member_after m (on_found x f (Err a)))
 unfolding Kept
 found-kept m None f a h = (refl, refl)
 found-kept m (Some k) f a h = h k
 
-set-kept : (gets sets id : ℕ) (list : List ℕ) (m : Member) → Kept m (change_of gets sets list (SetParts id) m).member
+set-kept : (gets sets id : ℕ) (list : List ℕ) (m : Member) → Kept m (member_after m (change_of gets sets list (SetParts id) m))
 unfolding set_parts_of Kept
 set-kept gets sets id list m = found-kept m (lookup_of m id) _ _ λ k.
-    unless-cases (λ (y : Changed). Kept m y.member) _ _ _ (λ t. (refl, refl)) λ t.
-    unless-cases (λ (y : Changed). Kept m y.member) _ _ _ (λ t. (refl, refl)) λ t.
-    unless-cases (λ (y : Changed). Kept m y.member) _ _ _ (λ t. (refl, refl)) λ t. (refl, refl)
+    unless-cases (λ (y : Result Member Refusal). Kept m (member_after m y)) _ _ _ (λ t. (refl, refl)) λ t.
+    unless-cases (λ (y : Result Member Refusal). Kept m (member_after m y)) _ _ _ (λ t. (refl, refl)) λ t.
+    unless-cases (λ (y : Result Member Refusal). Kept m (member_after m y)) _ _ _ (λ t. (refl, refl)) λ t. (refl, refl)
 
 -- in the card
 module _ (c : List ℕ) (s : Sound c) (r : List ℕ) where
@@ -144,7 +143,7 @@ module _ (c : List ℕ) (s : Sound c) (r : List ℕ) where
   asked-kept : opcode_of r ≡ 0x10 → FactsIn c r (ask_in c r) → StaysAs (perform c r (ask_in c r)).card
   unfolding fields_of set_in perform when◌then◌else◌ Kept
   asked-kept e =
-      let P : Result Ask Answer → Type 0 = λ a. FactsIn c r a → StaysAs (perform c r a).card in
+      let P : Result Ask Refusal → Type 0 = λ a. FactsIn c r a → StaysAs (perform c r a).card in
       ask-at c r 0x10 e P (λ a f. (refl, refl))
       (unless-cases P _ _ _ (λ t f. (refl, refl)) (λ t f. put-kept _ f.0 f.1))
 

@@ -7,7 +7,6 @@ use native.Mathlib.Omega.{arith}
 use lib.ListN.{length, get_or, drop}
 use Rattle.theory.specs.Logic.{unless◌answer◌then◌, within}
 use Rattle.theory.proofs.Tests.{by_cases, never, inside, within_low, within-high}
-use Rattle.protocol.specs.declared.Answer.TheVariants.{Done}
 use Rattle.protocol.specs.declared.ObjectKind.TheVariants.{Get}
 use Rattle.protocol.specs.Opcodes.{bit}
 use Rattle.inventory.specs.Inventory.{parts_size}
@@ -16,7 +15,7 @@ use Rattle.parts.specs.List.{parts_of, longest_list}
 use Rattle.rules.specs.Rules.{cause_of, is_accepted}
 use Rattle.values.proofs.Kept.{applied-features}
 use Rattle.capture.specs.Capture.{capture_of}
-use Rattle.std.specs.Prelude.{Some}
+use Rattle.std.specs.Prelude.{Some, Ok}
 use Rattle.member.specs.Objects.{lookup_of}
 use Rattle.member.specs.Member.{features_in, with_values}
 use Rattle.setups.specs.declared.Setup.{Setup}
@@ -118,13 +117,13 @@ module _ (c : List ℕ) (m j : ℕ) (x : Settable c m j) (full later : List ℕ)
       rw (member-after c m j x merged merged-right, made-sets q full later v long pair) (sym (made-is q full later v long pair))
 
   module _ (r : ℕ) (room : 8 ≤ r) (short_full : length full ≤ longest_list) (short_later : length later ≤ longest_list) where
-    full-set : set_list c m j full r ≡ (once, head_of Done)
+    full-set : set_list c m j full r ≡ (once, head_of (Ok tt))
     full-set = set_is c m j x full pair.full_accepted r room short_full
 
-    later-set : set_list (set_list c m j full r).0 m j later r ≡ (card_set c m j x merged merged-right, head_of Done)
+    later-set : set_list (set_list c m j full r).0 m j later r ≡ (card_set c m j x merged merged-right, head_of (Ok tt))
     later-set = rw full-set (set_is once m j again later later-right r room short_later ∙ rw both_is)
 
-    merged-set : set_list c m j merged r ≡ (card_set c m j x merged merged-right, head_of Done)
+    merged-set : set_list c m j merged r ≡ (card_set c m j x merged merged-right, head_of (Ok tt))
     merged-set =
         let few = pair.few in
         let n = made-long q full later v long pair in
@@ -148,7 +147,7 @@ module _ (c : List ℕ) (m j : ℕ) (x : Settable c m j) (full later : List ℕ)
         capture-is after m (settable after m j (settable-after c m j x merged merged-right)) i r
         (lookup-after c m j x merged merged-right i ∙ get) (rw (use-after c m j x merged merged-right) in_use) (rw (merged-values, n) h) in
         ap (λ (y : List ℕ × List ℕ). drop 8 (capture y.0 m i r)) later-set
-        ∙ ap (drop 8) (taken ∙ ap (λ l. head_of Done ++ l) merged-values)
+        ∙ ap (drop 8) (taken ∙ ap (λ l. head_of (Ok tt) ++ l) merged-values)
         ∙ after-head merged
 
 -- ---- under a setup ----

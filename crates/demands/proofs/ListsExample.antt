@@ -1,5 +1,6 @@
 -- The hypotheses of requests 7 and 8 on commands can be met: the target of the round trip's example, a fresh full capture, and a
 -- later list of a device status; and for request 8 that list, cut. Assumes nothing.
+use Rattle.std.specs.Prelude.{Ok}
 use mathlib.Core.Path.{◌≡◌, refl, ap}
 use mathlib.Core.Bool.{true}
 use mathlib.Core.List.{List, [], ◌∷◌}
@@ -17,7 +18,6 @@ use Rattle.setups.specs.Member.{member_of, member_setup}
 use Rattle.difference.specs.Difference.{span_from, place_in, has_row, has_rows, verdict_of, on_verdict, lookup_of, lookup_told, merge_of}
 use Rattle.difference.specs.Under.{lookup_under, merge_under}
 use Rattle.salvage.specs.Salvage.{Salvage, salvage, is_taken, salvaged, salvage_of, salvage_under}
-use Rattle.protocol.specs.declared.Answer.TheVariants.{Done}
 use Rattle.parts.specs.List.{longest_list}
 use Rattle.reply.specs.Reply.{head_of}
 use Rattle.demands.specs.RoundTrip.{capture}
@@ -96,6 +96,6 @@ is-salvaged : (salvage_under (member_setup bench 1) (take 16 later) lent).writte
 unfolding model is_taken salvaged salvage_of salvage_under
 is-salvaged = rw bench-says
 
-accepted : (set_list target 1 1 (salvaged_list (member_setup bench 1) (take 16 later) lent) 8).1 ≡ head_of Done
+accepted : (set_list target 1 1 (salvaged_list (member_setup bench 1) (take 16 later) lent) 8).1 ≡ head_of (Ok tt)
 accepted =
     salvaged-accepted target 1 1 bench 1 settable alike (take 16 later) lent (λ z. let n = is-salvaged in omega arith) 8 (omega arith)

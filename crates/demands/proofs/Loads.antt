@@ -1,5 +1,6 @@
 -- CALLS FOR THE CARD'S OWN FIRMWARE: when each answers 0, and what a load gives after a store, a list that is set and a wipe.
 -- Assumes nothing.
+use Rattle.std.specs.Prelude.{Ok, Err}
 use mathlib.Core.Path.{◌≡◌, refl, ap, sym, ◌∙◌}
 use mathlib.Core.Bool.{Bool, true, false, not}
 use mathlib.Core.List.{List}
@@ -12,7 +13,7 @@ use Rattle.std.specs.Prelude.{Err, Ok, is_ok, Option, Some, None}
 use Rattle.theory.specs.Logic.{when◌then◌else◌, unless◌answer◌then◌, ◌and◌}
 use Rattle.theory.proofs.Tests.{by_cases, both, never, unless-cases, within-high}
 use Rattle.wire.specs.Le.{bytes}
-use Rattle.protocol.specs.declared.Answer.TheVariants as answer
+use Rattle.protocol.specs.declared.Refusal.TheVariants as refusal
 use Rattle.protocol.specs.declared.EventRefusal.TheVariants.{NotSound, NoMember, NoPart, WrongLength, BadQueueSize}
 use Rattle.protocol.specs.Answers.{EventAnswer, event_number}
 use Rattle.inventory.specs.Inventory.{row_at, value_of, selector_of, place_of, on_place}
@@ -260,18 +261,18 @@ module _ (c : List ℕ) (m j : ℕ) (x : Settable c m j) (list : List ℕ) (shor
   abbrev is_good : Bool
   is_good = is_accepted (cause_of (member_in c m).queues (features_in (member_in c m)) list)
 
-  set-refused : is_good ≡ false → (parts_set_of c m j list).0 ≡ answer.BadList
+  set-refused : is_good ≡ false → (parts_set_of c m j list).0 ≡ (Err refusal.BadList)
   unfolding parts_set_of set_parts_of when◌then◌else◌ unless◌answer◌then◌
   set-refused a = rw (x.set_in_use, lt-ltb j _ (valid c m (settable c m j x) j Set x.set_object), x.set_object, x.stopped, a) refl
 
   -- the reply says whether it was accepted
-  set-accepted : (set_list c m j list r).1 ≡ head_of answer.Done → is_good ≡ true
+  set-accepted : (set_list c m j list r).1 ≡ head_of (Ok tt) → is_good ≡ true
   unfolding head_of bytes
   set-accepted e =
       by_cases is_good (λ a. a) λ a.
       let k = small c m (settable c m j x) j (valid c m (settable c m j x) j Set x.set_object) in
       let p = respond-parts-set c m x.sound x.here (unmarked c m (settable c m j x) j Set x.set_object) r h j k list (omega arith) in
-      let q : head_of answer.BadList ≡ head_of answer.Done = ap head_of (sym (set-refused a)) ∙ ap (λ (y : List ℕ × List ℕ). y.1) (sym p) ∙ e in
+      let q : head_of (Err refusal.BadList) ≡ head_of (Ok tt) = ap head_of (sym (set-refused a)) ∙ ap (λ (y : List ℕ × List ℕ). y.1) (sym p) ∙ e in
       let z : ◌≡◌ {A = ℕ} 22 0 = ap (λ l. get_or l 0 0) q in
       absurd (omega arith)
 

@@ -1,5 +1,6 @@
 -- The hypotheses of the claims of the calls that only read can be met: a card with a stored status, a list that is set, a wipe, a
 -- setup of two queue counts, and two cards that differ in a member. Assumes nothing.
+use Rattle.std.specs.Prelude.{Ok}
 use mathlib.Core.Path.{◌≡◌, refl}
 use mathlib.Core.Bool.{true}
 use mathlib.Core.List.{List, [], ◌∷◌, ◌++◌}
@@ -10,7 +11,6 @@ use Rattle.std.specs.Prelude.{Ok, is_ok}
 use Rattle.theory.specs.Bytes.{same}
 use Rattle.theory.specs.Machine.{run}
 use Rattle.theory.proofs.Tests.{same_true}
-use Rattle.protocol.specs.declared.Answer.TheVariants as answer
 use Rattle.inventory.specs.Inventory.{selector_of}
 use Rattle.parts.specs.declared.ListForm.TheVariants.{Parts}
 use Rattle.parts.specs.List.{parts_of, value_or, longest_list}
@@ -69,7 +69,7 @@ is-settable : Settable settable_card 1 1
 unfolding example
 is-settable = record { sound = refl; here = refl; set_object = refl; stopped = refl; set_in_use = refl }
 
-is_set : (set_list settable_card 1 1 a_list 8).1 ≡ head_of answer.Done
+is_set : (set_list settable_card 1 1 a_list 8).1 ≡ head_of (Ok tt)
 unfolding example
 is_set = refl
 

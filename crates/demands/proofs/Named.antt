@@ -2,7 +2,7 @@
 -- count. On any card, sound or not.
 -- Integrity, isolation and commutation start from here. Assumes nothing.
 use Rattle.std.specs.Prelude.{Result, Ok, Err}
-use Rattle.protocol.specs.declared.Answer.{Answer}
+use Rattle.protocol.specs.declared.Refusal.{Refusal}
 use mathlib.Core.Path.{◌≡◌, refl, sym, ◌∙◌}
 use mathlib.Core.Bool.{Bool, true, false}
 use mathlib.Core.List.{List}
@@ -119,7 +119,7 @@ module _ (m : ℕ) (r : List ℕ) (room : ℕ) where
 -- ---- a command ----
 
 module _ (m : ℕ) (c r : List ℕ) (room : ℕ) (e : names m (command r room) ≡ true) where
-  perform-leaves : Sound c → (a : Result Ask Answer) → FactsIn c r a → Leaves m c (perform c r a).card
+  perform-leaves : Sound c → (a : Result Ask Refusal) → FactsIn c r a → Leaves m c (perform c r a).card
   unfolding perform
   perform-leaves s (Err a) f = unchanged
   perform-leaves s (Ok QueryList) f = unchanged

@@ -1,6 +1,6 @@
 -- REQUEST 9: a packed setup makes the card that setup makes, and no call changes a queue count. Assumes nothing.
 use Rattle.std.specs.Prelude.{Result, Ok, Err}
-use Rattle.protocol.specs.declared.Answer.{Answer}
+use Rattle.protocol.specs.declared.Refusal.{Refusal}
 use mathlib.Core.Path.{◌≡◌, refl, ap, ◌∙◌}
 use mathlib.Core.Bool.{true}
 use mathlib.Core.List.{List}
@@ -86,7 +86,7 @@ module _ (k : ℕ) (l : 1 ≤ k) where
       count-behind c m configuration_at (configuration_size + generation_size) _ (omega arith) low k l (omega arith)
 
   -- a command
-  perform_kept : (c r : List ℕ) → Sound c → (a : Result Ask Answer) → FactsIn c r a → Same k c (perform c r a).card
+  perform_kept : (c r : List ℕ) → Sound c → (a : Result Ask Refusal) → FactsIn c r a → Same k c (perform c r a).card
   unfolding perform
   perform_kept c r s (Err a) f = refl
   perform_kept c r s (Ok QueryList) f = refl

@@ -1,5 +1,6 @@
 -- Whatever a sound card answers to a built request is read: the numbers of every answer are known, and the result has the form
 -- that the host reads by. Assumes nothing.
+use Rattle.std.specs.Prelude.{Ok, Err, is_ok}
 use mathlib.Core.Path.{◌≡◌, refl, sym, ◌∙◌}
 use mathlib.Core.Bool.{Bool, true, false}
 use mathlib.Core.List.{List, [], ◌++◌}
@@ -12,9 +13,9 @@ use Rattle.theory.specs.Logic.{when◌then◌else◌, unless◌answer◌then◌,
 use Rattle.theory.proofs.Tests.{by_cases, both}
 use Rattle.wire.specs.Le.{bytes, number}
 use Rattle.wire.proofs.Le.{le_bytes}
-use Rattle.protocol.specs.declared.Answer.{Answer}
-use Rattle.protocol.specs.declared.Answer.TheVariants.{Done, BadLength, BadGroup, BadOpcode, NoMember, Marked, BadField, Exists, NotLive, NoRoom, WrongKind, Running, BadList, ShortReply}
-use Rattle.protocol.specs.Answers.{status_of, qualifier_of, is_done}
+use Rattle.protocol.specs.Answers.{Answer}
+use Rattle.protocol.specs.declared.Refusal.TheVariants.{BadLength, BadGroup, BadOpcode, NoMember, Marked, BadField, Exists, NotLive, NoRoom, WrongKind, Running, BadList, ShortReply}
+use Rattle.protocol.specs.Answers.{status_of, qualifier_of}
 use Rattle.protocol.specs.Opcodes.{supported}
 use Rattle.card.proofs.SoundLaws.{sound-of}
 use Rattle.reply.specs.Reply.{head_size, head_of, final_of, reply_of}
@@ -35,20 +36,20 @@ readable a = ltb (status_of a) 65536 and ltb (qualifier_of a) 65536 and known_st
 
 all-readable : (a : Answer) → readable a ≡ true
 unfolding known_status ◌and◌ ◌or◌
-all-readable Done = refl
-all-readable BadLength = refl
-all-readable BadGroup = refl
-all-readable BadOpcode = refl
-all-readable NoMember = refl
-all-readable Marked = refl
-all-readable BadField = refl
-all-readable Exists = refl
-all-readable NotLive = refl
-all-readable NoRoom = refl
-all-readable WrongKind = refl
-all-readable Running = refl
-all-readable BadList = refl
-all-readable ShortReply = refl
+all-readable (Ok x) = refl
+all-readable (Err BadLength) = refl
+all-readable (Err BadGroup) = refl
+all-readable (Err BadOpcode) = refl
+all-readable (Err NoMember) = refl
+all-readable (Err Marked) = refl
+all-readable (Err BadField) = refl
+all-readable (Err Exists) = refl
+all-readable (Err NotLive) = refl
+all-readable (Err NoRoom) = refl
+all-readable (Err WrongKind) = refl
+all-readable (Err Running) = refl
+all-readable (Err BadList) = refl
+all-readable (Err ShortReply) = refl
 
 -- a head, and what follows it
 module _ (a : Answer) (x : List ℕ) where
@@ -78,11 +79,11 @@ module _ (a : Answer) (x : List ℕ) where
 
 -- y has the form of a success, and a refusal has none
 module _ (op what : ℕ) (a : Answer) (y : List ℕ) (s : supported op ≡ true)
-    (f : is_done a ≡ true → result_fits (form_of op what) y ≡ true) (g : is_done a ≡ false → y ≡ []) where
+    (f : is_ok a ≡ true → result_fits (form_of op what) y ≡ true) (g : is_ok a ≡ false → y ≡ []) where
   length-right : length_right (form_of op what) (status_of a) (head_of a ++ y) ≡ true
   unfolding length_right when◌then◌else◌
   length-right =
-      by_cases (is_done a) (λ d. rw (d, after-head a y) (f d)) (λ d. rw d (eq-eqb _ _ (reply-long a y ∙ rw (g d))))
+      by_cases (is_ok a) (λ d. rw (d, after-head a y) (f d)) (λ d. rw d (eq-eqb _ _ (reply-long a y ∙ rw (g d))))
 
   reply-read : read_reply op what (head_of a ++ y) ≡ told a
   unfolding read_reply unless◌answer◌then◌
@@ -104,9 +105,9 @@ refusal-empty true x d = cc
 refusal-empty false x d = refl
 
 -- step 11 makes no success
-final-done : (a : Answer) (size room : ℕ) → is_done (final_of a size room) ≡ true → is_done a ≡ true
+final-done : (a : Answer) (size room : ℕ) → is_ok (final_of a size room) ≡ true → is_ok a ≡ true
 unfolding final_of when◌then◌else◌
-final-done a size room = by_cases (is_done a) (λ d e. d) (λ d. rw d (λ e. sym d ∙ e))
+final-done a size room = by_cases (is_ok a) (λ d e. d) (λ d. rw d (λ e. sym d ∙ e))
 
 -- ---- the claim ----
 
@@ -117,13 +118,13 @@ read-back c x list room what sound h w t =
     let op = (sent_of x).opcode in
     let e = effect_in c r in
     let a = answer_in c r room in
-    let fits : is_done e.outcome ≡ true → result_fits (form_of op what) e.result ≡ true =
+    let fits : is_ok e.outcome ≡ true → result_fits (form_of op what) e.result ≡ true =
     effect-fits c r (sound-of c sound) (form_of op what) (ask_in c r) (asked_of c r) (request-asks c x list what w t) in
     record {
       outcome =
           rw (respond-is c r room h sound)
-          (reply-read op what a (when is_done a then e.result else []) (command-supported x)
-          (success-stands (form_of op what) e.result (is_done a) (λ d. fits (final-done e.outcome (length e.result) room d)))
-          (refusal-empty (is_done a) e.result));
-      result = rw (respond-is c r room h sound) (after-head a (when is_done a then e.result else []));
+          (reply-read op what a (when is_ok a then e.result else []) (command-supported x)
+          (success-stands (form_of op what) e.result (is_ok a) (λ d. fits (final-done e.outcome (length e.result) room d)))
+          (refusal-empty (is_ok a) e.result));
+      result = rw (respond-is c r room h sound) (after-head a (when is_ok a then e.result else []));
     }

@@ -1,5 +1,6 @@
 -- A refusal leaves the card as it stood, but for the two drops of request 6: every definition gives the card back where its
 -- answer is not 0. Assumes nothing.
+use Rattle.std.specs.Prelude.{Ok, Err, is_ok}
 use mathlib.Core.Path.{◌≡◌, refl, ap}
 use mathlib.Core.Bool.{true, false, not}
 use mathlib.Core.List.{List}
@@ -9,9 +10,8 @@ use borrow.Author.Tests.{eqb-true}
 use Rattle.theory.specs.Logic.{when◌then◌else◌, unless◌answer◌then◌}
 use Rattle.theory.proofs.Tests.{by_cases, unless-cases, and-false, never}
 use Rattle.wire.specs.Le.{le, bytes, number}
-use Rattle.protocol.specs.declared.Answer.{Answer}
-use Rattle.protocol.specs.declared.Answer.TheVariants.{Done, BadLength, BadGroup, BadOpcode, NoMember, Marked, BadField, Exists, NotLive, NoRoom, WrongKind, Running, BadList, ShortReply}
-use Rattle.protocol.specs.Answers.{EventAnswer, status_of, is_done, event_number}
+use Rattle.protocol.specs.declared.Refusal.TheVariants.{BadLength, BadGroup, BadOpcode, NoMember, Marked, BadField, Exists, NotLive, NoRoom, WrongKind, Running, BadList, ShortReply}
+use Rattle.protocol.specs.Answers.{Answer, EventAnswer, status_of, event_number}
 use Rattle.card.specs.Sound.{is_sound}
 use Rattle.events.specs.Events.{hand_back as hand_back_of, wipe as wipe_of, reset_card, store_in, store}
 use Rattle.events.proofs.Cases.{if-done-cases, on-unsound, on-member-cases}
@@ -30,10 +30,10 @@ unfolding when◌then◌else◌
 kept n next c e = by_cases (eqb n 0) (λ t. let z = rw t at e in cc) (λ t. rw t)
 
 -- the status is what the reply's first two bytes say
-says-refused : (a : Answer) (result : List ℕ) → refused (written (reply_of a result)) ≡ true → not (is_done a) ≡ true
+says-refused : (a : Answer) (result : List ℕ) → refused (written (reply_of a result)) ≡ true → not (is_ok a) ≡ true
 unfolding refused reply_of head_of bytes number le
 says-refused a result e =
-    by_cases (is_done a) (λ t. let z = rw (eqb-true (status_of a) 0 t) at e in cc) (λ t. rw t)
+    by_cases (is_ok a) (λ t. let z = rw (eqb-true (status_of a) 0 t) at e in cc) (λ t. rw t)
 
 -- what is to be shown of a command and of an event
 Keeps : List ℕ → List ℕ × List ℕ → Type 0
@@ -60,26 +60,26 @@ DropsAlike : ℕ × List ℕ → ℕ × List ℕ → Type 0
 DropsAlike x y = refused (answered x.0) ≡ true → x.1 ≡ y.1
 
 -- the first four bytes of a success are 0
-done-zero : (a : Answer) (result : List ℕ) → is_done a ≡ true → number 0 4 (reply_of a result) ≡ 0
+done-zero : (a : Answer) (result : List ℕ) → is_ok a ≡ true → number 0 4 (reply_of a result) ≡ 0
 unfolding reply_of head_of bytes number le
-done-zero Done result e = refl
-done-zero BadLength result e = never e
-done-zero BadGroup result e = never e
-done-zero BadOpcode result e = never e
-done-zero NoMember result e = never e
-done-zero Marked result e = never e
-done-zero BadField result e = never e
-done-zero Exists result e = never e
-done-zero NotLive result e = never e
-done-zero NoRoom result e = never e
-done-zero WrongKind result e = never e
-done-zero Running result e = never e
-done-zero BadList result e = never e
-done-zero ShortReply result e = never e
+done-zero (Ok x) result e = refl
+done-zero (Err BadLength) result e = never e
+done-zero (Err BadGroup) result e = never e
+done-zero (Err BadOpcode) result e = never e
+done-zero (Err NoMember) result e = never e
+done-zero (Err Marked) result e = never e
+done-zero (Err BadField) result e = never e
+done-zero (Err Exists) result e = never e
+done-zero (Err NotLive) result e = never e
+done-zero (Err NoRoom) result e = never e
+done-zero (Err WrongKind) result e = never e
+done-zero (Err Running) result e = never e
+done-zero (Err BadList) result e = never e
+done-zero (Err ShortReply) result e = never e
 
-four-refused : (a : Answer) (result : List ℕ) → refused (answered (number 0 4 (reply_of a result))) ≡ true → not (is_done a) ≡ true
+four-refused : (a : Answer) (result : List ℕ) → refused (answered (number 0 4 (reply_of a result))) ≡ true → not (is_ok a) ≡ true
 unfolding refused
-four-refused a result e = by_cases (is_done a) (λ t. let z = rw (done-zero a result t) at e in cc) (λ t. rw t)
+four-refused a result e = by_cases (is_ok a) (λ t. let z = rw (done-zero a result t) at e in cc) (λ t. rw t)
 
 FourKeep : List ℕ → List ℕ × List ℕ → Type 0
 FourKeep c y = refused (answered (number 0 4 y.1)) ≡ true → y.0 ≡ c

@@ -14,8 +14,8 @@ use Rattle.protocol.specs.declared.Body.{Body}
 use Rattle.protocol.specs.declared.Body.TheVariants as body
 use Rattle.protocol.specs.declared.Metadata.{Metadata}
 use Rattle.protocol.specs.declared.Metadata.TheVariants.{Size, Count, HeaderList}
-use Rattle.protocol.specs.declared.Answer.{Answer}
-use Rattle.protocol.specs.declared.Answer.TheVariants.{NotLive, WrongKind}
+use Rattle.protocol.specs.declared.Refusal.{Refusal}
+use Rattle.protocol.specs.declared.Refusal.TheVariants.{NotLive, WrongKind}
 use Rattle.protocol.specs.declared.ObjectKind.TheVariants.{Get, Set}
 use Rattle.protocol.specs.declared.ReadOp.TheVariants.{QueryObject, GetMetadata, GetSelected, GetAll}
 use Rattle.protocol.specs.declared.ChangeOp.TheVariants.{SetParts}
@@ -24,53 +24,53 @@ use Rattle.std.specs.Prelude.{Option, Some, None}
 use Rattle.objects.specs.Objects.{on_found}
 use Rattle.member.specs.Objects.{lookup_of}
 use Rattle.card.specs.Layout.{member_in}
-use Rattle.reads.specs.Reads.{refuse_read, succeed_read, query_of, metadata_of, through_get}
+use Rattle.reads.specs.Reads.{query_of, metadata_of, through_get}
 use Rattle.frame.specs.declared.Ask.{Ask}
 use Rattle.frame.specs.declared.Ask.TheVariants.{Read, Change}
 use Rattle.frame.specs.Frame.{opcode_of, target_of, data_of, type_at, asked_list, given_list}
 use Rattle.frame.specs.Fields.{metadata_is, create_in, modify_in, query_in, destroy_in, metadata_in, get_in, set_in, mode_in, use_in, fields_of}
 use Rattle.frame.specs.Ask.{framed_of, ask_of}
-use Rattle.reply.specs.Result.{result_of}
+use Rattle.reply.specs.Result.{result_of, result_given}
 use Rattle.admin.specs.Command.{ask_in, effect, perform, respond}
 use Rattle.protocol.specs.declared.ObjectKind.{ObjectKind}
 
 -- a result that is no selection
 module _ (q : ℕ) (l l' v : List ℕ) where
-  abbrev SameResult : Body → Type 0
-  SameResult b = result_of q l' v b ≡ result_of q l v b
+  abbrev SameResult : Result Body Refusal → Type 0
+  SameResult x = result_given q l' v x ≡ result_given q l v x
 
-  query-same : (x : Option ObjectKind) → SameResult (on_found x (λ k. succeed_read (body.Kind k)) (refuse_read NotLive)).body
+  query-same : (x : Option ObjectKind) → SameResult (on_found x (λ k. Ok (body.Kind k)) (Err NotLive))
   unfolding result_of
   query-same None = refl
   query-same (Some k) = refl
 
-  through_same : (x : Option ObjectKind) (b : Body) → SameResult b
-      → SameResult (on_found x (λ k. unless is_get k answer refuse_read WrongKind then succeed_read b) (refuse_read NotLive)).body
+  through_same : (x : Option ObjectKind) (b : Body) → SameResult (Ok b)
+      → SameResult (on_found x (λ k. unless is_get k answer Err WrongKind then Ok b) (Err NotLive))
   unfolding result_of unless◌answer◌then◌
   through_same None b e = refl
   through_same (Some Get) b e = e
   through_same (Some Set) b e = refl
 
-  metadata-same : (what : Metadata) → SameResult (metadata_of q what)
+  metadata-same : (what : Metadata) → SameResult (Ok (metadata_of q what))
   unfolding result_of
   metadata-same Size = refl
   metadata-same Count = refl
   metadata-same HeaderList = refl
 
-  all_same : SameResult body.All
+  all_same : SameResult (Ok body.All)
   unfolding result_of
   all_same = refl
 
 -- two requests, and what is asked of a card: it comes to the same with both
 module _ (c r s : List ℕ) where
-  unfoldable pub Same : Result Ask Answer → Type 0
+  unfoldable pub Same : Result Ask Refusal → Type 0
   Same a = perform c s a ≡ perform c r a
 
-  guarded : (t : Bool) (a : Answer) (x : Result Ask Answer) → Same x → Same (unless t answer Err a then x)
+  guarded : (t : Bool) (a : Refusal) (x : Result Ask Refusal) → Same x → Same (unless t answer Err a then x)
   unfolding Same perform
   guarded t a x f = unless-cases Same t (Err a) x (λ e. refl) (λ e. f)
 
-  branch : (op k : ℕ) (x y : Result Ask Answer) → (op ≡ k → Same x) → Same y → Same (when eqb op k then x else y)
+  branch : (op k : ℕ) (x y : Result Ask Refusal) → (op ≡ k → Same x) → Same y → Same (when eqb op k then x else y)
   branch op k x y f g = if-cases Same (eqb op k) x y (λ e. f (eqb-true op k e)) (λ e. g)
 
   module _ (m id : ℕ) where

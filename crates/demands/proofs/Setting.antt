@@ -10,7 +10,6 @@ use borrow.Author.Tests.{le-leb, lt-ltb}
 use Rattle.theory.specs.Logic.{when◌then◌else◌, unless◌answer◌then◌, ◌and◌, ◌or◌}
 use Rattle.theory.proofs.Tests.{or-true, within_low}
 use Rattle.wire.specs.Le.{bytes}
-use Rattle.protocol.specs.declared.Answer.TheVariants.{Done}
 use Rattle.protocol.specs.declared.ObjectKind.{ObjectKind}
 use Rattle.protocol.specs.declared.ObjectKind.TheVariants.{Get, Set}
 use Rattle.protocol.specs.declared.ReadOp.TheVariants.{GetAll}
@@ -53,7 +52,7 @@ use Rattle.demands.specs.Lists.{Settable, set_list}
 
 -- a command with a result that succeeds and has room
 respond-done : (c r : List ℕ) (room : ℕ) (result : List ℕ) → is_sound c ≡ true
-    → perform c r (ask_in c r) ≡ effect Done c result → 8 + length result ≤ room → (respond c r room).1 ≡ head_of Done ++ result
+    → perform c r (ask_in c r) ≡ effect (Ok tt) c result → 8 + length result ≤ room → (respond c r room).1 ≡ head_of (Ok tt) ++ result
 unfolding final_of reply_of when◌then◌else◌ unless◌answer◌then◌
 respond-done c r room result s e h =
     rw (respond-is c r room (omega arith) s, e, le-leb (8 + length result) room h)
@@ -103,25 +102,25 @@ module _ (c : List ℕ) (m : ℕ) (x : Reached c m) where
 
   -- a full capture through a live get object
   get-performs : (i : ℕ) → lookup_of (member_in c m) i ≡ Some Get → bit (in_use_of c) 0x0f ≡ true
-      → perform c (get_all m i) (ask_in c (get_all m i)) ≡ effect Done c (capture_of (member_in c m).queues (member_in c m).values)
+      → perform c (get_all m i) (ask_in c (get_all m i)) ≡ effect (Ok tt) c (capture_of (member_in c m).queues (member_in c m).values)
   unfolding perform through_get result_of unless◌answer◌then◌
   get-performs i e u = rw (get-taken i e u, e)
 
   pub capture-is : (i room : ℕ) → lookup_of (member_in c m) i ≡ Some Get → bit (in_use_of c) 0x0f ≡ true
       → 8 + length (capture_of (member_in c m).queues (member_in c m).values) ≤ room
-      → capture c m i room ≡ head_of Done ++ capture_of (member_in c m).queues (member_in c m).values
+      → capture c m i room ≡ head_of (Ok tt) ++ capture_of (member_in c m).queues (member_in c m).values
   capture-is i room e u h = respond-done c (get_all m i) room _ x.sound (get-performs i e u) h
 
 -- the head of a reply is eight bytes
-pub after-head : (list : List ℕ) → drop 8 (head_of Done ++ list) ≡ list
+pub after-head : (list : List ℕ) → drop 8 (head_of (Ok tt) ++ list) ≡ list
 unfolding head_of bytes
 after-head list = refl
 
-pub head-only : (list : List ℕ) → take 8 (head_of Done ++ list) ≡ head_of Done
+pub head-only : (list : List ℕ) → take 8 (head_of (Ok tt) ++ list) ≡ head_of (Ok tt)
 unfolding head_of bytes
 head-only list = refl
 
-pub long-reply : (list : List ℕ) → length (head_of Done ++ list) ≡ 8 + length list
+pub long-reply : (list : List ℕ) → length (head_of (Ok tt) ++ list) ≡ 8 + length list
 unfolding head_of bytes
 long-reply list = omega arith
 
@@ -143,11 +142,11 @@ module _ (c : List ℕ) (m j : ℕ) (x : Settable c m j) where
     unfolding card_set
     card-is = refl
 
-    set-done : parts_set_of c m j list ≡ (Done, card_set)
+    set-done : parts_set_of c m j list ≡ (Ok tt, card_set)
     unfolding card_set member_set parts_set_of set_parts_of when◌then◌else◌ unless◌answer◌then◌
     set-done = rw (x.set_in_use, lt-ltb j _ (valid c m settable j Set x.set_object), x.set_object, x.stopped, a)
 
-    pub set_is : (r : ℕ) → 8 ≤ r → length list ≤ longest_list → set_list c m j list r ≡ (card_set, head_of Done)
+    pub set_is : (r : ℕ) → 8 ≤ r → length list ≤ longest_list → set_list c m j list r ≡ (card_set, head_of (Ok tt))
     set_is r h short =
         let k = small c m settable j (valid c m settable j Set x.set_object) in
         rw (respond-parts-set c m x.sound x.here (unmarked c m settable j Set x.set_object) r h j k list (omega arith)) (rw set-done)

@@ -1,6 +1,6 @@
 -- Every call on a sound card leaves a sound card. Assumes nothing.
 use Rattle.std.specs.Prelude.{Result, Ok, Err}
-use Rattle.protocol.specs.declared.Answer.{Answer}
+use Rattle.protocol.specs.declared.Refusal.{Refusal}
 use mathlib.Core.Path.{◌≡◌}
 use mathlib.Core.Bool.{true}
 use mathlib.Core.List.{List}
@@ -28,7 +28,7 @@ use Rattle.message.proofs.Cases.{card-cases as message-cases}
 use Rattle.staging.proofs.Kept.{begin-sound, feed-sound, finish-sound, drop-sound}
 
 module _ (c : List ℕ) (s : Sound c) where
-  perform-sound : (r : List ℕ) (a : Result Ask Answer) → FactsIn c r a → Sound (perform c r a).card
+  perform-sound : (r : List ℕ) (a : Result Ask Refusal) → FactsIn c r a → Sound (perform c r a).card
   unfolding perform
   perform-sound r (Err a) f = s
   perform-sound r (Ok QueryList) f = s

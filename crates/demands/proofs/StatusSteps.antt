@@ -12,12 +12,11 @@ use Rattle.theory.specs.Logic.{when◌then◌else◌, unless◌answer◌then◌,
 use Rattle.theory.proofs.Tests.{by_cases, both, either, true-and, within_low, within-high, tests}
 use Rattle.theory.proofs.Sums.{sum_from}
 use Rattle.wire.specs.Le.{le, bytes}
-use Rattle.protocol.specs.declared.Answer.{Answer}
-use Rattle.protocol.specs.declared.Answer.TheVariants.{Done}
+use Rattle.protocol.specs.Answers.{Answer}
 use Rattle.protocol.specs.declared.Mode.{Mode}
 use Rattle.protocol.specs.declared.Mode.TheVariants.{Running, Stopped}
 use Rattle.protocol.specs.declared.ObjectKind.{ObjectKind}
-use Rattle.protocol.specs.Answers.{is_get, is_set, kind_number, status_of, qualifier_of, is_done}
+use Rattle.protocol.specs.Answers.{is_get, is_set, kind_number, status_of, qualifier_of}
 use Rattle.protocol.specs.Opcodes.{supported, names_member, supported_mask, supported_only}
 use Rattle.protocol.proofs.Rows.{supported-is}
 use Rattle.inventory.specs.Inventory.{values_size, part_count, parts_size}
@@ -25,7 +24,7 @@ use Rattle.inventory.proofs.Rules.{table}
 use Rattle.rules.specs.Rules.{cause_of, is_accepted, asked_of}
 use Rattle.capture.specs.Capture.{Asked, headers_of, parts_written, capture_of}
 use Rattle.capture.proofs.Sizes.{parts-length, capture-length, headers-length}
-use Rattle.std.specs.Prelude.{Option, Some, None}
+use Rattle.std.specs.Prelude.{Option, Some, None, Ok, is_ok}
 use Rattle.member.specs.Objects.{room_in}
 use Rattle.member.specs.Member.{features_in}
 use Rattle.changes.specs.Changes.{limited, create_of, modify_of, destroy_of, set_parts_of}
@@ -49,7 +48,7 @@ abbrev pub Told : Type 0
 Told = ℕ × (ℕ × ℕ)
 
 abbrev pub answered : Answer → List ℕ → Told
-answered a x = (status_of a, (qualifier_of a, length (when is_done a then x else [])))
+answered a x = (status_of a, (qualifier_of a, length (when is_ok a then x else [])))
 
 abbrev pub ends : ℕ → Effect → Told
 ends room e = answered (last_answer room e) e.result
@@ -119,11 +118,11 @@ module _ (c r : List ℕ) (room : ℕ) where
 
   -- step 11, with the result x; and with none
   result : (x : List ℕ) (n : ℕ) → length x ≡ n
-      → answered (final_of Done (length x) room) x ≡ says (row (not (leb (8 + n) room)) 12 6 ∷ []) n
+      → answered (final_of (Ok tt) (length x) room) x ≡ says (row (not (leb (8 + n) room)) 12 6 ∷ []) n
   unfolding ladders
   result x n p = rw p (test (leb (8 + n) room) (λ e. rw e) λ e. rw (e, p))
 
-  none : answered (final_of Done 0 room) [] ≡ says (row (not (leb 8 room)) 12 6 ∷ []) 0
+  none : answered (final_of (Ok tt) 0 room) [] ≡ says (row (not (leb 8 room)) 12 6 ∷ []) 0
   none = result [] 0 refl
 
   query-list : Agree c r room 0x00

@@ -8,7 +8,7 @@ use lib.ListN.{length, take, replicate, length-append}
 use Rattle.theory.specs.Logic.{when◌then◌else◌, unless◌answer◌then◌, ◌and◌, ◌or◌, within}
 use Rattle.theory.proofs.Tests.{by_cases, both, or_comm, not-and}
 use Rattle.wire.specs.Le.{bytes}
-use Rattle.protocol.specs.declared.Answer.{Answer}
+use Rattle.protocol.specs.Answers.{Answer}
 use Rattle.protocol.specs.Opcodes.{supported, bit, names_member}
 use Rattle.card.specs.Layout.{in_use_of, is_member, is_marked}
 use Rattle.card.proofs.SoundLaws.{Sound, sound-of}

@@ -1,6 +1,6 @@
 -- DEMAND 2: bytes that are not read are ignored, since no field and no list that is read has one. Assumes nothing.
 use Rattle.std.specs.Prelude.{Result, Err}
-use Rattle.protocol.specs.declared.Answer.{Answer}
+use Rattle.protocol.specs.declared.Refusal.{Refusal}
 use mathlib.Core.Path.{◌≡◌, refl, ap, sym, ◌∙◌}
 use mathlib.Core.Bool.{Bool, false, not}
 use mathlib.Core.List.{List}
@@ -17,7 +17,7 @@ use Rattle.theory.proofs.Bytes.{length-put, bytes_at-after}
 use Rattle.wire.specs.Le.{le, number}
 use Rattle.wire.proofs.Le.{number-none, number_step, number-byte, number-before}
 use Rattle.card.specs.Layout.{setup_of}
-use Rattle.protocol.specs.declared.Answer.TheVariants.{BadLength}
+use Rattle.protocol.specs.declared.Refusal.TheVariants.{BadLength}
 use Rattle.protocol.specs.Opcodes.{names_member}
 use Rattle.frame.specs.declared.Ask.{Ask}
 use Rattle.frame.specs.Frame.{data_at, longest, group_at, member_at, asked_at, given_at, opcode_of, group_of, target_of, data_of}
@@ -180,7 +180,7 @@ module _ (c r s : List ℕ) (n : length s ≡ length r) (f : (i : ℕ) → is_un
   unfolding ask_in ask_of
   asked-of-list o =
       rw (n, opcode-same r s n (opcode_of r) f, group-same r s n (opcode_of r) f, mask-same r s n (opcode_of r) f o)
-      (ap (λ (x : Result Ask Answer). unless within data_at longest (length r) answer Err BadLength then x) (framed-list _ _ _ _ _ _ o _ _ _ _))
+      (ap (λ (x : Result Ask Refusal). unless within data_at longest (length r) answer Err BadLength then x) (framed-list _ _ _ _ _ _ o _ _ _ _))
 
   asked-of-member : leb (opcode_of r) 0x01 ≡ false → ask_in c s ≡ ask_in c r
   unfolding ask_in ask_of framed_of

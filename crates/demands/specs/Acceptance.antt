@@ -1,8 +1,7 @@
 -- THE ROUND TRIP, where the capture is accepted and where it is captured again apart: a live set object is all that acceptance
 -- asks of the target's objects; a get object, parts get in use and a long enough buffer are asked where the target is captured.
 -- RoundTrip.antt follows from it. Assumes nothing.
-use Rattle.std.specs.Prelude.{◌≡◌, true, List, ℕ, ◌+◌, ◌≤◌, length, take, Some}
-use Rattle.protocol.specs.declared.Answer.TheVariants.{Done}
+use Rattle.std.specs.Prelude.{◌≡◌, true, List, ℕ, ◌+◌, ◌≤◌, length, take, Some, Ok}
 use Rattle.protocol.specs.declared.Mode.TheVariants.{Stopped}
 use Rattle.protocol.specs.declared.ObjectKind.TheVariants.{Get, Set}
 use Rattle.protocol.specs.Opcodes.{bit}
@@ -32,9 +31,9 @@ pub record Acceptable (c : List ℕ) (m i : ℕ) (d : List ℕ) (k j : ℕ) : Ty
 -- The capture succeeds and is a full one, a head of 8 bytes and all parts; the set is accepted; and a capture of the target through
 -- any live get object l, if parts get is in use there too, gives the same bytes.
 pub record AcceptedSame (c : List ℕ) (m i : ℕ) (d : List ℕ) (k j r₁ r₂ : ℕ) : Type 0 where
-  pub captured : take 8 (capture c m i r₁) ≡ head_of Done
+  pub captured : take 8 (capture c m i r₁) ≡ head_of (Ok tt)
   pub full : length (capture c m i r₁) ≡ 8 + parts_size (member_in c m).queues
-  pub accepted : (restore d k j (capture c m i r₁) r₂).1 ≡ head_of Done
+  pub accepted : (restore d k j (capture c m i r₁) r₂).1 ≡ head_of (Ok tt)
   pub same : (l r₃ : ℕ) → lookup_of (member_in d k) l ≡ Some Get → bit (in_use_of d) 0x0f ≡ true → 8 + parts_size (member_in c m).queues ≤ r₃
       → capture (restore d k j (capture c m i r₁) r₂).0 k l r₃ ≡ capture c m i r₁
 

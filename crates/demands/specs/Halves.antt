@@ -1,7 +1,7 @@
 -- REQUEST 10, SPEC 13.10: a reset in two halves. What is claimed of it, and worked examples, on the card of Examples.antt and in
 -- its form. Assumes nothing.
-use Rattle.std.specs.Prelude.{◌≡◌, true, false, List, [], ◌∷◌, ◌++◌, map, ℕ, ◌+◌, ◌*◌, ◌≤◌, replicate, None}
-use Rattle.protocol.specs.declared.Answer.TheVariants.{Marked}
+use Rattle.std.specs.Prelude.{◌≡◌, true, false, List, [], ◌∷◌, ◌++◌, map, ℕ, ◌+◌, ◌*◌, ◌≤◌, replicate, None, Err}
+use Rattle.protocol.specs.declared.Refusal.TheVariants.{Marked}
 use Rattle.protocol.specs.declared.Mode.TheVariants.{Stopped}
 use Rattle.frame.specs.Frame.{opcode_of}
 use Rattle.frame.specs.Ask.{usable}
@@ -33,7 +33,7 @@ refuses_marked = 11 + 65536 * 7
 
 pub record Between (c : List ℕ) (m : ℕ) : Type 0 where
   pub commands : (r : List ℕ) (room : ℕ) → names m (command r room) ≡ true → usable (in_use_of c) (opcode_of r) ≡ true → 8 ≤ room
-      → step c (command r room) ≡ (c, written (head_of Marked))
+      → step c (command r room) ≡ (c, written (head_of (Err Marked)))
   pub begins : step c (restore_begin m) ≡ (c, answered refuses_marked)
   pub feeds : (x : List ℕ) → step c (restore_feed m x) ≡ (c, answered refuses_marked)
   pub finishes : (id : ℕ) → step c (restore_finish m id) ≡ (c, answered refuses_marked)

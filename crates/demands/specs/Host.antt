@@ -1,11 +1,11 @@
 -- REQUEST 1, SPEC 13.1: the host's half. What is claimed of a built request and of the reply to it, over the definitions that the
 -- contracts of both halves go by: request_of and read_reply at the host, ask_in and respond at the card. Assumes nothing.
-use Rattle.std.specs.Prelude.{Option, ◌≡◌, Bool, true, List, [], ℕ, ◌+◌, ◌%◌, ◌≤◌, ◌<◌, leb, ltb, eqb, length, Ok}
+use Rattle.std.specs.Prelude.{Option, ◌≡◌, Bool, true, List, [], ℕ, ◌+◌, ◌%◌, ◌≤◌, ◌<◌, leb, ltb, eqb, length, Ok, is_ok}
 use Rattle.theory.specs.Logic.{when◌then◌else◌, ◌and◌, ◌or◌}
-use Rattle.protocol.specs.declared.Answer.{Answer}
+use Rattle.protocol.specs.Answers.{Answer}
 use Rattle.protocol.specs.declared.ReadOp.TheVariants.{QueryObject, GetMetadata, GetSelected, GetAll}
 use Rattle.protocol.specs.declared.ChangeOp.TheVariants.{Create, Modify, Destroy, SetParts, SetMode}
-use Rattle.protocol.specs.Answers.{status_of, qualifier_of, is_done, mode_of}
+use Rattle.protocol.specs.Answers.{status_of, qualifier_of, mode_of}
 use Rattle.protocol.specs.Opcodes.{bit, supported_only}
 use Rattle.inventory.specs.Header.{header_size}
 use Rattle.card.specs.Layout.{setup_of, in_use_of, is_marked}
@@ -89,7 +89,7 @@ told a = answered (status_of a) (qualifier_of a) (status_of a) (qualifier_of a)
 pub record ReadAs (c : List ℕ) (x : Command) (list : List ℕ) (room what : ℕ) : Type 0 where
   pub outcome : read_reply (sent_of x).opcode what (respond c (request_of x list) room).1 ≡ told (answer_in c (request_of x list) room)
   pub result : result_in (respond c (request_of x list) room).1
-      ≡ (when is_done (answer_in c (request_of x list) room) then (effect_in c (request_of x list)).result else [])
+      ≡ (when is_ok (answer_in c (request_of x list) room) then (effect_in c (request_of x list)).result else [])
 
 -- Whatever fields and list were sent, and in any buffer that has room for a reply at all. what is a byte, and that of the
 -- command if it is a metadata command

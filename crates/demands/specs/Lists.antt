@@ -1,7 +1,6 @@
 -- REQUESTS 7 AND 8: what a packed setup says of a member; and, on commands as bytes, lists that were made or salvaged under it are
 -- set in a member of a card. Assumes nothing.
 use Rattle.std.specs.Prelude.{◌≡◌, Result, Ok, true, List, [], ℕ, ◌+◌, ◌-◌, ◌≤◌, length, get_or, take, drop, Some}
-use Rattle.protocol.specs.declared.Answer.TheVariants.{Done}
 use Rattle.protocol.specs.declared.Mode.TheVariants.{Stopped}
 use Rattle.protocol.specs.declared.ObjectKind.TheVariants.{Get, Set}
 use Rattle.protocol.specs.Opcodes.{bit}
@@ -65,9 +64,9 @@ after_both c m j full later r = (set_list (set_list c m j full r).0 m j later r)
 
 -- The two lists are accepted one after the other; so is the made list, and it leaves the same card.
 pub record SetAlike (c : List ℕ) (m j : ℕ) (full later merged : List ℕ) (r : ℕ) : Type 0 where
-  pub full_accepted : (set_list c m j full r).1 ≡ head_of Done
-  pub later_accepted : (set_list (set_list c m j full r).0 m j later r).1 ≡ head_of Done
-  pub merged_accepted : (set_list c m j merged r).1 ≡ head_of Done
+  pub full_accepted : (set_list c m j full r).1 ≡ head_of (Ok tt)
+  pub later_accepted : (set_list (set_list c m j full r).0 m j later r).1 ≡ head_of (Ok tt)
+  pub merged_accepted : (set_list c m j merged r).1 ≡ head_of (Ok tt)
   pub same : (set_list c m j merged r).0 ≡ after_both c m j full later r
 
 -- the bytes that a merge wrote at the front of its buffer
@@ -106,4 +105,4 @@ abbrev pub SalvagedAccepted : Type 0
 SalvagedAccepted =
     (c : List ℕ) (m j : ℕ) (setup : List ℕ) (k : ℕ) → Settable c m j → Alike c m (member_setup setup k)
     → (damaged : List ℕ) (b : Salvage) → ((salvage_under (member_setup setup k) damaged b).written ≡ 0 → ⊥)
-    → (r : ℕ) → 8 ≤ r → (set_list c m j (salvaged_list (member_setup setup k) damaged b) r).1 ≡ head_of Done
+    → (r : ℕ) → 8 ≤ r → (set_list c m j (salvaged_list (member_setup setup k) damaged b) r).1 ≡ head_of (Ok tt)

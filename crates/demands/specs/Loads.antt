@@ -3,7 +3,6 @@
 use Rattle.std.specs.Prelude.{◌≡◌, Bool, true, false, not, List, [], ◌∷◌, ◌++◌, ℕ, ◌^◌, ◌≤◌, ◌<◌, leb, eqb, length, take, replicate, Ok, is_ok}
 use Rattle.theory.specs.Logic.{◌and◌}
 use Rattle.theory.specs.Machine.{run}
-use Rattle.protocol.specs.declared.Answer.TheVariants as answer
 use Rattle.inventory.specs.Inventory.{row_at, selector_of, place_of, on_place}
 use Rattle.parts.specs.declared.ListForm.TheVariants.{Parts}
 use Rattle.parts.specs.List.{parts_of, value_or, longest_list}
@@ -61,7 +60,7 @@ LoadStored =
 abbrev pub LoadSet : Type 0
 LoadSet =
     (c : List ℕ) (m j : ℕ) → Settable c m j → (list : List ℕ) → length list ≤ longest_list → (r : ℕ) → 8 ≤ r
-    → (set_list c m j list r).1 ≡ head_of answer.Done
+    → (set_list c m j list r).1 ≡ head_of (Ok tt)
     → (t s : ℕ) (b : List ℕ) → is_ok (load c m t s b).0 ≡ true
     → load (set_list c m j list r).0 m t s b ≡ (Ok tt, value_or t (selector_of t s) (parts_of Parts list) (load c m t s b).1)
 

@@ -1,7 +1,6 @@
 -- DEMAND 2, the round trip, SPEC 9.2, by requests that the host's half builds: a full capture of one member can be set in
 -- another, and a capture there gives the same bytes. Assumes nothing.
-use Rattle.std.specs.Prelude.{◌≡◌, true, List, ℕ, ◌+◌, ◌≤◌, length, take, drop, Some}
-use Rattle.protocol.specs.declared.Answer.TheVariants.{Done}
+use Rattle.std.specs.Prelude.{◌≡◌, true, List, ℕ, ◌+◌, ◌≤◌, length, take, drop, Some, Ok}
 use Rattle.protocol.specs.declared.Mode.TheVariants.{Stopped}
 use Rattle.protocol.specs.declared.ObjectKind.TheVariants.{Get, Set}
 use Rattle.protocol.specs.Opcodes.{bit}
@@ -42,9 +41,9 @@ restore d k j reply r = respond d (set_parts k j (drop 8 reply)) r
 -- The capture succeeds and is a full one, a head of 8 bytes and all parts; the set is accepted; and a capture of the
 -- target gives the same bytes.
 pub record RestoredSame (c : List ℕ) (m i : ℕ) (d : List ℕ) (k j l r₁ r₂ r₃ : ℕ) : Type 0 where
-  pub captured : take 8 (capture c m i r₁) ≡ head_of Done
+  pub captured : take 8 (capture c m i r₁) ≡ head_of (Ok tt)
   pub full : length (capture c m i r₁) ≡ 8 + parts_size (member_in c m).queues
-  pub accepted : (restore d k j (capture c m i r₁) r₂).1 ≡ head_of Done
+  pub accepted : (restore d k j (capture c m i r₁) r₂).1 ≡ head_of (Ok tt)
   pub same : capture (restore d k j (capture c m i r₁) r₂).0 k l r₃ ≡ capture c m i r₁
 
 abbrev pub RoundTrip : Type 0

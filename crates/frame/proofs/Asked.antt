@@ -10,7 +10,7 @@ use lib.Dec.{eqb, lit<}
 use lib.ListN.{length}
 use Rattle.theory.specs.Logic.{when◌then◌else◌, unless◌answer◌then◌, within}
 use Rattle.theory.proofs.Tests.{if-cases, unless-cases, both, either, below, within_low, within-high, tests}
-use Rattle.protocol.specs.declared.Answer.{Answer}
+use Rattle.protocol.specs.declared.Refusal.{Refusal}
 use Rattle.protocol.specs.declared.ReadOp.{ReadOp}
 use Rattle.protocol.specs.declared.ReadOp.TheVariants.{QueryObject, GetMetadata, GetSelected, GetAll}
 use Rattle.protocol.specs.Opcodes.{supported, supported_only, names_member}
@@ -41,7 +41,7 @@ pub record Named (members : ℕ) (marked : Bool) (r : List ℕ) (m : ℕ) : Type
   pub unmarked : marked ≡ false
 
 -- what each thing that is asked says of the request
-abbrev pub Facts : ℕ → ℕ → Bool → List ℕ → Result Ask Answer → Type 0
+abbrev pub Facts : ℕ → ℕ → Bool → List ℕ → Result Ask Refusal → Type 0
 Facts members ids marked r (Err a) = Unit {0}
 Facts members ids marked r (Ok QueryList) = names_member (opcode_of r) ≡ false
 Facts members ids marked r (Ok (UseList mask)) = (names_member (opcode_of r) ≡ false) × (supported_only mask ≡ true)
@@ -63,11 +63,11 @@ unfolding names_member
 names-none op k e h = below 0x0a 0x11 op (omega tests)
 
 module _ (members ids : ℕ) (marked : Bool) (r : List ℕ) where
-  guarded : (t : Bool) (a : Answer) (x : Result Ask Answer) → (t ≡ true → Facts members ids marked r x)
+  guarded : (t : Bool) (a : Refusal) (x : Result Ask Refusal) → (t ≡ true → Facts members ids marked r x)
       → Facts members ids marked r (unless t answer Err a then x)
   guarded t a x f = unless-cases (Facts members ids marked r) t (Err a) x (λ e. tt) f
 
-  branch : (t : Bool) (x y : Result Ask Answer) → Facts members ids marked r x → Facts members ids marked r y → Facts members ids marked r (when t then x else y)
+  branch : (t : Bool) (x y : Result Ask Refusal) → Facts members ids marked r x → Facts members ids marked r y → Facts members ids marked r (when t then x else y)
   branch t x y f g = if-cases (Facts members ids marked r) t x y (λ e. f) (λ e. g)
 
   -- step 7
@@ -118,5 +118,5 @@ module _ (members ids : ℕ) (marked : Bool) (r : List ℕ) where
       guarded _ _ _ (λ l. guarded _ _ _ (λ g. guarded _ _ _ (λ u. guarded _ _ _ (λ t. guarded _ _ _
       (λ a. passed in_use (search) (search) (search) (search) (search))))))
 
-  pub asked : (in_use : ℕ) (a : Result Ask Answer) → ask_of members ids in_use marked r ≡ a → Facts members ids marked r a
+  pub asked : (in_use : ℕ) (a : Result Ask Refusal) → ask_of members ids in_use marked r ≡ a → Facts members ids marked r a
   asked in_use a e = rw e at (facts in_use)

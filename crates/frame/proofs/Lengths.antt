@@ -1,7 +1,7 @@
 -- Data of any length: bytes past the fixed fields are ignored where no list follows, and missing ones read as zero, which is
 -- how the code reads short data. Assumes nothing.
 use Rattle.std.specs.Prelude.{Result}
-use Rattle.protocol.specs.declared.Answer.{Answer}
+use Rattle.protocol.specs.declared.Refusal.{Refusal}
 use mathlib.Core.Path.{◌≡◌, refl, ap, sym, ◌∙◌}
 use mathlib.Core.Bool.{Bool, true, false}
 use mathlib.Core.List.{List, [], ◌∷◌, ◌++◌}
@@ -29,7 +29,7 @@ use Rattle.frame.proofs.Steps.{last-long}
 
 -- ---- data that reads alike in its first k bytes asks the same ----
 
-choice : (t : Bool) (x x' y y' : Result Ask Answer) → (t ≡ true → x ≡ x') → (t ≡ false → y ≡ y') → (when t then x else y) ≡ (when t then x' else y')
+choice : (t : Bool) (x x' y y' : Result Ask Refusal) → (t ≡ true → x ≡ x') → (t ≡ false → y ≡ y') → (when t then x else y) ≡ (when t then x' else y')
 unfolding when◌then◌else◌
 choice true x x' y y' f g = f refl
 choice false x x' y y' f g = g refl
@@ -189,7 +189,7 @@ module _ (op n : ℕ) (d padded whole : List ℕ) (e : n ≡ fixed_size op)
       (λ t. rw (q, t) (omega tests))
       (λ t. rw (q, t, sub-zero, length-bytes_at 0 n padded (omega arith)) (omega arith))
 
-  pub whole-read : (ids m : ℕ) (x : Result Ask Answer)
+  pub whole-read : (ids m : ℕ) (x : Result Ask Refusal)
       → padded ≡ (when leb n (length d) then replicate longest_fixed 0 else put 0 d (replicate longest_fixed 0))
       → x ≡ fields_of ids m op whole → supported op ≡ true → x ≡ fields_of ids m op d
   unfolding when◌then◌else◌

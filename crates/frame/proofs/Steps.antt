@@ -1,6 +1,6 @@
 -- What the returns of the code need, beside the laws of the ladder. Assumes nothing.
 use Rattle.std.specs.Prelude.{Result, Ok, Err}
-use Rattle.protocol.specs.declared.Answer.{Answer}
+use Rattle.protocol.specs.declared.Refusal.{Refusal}
 use mathlib.Core.Path.{◌≡◌, refl, ap, sym, ◌∙◌}
 use mathlib.Core.Bool.{Bool, true, false, not}
 use mathlib.Core.List.{List, [], ◌∷◌}
@@ -17,7 +17,7 @@ use Rattle.theory.proofs.Ladder.{pass, stop, and_right, said-true, said-false}
 use Rattle.theory.proofs.Lent.{tail-is}
 use Rattle.wire.proofs.Le.{le_split}
 use Rattle.wire.specs.Le.{le, number}
-use Rattle.protocol.specs.declared.Answer.TheVariants.{BadField}
+use Rattle.protocol.specs.declared.Refusal.TheVariants.{BadField}
 use Rattle.protocol.specs.declared.ObjectKind.TheVariants.{Set}
 use Rattle.protocol.specs.declared.Metadata.TheVariants.{HeaderList}
 use Rattle.protocol.specs.Opcodes.{opcode_rows, supported, supported_only, fixed_size, names_member}
@@ -60,7 +60,7 @@ module _ (d : List ℕ) (t : Bool) (tail : t ≡ eqb (le (take (length d - 8) (d
       let over : ltb (le d) (2 ^ 18) ≡ false = omega (tests, le_split 8 d) in
       stop _ _ _ _ (and_right _ _ over) refl
 
-  pub mask-read : (mask : ℕ) (x : Result Ask Answer) → not t ≡ false → mask ≡ number 0 8 d
+  pub mask-read : (mask : ℕ) (x : Result Ask Refusal) → not t ≡ false → mask ≡ number 0 8 d
       → x ≡ unless supported_only mask answer Err BadField then Ok (UseList mask) → x ≡ use_in d
   unfolding use_in
   mask-read mask x h r k =
@@ -69,7 +69,7 @@ module _ (d : List ℕ) (t : Bool) (tail : t ≡ eqb (le (take (length d - 8) (d
       rw m k
 
 -- step 7, at an opcode that was found
-pub at-opcode : (ids m op o : ℕ) (d : List ℕ) (x : Result Ask Answer) → op ≡ o → x ≡ fields_of ids m o d → x ≡ fields_of ids m op d
+pub at-opcode : (ids m op o : ℕ) (d : List ℕ) (x : Result Ask Refusal) → op ≡ o → x ≡ fields_of ids m o d → x ≡ fields_of ids m op d
 at-opcode ids m op o d x e h = rw e h
 
 -- and at the last one, which none of the others is
@@ -93,7 +93,7 @@ module _ (op : ℕ) (s : supported op ≡ true) (n0 : op ≡ 0x00 → ⊥) (n1 :
   unfolding opcode_rows
   last-long n f = data-long op 0x11 n 1 f is_last tt
 
-  pub at-last-opcode : (ids m : ℕ) (d : List ℕ) (x : Result Ask Answer) → x ≡ mode_in m d → x ≡ fields_of ids m op d
+  pub at-last-opcode : (ids m : ℕ) (d : List ℕ) (x : Result Ask Refusal) → x ≡ mode_in m d → x ≡ fields_of ids m op d
   unfolding fields_of when◌then◌else◌
   at-last-opcode ids m d x h = rw is_last h
 
@@ -102,7 +102,7 @@ unfolding usable
 usable-supported used op b e h = (both _ _ (sym e ∙ not-false b h)).0
 
 -- the numbers that were read, and the data
-pub framed_is : (members ids used g op m : ℕ) (marked : Bool) (r : List ℕ) (x : Result Ask Answer) → data_at ≤ length r → length r ≤ longest
+pub framed_is : (members ids used g op m : ℕ) (marked : Bool) (r : List ℕ) (x : Result Ask Refusal) → data_at ≤ length r → length r ≤ longest
     → g ≡ group_of r → op ≡ opcode_of r → m ≡ target_of r
     → x ≡ framed_of members ids used marked g op m (take (length r - data_at) (data_of r)) → x ≡ ask_of members ids used marked r
 unfolding ask_of

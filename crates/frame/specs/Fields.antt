@@ -4,8 +4,8 @@
 use Rattle.std.specs.Prelude.{Bool, List, ℕ, zero, suc, leb, ltb, eqb, length, get_or, Result, Ok, Err}
 use Rattle.theory.specs.Logic.{when◌then◌else◌, unless◌answer◌then◌, ◌and◌}
 use Rattle.wire.specs.Le.{le, number}
-use Rattle.protocol.specs.declared.Answer.{Answer}
-use Rattle.protocol.specs.declared.Answer.TheVariants.{BadField}
+use Rattle.protocol.specs.declared.Refusal.{Refusal}
+use Rattle.protocol.specs.declared.Refusal.TheVariants.{BadField}
 use Rattle.protocol.specs.declared.ObjectKind.{ObjectKind}
 use Rattle.protocol.specs.declared.ObjectKind.TheVariants.{Get, Set}
 use Rattle.protocol.specs.declared.Metadata.{Metadata}
@@ -37,28 +37,28 @@ kind_in zero = Get
 kind_in (suc n) = Set
 
 -- the id of a valid object header; and the kind too, of create and modify
-abbrev pub id_in : ℕ → List ℕ → Result ℕ Answer
+abbrev pub id_in : ℕ → List ℕ → Result ℕ Refusal
 id_in ids d = unless object_valid ids d answer Err BadField then Ok (id_of d)
 
-abbrev pub id_and_kind_in : ℕ → List ℕ → Result (ℕ × ObjectKind) Answer
+abbrev pub id_and_kind_in : ℕ → List ℕ → Result (ℕ × ObjectKind) Refusal
 id_and_kind_in ids d = unless kind_valid ids d answer Err BadField then Ok (id_of d, kind_in (get_or d kind_at 0))
 
-unfoldable pub create_in : ℕ → ℕ → List ℕ → Result Ask Answer
+unfoldable pub create_in : ℕ → ℕ → List ℕ → Result Ask Refusal
 create_in ids m d =
     unless kind_valid ids d answer Err BadField then
     Ok (Change m (Create (id_of d) (kind_in (get_or d kind_at 0))))
 
-unfoldable pub modify_in : ℕ → ℕ → List ℕ → Result Ask Answer
+unfoldable pub modify_in : ℕ → ℕ → List ℕ → Result Ask Refusal
 modify_in ids m d =
     unless kind_valid ids d answer Err BadField then
     Ok (Change m (Modify (id_of d) (kind_in (get_or d kind_at 0))))
 
-unfoldable pub query_in : ℕ → ℕ → List ℕ → Result Ask Answer
+unfoldable pub query_in : ℕ → ℕ → List ℕ → Result Ask Refusal
 query_in ids m d =
     unless object_valid ids d and flags_valid d answer Err BadField then
     Ok (Read m (QueryObject (id_of d)))
 
-unfoldable pub destroy_in : ℕ → ℕ → List ℕ → Result Ask Answer
+unfoldable pub destroy_in : ℕ → ℕ → List ℕ → Result Ask Refusal
 destroy_in ids m d =
     unless object_valid ids d answer Err BadField then
     Ok (Change m (Destroy (id_of d)))
@@ -69,39 +69,39 @@ metadata_is zero = Size
 metadata_is (suc zero) = Count
 metadata_is (suc (suc n)) = HeaderList
 
-unfoldable pub metadata_in : ℕ → ℕ → List ℕ → Result Ask Answer
+unfoldable pub metadata_in : ℕ → ℕ → List ℕ → Result Ask Refusal
 metadata_in ids m d =
     unless object_valid ids d and leb (get_or d type_at 0) 2 answer Err BadField then
     Ok (Read m (GetMetadata (id_of d) (metadata_is (get_or d type_at 0))))
 
 -- the type of parts get: 0 selected, 1 all; headers with selected only, and any byte after the fixed fields counts as
 -- headers given
-unfoldable pub get_in : ℕ → ℕ → List ℕ → Result Ask Answer
+unfoldable pub get_in : ℕ → ℕ → List ℕ → Result Ask Refusal
 get_in ids m d =
     unless object_valid ids d answer Err BadField then
     when eqb (get_or d type_at 0) 0 then Ok (Read m (GetSelected (id_of d))) else
     unless eqb (get_or d type_at 0) 1 and leb (length d) headers_at answer Err BadField then
     Ok (Read m (GetAll (id_of d)))
 
-unfoldable pub set_in : ℕ → ℕ → List ℕ → Result Ask Answer
+unfoldable pub set_in : ℕ → ℕ → List ℕ → Result Ask Refusal
 set_in ids m d =
     unless object_valid ids d answer Err BadField then
     Ok (Change m (SetParts (id_of d)))
 
 -- mode set: bit 0 set stops, clear resumes; bits 1 to 7 are 0
-unfoldable pub mode_in : ℕ → List ℕ → Result Ask Answer
+unfoldable pub mode_in : ℕ → List ℕ → Result Ask Refusal
 mode_in m d =
     unless leb (get_or d 0 0) 1 answer Err BadField then
     Ok (Change m (SetMode (mode_of (get_or d 0 0))))
 
 -- list use: all bytes are one long mask, and it has supported bits only
-unfoldable pub use_in : List ℕ → Result Ask Answer
+unfoldable pub use_in : List ℕ → Result Ask Refusal
 use_in d =
     unless supported_only (le d) answer Err BadField then
     Ok (UseList (le d))
 
 -- by opcode; the last is 0x11, since no other passes step 4
-unfoldable pub fields_of : ℕ → ℕ → ℕ → List ℕ → Result Ask Answer
+unfoldable pub fields_of : ℕ → ℕ → ℕ → List ℕ → Result Ask Refusal
 fields_of ids m op d =
     when eqb op 0x00 then Ok QueryList else
     when eqb op 0x01 then use_in d else

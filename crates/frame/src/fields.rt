@@ -9,7 +9,7 @@ ghost use Rattle.frame.specs.Frame.{object_size, kind_at, headers_at};
 ghost use Rattle.frame.specs.Fields.{id_of, object_valid, flags_valid, kind_in, metadata_is, id_in, id_and_kind_in, create_in, modify_in, query_in, destroy_in, metadata_in, get_in, set_in, mode_in, use_in, fields_of};
 
 use super::{Ask, FLAGS_AT, HEADERS_AT, ID_AT, KIND_AT, TYPE_AT};
-use protocol::{Answer, ChangeOp, Metadata, ObjectKind, ReadOp};
+use protocol::{Refusal, ChangeOp, Metadata, ObjectKind, ReadOp};
 
 // The first word of a mask has all its supported bits.
 const WORD_SIZE: usize = 8;
@@ -40,12 +40,12 @@ fn id_of(d: &[u8]) -> usize
 }
 
 // The id in an object header that is valid.
-fn id_in(ids: u8, d: &[u8]) -> Result<usize, Answer>
+fn id_in(ids: u8, d: &[u8]) -> Result<usize, Refusal>
     requires { object_size ≤ length d.now }
     ensures { result ≡ id_in ids d.now }
 {
     if !object_valid(ids, d) {
-        return Err(Answer::BadField);
+        return Err(Refusal::BadField);
     }
     Ok(id_of(d))
 }
@@ -61,21 +61,21 @@ fn kind_in(b: u8) -> ObjectKind
 }
 
 // The id and the kind of create and modify.
-fn id_and_kind_in(ids: u8, d: &[u8]) -> Result<(usize, ObjectKind), Answer>
+fn id_and_kind_in(ids: u8, d: &[u8]) -> Result<(usize, ObjectKind), Refusal>
     requires { kind_at < length d.now }
     ensures { result ≡ id_and_kind_in ids d.now }
 {
     let id = id_in(ids, d)?;
     if !flags_valid(d) {
-        return Err(Answer::BadField);
+        return Err(Refusal::BadField);
     }
     if 1 < d[KIND_AT] {
-        return Err(Answer::BadField);
+        return Err(Refusal::BadField);
     }
     Ok((id, kind_in(d[KIND_AT])))
 }
 
-fn create_in(ids: u8, m: u64, d: &[u8]) -> Result<Ask, Answer>
+fn create_in(ids: u8, m: u64, d: &[u8]) -> Result<Ask, Refusal>
     requires { kind_at < length d.now }
     ensures { result ≡ create_in ids m d.now }
 {
@@ -83,7 +83,7 @@ fn create_in(ids: u8, m: u64, d: &[u8]) -> Result<Ask, Answer>
     Ok(Ask::Change(m, ChangeOp::Create(id, kind)))
 }
 
-fn modify_in(ids: u8, m: u64, d: &[u8]) -> Result<Ask, Answer>
+fn modify_in(ids: u8, m: u64, d: &[u8]) -> Result<Ask, Refusal>
     requires { kind_at < length d.now }
     ensures { result ≡ modify_in ids m d.now }
 {
@@ -91,18 +91,18 @@ fn modify_in(ids: u8, m: u64, d: &[u8]) -> Result<Ask, Answer>
     Ok(Ask::Change(m, ChangeOp::Modify(id, kind)))
 }
 
-fn query_in(ids: u8, m: u64, d: &[u8]) -> Result<Ask, Answer>
+fn query_in(ids: u8, m: u64, d: &[u8]) -> Result<Ask, Refusal>
     requires { kind_at ≤ length d.now }
     ensures { result ≡ query_in ids m d.now }
 {
     let id = id_in(ids, d)?;
     if !flags_valid(d) {
-        return Err(Answer::BadField);
+        return Err(Refusal::BadField);
     }
     Ok(Ask::Read(m, ReadOp::QueryObject(id)))
 }
 
-fn destroy_in(ids: u8, m: u64, d: &[u8]) -> Result<Ask, Answer>
+fn destroy_in(ids: u8, m: u64, d: &[u8]) -> Result<Ask, Refusal>
     requires { object_size ≤ length d.now }
     ensures { result ≡ destroy_in ids m d.now }
 {
@@ -120,18 +120,18 @@ fn metadata_is(b: u8) -> Metadata
     }
 }
 
-fn metadata_in(ids: u8, m: u64, d: &[u8]) -> Result<Ask, Answer>
+fn metadata_in(ids: u8, m: u64, d: &[u8]) -> Result<Ask, Refusal>
     requires { headers_at ≤ length d.now }
     ensures { result ≡ metadata_in ids m d.now }
 {
     let id = id_in(ids, d)?;
     if 2 < d[TYPE_AT] {
-        return Err(Answer::BadField);
+        return Err(Refusal::BadField);
     }
     Ok(Ask::Read(m, ReadOp::GetMetadata(id, metadata_is(d[TYPE_AT]))))
 }
 
-fn get_in(ids: u8, m: u64, d: &[u8]) -> Result<Ask, Answer>
+fn get_in(ids: u8, m: u64, d: &[u8]) -> Result<Ask, Refusal>
     requires { headers_at ≤ length d.now }
     ensures { result ≡ get_in ids m d.now }
 {
@@ -140,15 +140,15 @@ fn get_in(ids: u8, m: u64, d: &[u8]) -> Result<Ask, Answer>
         return Ok(Ask::Read(m, ReadOp::GetSelected(id)));
     }
     if d[TYPE_AT] != 1 {
-        return Err(Answer::BadField);
+        return Err(Refusal::BadField);
     }
     if HEADERS_AT < d.len() {
-        return Err(Answer::BadField);
+        return Err(Refusal::BadField);
     }
     Ok(Ask::Read(m, ReadOp::GetAll(id)))
 }
 
-fn set_in(ids: u8, m: u64, d: &[u8]) -> Result<Ask, Answer>
+fn set_in(ids: u8, m: u64, d: &[u8]) -> Result<Ask, Refusal>
     requires { object_size ≤ length d.now }
     ensures { result ≡ set_in ids m d.now }
 {
@@ -156,12 +156,12 @@ fn set_in(ids: u8, m: u64, d: &[u8]) -> Result<Ask, Answer>
     Ok(Ask::Change(m, ChangeOp::SetParts(id)))
 }
 
-fn mode_in(m: u64, d: &[u8]) -> Result<Ask, Answer>
+fn mode_in(m: u64, d: &[u8]) -> Result<Ask, Refusal>
     requires { 1 ≤ length d.now }
     ensures { result ≡ mode_in m d.now }
 {
     if 1 < d[0] {
-        return Err(Answer::BadField);
+        return Err(Refusal::BadField);
     }
     Ok(Ask::Change(m, ChangeOp::SetMode(protocol::mode_of(d[0]))))
 }
@@ -173,22 +173,22 @@ fn is_zero(d: &[u8]) -> bool
     d.iter().all(|b| *b == 0)
 }
 
-fn use_in(d: &[u8]) -> Result<Ask, Answer>
+fn use_in(d: &[u8]) -> Result<Ask, Refusal>
     requires { 8 ≤ length d.now }
     ensures { result ≡ use_in d.now }
 {
     if !is_zero(&d[WORD_SIZE..]) {
-        return Err(Answer::BadField);
+        return Err(Refusal::BadField);
     }
     let mask = wire::read_u64(d, 0);
     if !protocol::supported_only(mask) {
-        return Err(Answer::BadField);
+        return Err(Refusal::BadField);
     }
     Ok(Ask::UseList(mask))
 }
 
 // Step 7 of data that holds all fixed fields of its command.
-fn whole_fields(ids: u8, m: u64, op: usize, d: &[u8]) -> Result<Ask, Answer>
+fn whole_fields(ids: u8, m: u64, op: usize, d: &[u8]) -> Result<Ask, Refusal>
     requires { (supported op ≡ true) × (fixed_size op ≤ length d.now) }
     ensures { result ≡ fields_of ids m op d.now }
 {
@@ -231,7 +231,7 @@ fn complete<'a>(fixed: usize, d: &'a [u8], instead: &'a [u8]) -> &'a [u8]
 
 // Step 7: the fields of each command's data. They are read in one place, whether the data is short or not, so that the
 // compiler keeps the reading inline.
-pub fn fields(ids: u8, m: u64, op: usize, d: &[u8]) -> Result<Ask, Answer>
+pub fn fields(ids: u8, m: u64, op: usize, d: &[u8]) -> Result<Ask, Refusal>
     requires { supported op ≡ true }
     ensures { result ≡ fields_of ids m op d.now }
 {

@@ -8,7 +8,7 @@ ghost use Rattle.theory.specs.Logic.{when◌then◌else◌};
 ghost use Rattle.frame.specs.Frame.{data_at, target_of};
 ghost use Rattle.frame.specs.Ask.{usable, reaches, attended, framed_of, ask_of};
 
-use protocol::{Answer, ChangeOp, ReadOp};
+use protocol::{Refusal, ChangeOp, ReadOp};
 
 // Opcode 2 bytes, group type 2, reserved 12, member 8, data; at most 4,096 bytes.
 const GROUP_AT: usize = 2;
@@ -90,20 +90,20 @@ fn framed(
     op: usize,
     m: u64,
     d: &[u8],
-) -> Result<Ask, Answer>
+) -> Result<Ask, Refusal>
     ensures { result ≡ framed_of members ids in_use marked group op m d.now }
 {
     if group != 1 {
-        return Err(Answer::BadGroup);
+        return Err(Refusal::BadGroup);
     }
     if !usable(in_use, op) {
-        return Err(Answer::BadOpcode);
+        return Err(Refusal::BadOpcode);
     }
     if !reaches(members, op, m) {
-        return Err(Answer::NoMember);
+        return Err(Refusal::NoMember);
     }
     if !attended(marked, op) {
-        return Err(Answer::Marked);
+        return Err(Refusal::Marked);
     }
     fields::fields(ids, m, op, d)
 }
@@ -125,14 +125,14 @@ pub fn decode(
     in_use: u64,
     marked: bool,
     request: &[u8],
-) -> Result<Ask, Answer>
+) -> Result<Ask, Refusal>
     ensures { result ≡ ask_of members ids in_use marked request.now }
 {
     if request.len() < DATA_AT {
-        return Err(Answer::BadLength);
+        return Err(Refusal::BadLength);
     }
     if LONGEST < request.len() {
-        return Err(Answer::BadLength);
+        return Err(Refusal::BadLength);
     }
     let op = wire::read_u16(request, 0) as usize;
     let group = wire::read_u16(request, GROUP_AT);

@@ -13,7 +13,7 @@ use Rattle.wire.specs.Le.{le, bytes, number}
 use Rattle.wire.proofs.Le.{le_bytes}
 use Rattle.protocol.specs.declared.ReadOp.TheVariants.{QueryObject, GetMetadata, GetSelected, GetAll}
 use Rattle.protocol.specs.declared.ChangeOp.TheVariants.{Create, Modify, Destroy, SetParts, SetMode}
-use Rattle.protocol.specs.declared.Answer.TheVariants.{BadOpcode, BadField}
+use Rattle.protocol.specs.declared.Refusal.TheVariants.{BadOpcode, BadField}
 use Rattle.protocol.specs.Answers.{mode_of}
 use Rattle.protocol.specs.Opcodes.{opcode_rows, opcode_row, supported, fixed_size, names_member, bit, supported_only}
 use Rattle.frame.specs.declared.Ask.TheVariants.{UseList, Read, Change}

@@ -339,28 +339,28 @@ pub fn kajurnat_reply_read(
 pub fn kajurnat_restore_begin(card: &mut [u8], member: u64) -> u32
     ensures { (result, card.new) ≡ begin_of card.old member }
 {
-    staging::begin(card, member)
+    staging::number(staging::begin(card, member))
 }
 
 // A fragment, of any length, goes behind those that were fed; over 1,024 bytes in all end the holding place.
 pub fn kajurnat_restore_feed(card: &mut [u8], member: u64, fragment: &[u8]) -> u32
     ensures { (result, card.new) ≡ feed_of card.old member fragment.now }
 {
-    staging::feed(card, member, fragment)
+    staging::number(staging::feed(card, member, fragment))
 }
 
 // One parts set of the bytes that were fed, through the set object of this id; then the holding place is gone.
 pub fn kajurnat_restore_finish(card: &mut [u8], member: u64, id: u32) -> u32
     ensures { (result, card.new) ≡ finish_of card.old member id }
 {
-    staging::finish(card, member, id)
+    staging::number(staging::finish(card, member, id))
 }
 
 // The holding place is gone, and nothing is set.
 pub fn kajurnat_restore_drop(card: &mut [u8], member: u64) -> u32
     ensures { (result, card.new) ≡ drop_of card.old member }
 {
-    staging::discard(card, member)
+    staging::number(staging::discard(card, member))
 }
 
 // Configuration by message, SPEC 13.3: the bytes of the response, 0 in the bus outcome, the card and the reply buffer after it.

@@ -1,8 +1,8 @@
 -- The answers and their numbers, SPEC 6.2 and 7.1; modes, SPEC 4.11, and kinds of objects, SPEC 4.3, as tests and as numbers.
 -- Assumes nothing.
-use Rattle.std.specs.Prelude.{Bool, true, false, ℕ, zero, suc, eqb, ⊤, Result, Ok, Err}
-use Rattle.protocol.specs.declared.Answer.{Answer}
-use Rattle.protocol.specs.declared.Answer.TheVariants.{Done, BadLength, BadGroup, BadOpcode, NoMember, Marked, BadField, Exists, NotLive, NoRoom, WrongKind, Running, BadList, ShortReply}
+use Rattle.std.specs.Prelude.{Bool, true, false, ℕ, zero, suc, ⊤, Result, Ok, Err}
+use Rattle.protocol.specs.declared.Refusal.{Refusal}
+use Rattle.protocol.specs.declared.Refusal.TheVariants.{BadLength, BadGroup, BadOpcode, NoMember, Marked, BadField, Exists, NotLive, NoRoom, WrongKind, Running, BadList, ShortReply}
 use Rattle.protocol.specs.declared.EventRefusal.{EventRefusal}
 use Rattle.protocol.specs.declared.EventRefusal.TheVariants as event
 use Rattle.protocol.specs.declared.Mode.{Mode}
@@ -10,41 +10,46 @@ use Rattle.protocol.specs.declared.Mode.TheVariants as mode
 use Rattle.protocol.specs.declared.ObjectKind.{ObjectKind}
 use Rattle.protocol.specs.declared.ObjectKind.TheVariants.{Get, Set}
 
+-- the answer to a command: a success, or a refusal
+abbrev pub Answer : Type 0
+Answer = Result ⊤ Refusal
+
+-- the same of a command that gives a value
+abbrev pub outcome_of : {A : Type 0} → Result A Refusal → Answer
+outcome_of (Ok x) = Ok tt
+outcome_of (Err a) = Err a
+
 abbrev pub status_of : Answer → ℕ
-status_of Done = 0
-status_of BadLength = 22
-status_of BadGroup = 22
-status_of BadOpcode = 22
-status_of NoMember = 22
-status_of Marked = 11
-status_of BadField = 22
-status_of Exists = 17
-status_of NotLive = 6
-status_of NoRoom = 28
-status_of WrongKind = 22
-status_of Running = 11
-status_of BadList = 22
-status_of ShortReply = 12
+status_of (Ok x) = 0
+status_of (Err BadLength) = 22
+status_of (Err BadGroup) = 22
+status_of (Err BadOpcode) = 22
+status_of (Err NoMember) = 22
+status_of (Err Marked) = 11
+status_of (Err BadField) = 22
+status_of (Err Exists) = 17
+status_of (Err NotLive) = 6
+status_of (Err NoRoom) = 28
+status_of (Err WrongKind) = 22
+status_of (Err Running) = 11
+status_of (Err BadList) = 22
+status_of (Err ShortReply) = 12
 
 abbrev pub qualifier_of : Answer → ℕ
-qualifier_of Done = 0
-qualifier_of BadLength = 1
-qualifier_of BadGroup = 4
-qualifier_of BadOpcode = 2
-qualifier_of NoMember = 5
-qualifier_of Marked = 7
-qualifier_of BadField = 3
-qualifier_of Exists = 1
-qualifier_of NotLive = 1
-qualifier_of NoRoom = 1
-qualifier_of WrongKind = 3
-qualifier_of Running = 7
-qualifier_of BadList = 3
-qualifier_of ShortReply = 6
-
--- success is status 0
-abbrev pub is_done : Answer → Bool
-is_done a = eqb (status_of a) 0
+qualifier_of (Ok x) = 0
+qualifier_of (Err BadLength) = 1
+qualifier_of (Err BadGroup) = 4
+qualifier_of (Err BadOpcode) = 2
+qualifier_of (Err NoMember) = 5
+qualifier_of (Err Marked) = 7
+qualifier_of (Err BadField) = 3
+qualifier_of (Err Exists) = 1
+qualifier_of (Err NotLive) = 1
+qualifier_of (Err NoRoom) = 1
+qualifier_of (Err WrongKind) = 3
+qualifier_of (Err Running) = 7
+qualifier_of (Err BadList) = 3
+qualifier_of (Err ShortReply) = 6
 
 -- what setup and card events answer: SPEC 7.1
 abbrev pub EventAnswer : Type 0

@@ -2,14 +2,13 @@
 // ask of a member.
 #![tactic(auto)]
 
-ghost use Rattle.std.specs.Prelude.{◌≡◌, true};
-ghost use Rattle.protocol.specs.Answers.{status_of, qualifier_of, is_done, event_number, mode_of, kind_number};
+ghost use Rattle.std.specs.Prelude.{◌≡◌, true, eqb, is_ok};
+ghost use Rattle.protocol.specs.Answers.{status_of, qualifier_of, event_number, mode_of, kind_number};
 ghost use Rattle.protocol.specs.Opcodes.{supported, fixed_size, names_member, bit, supported_only};
 
-// The answer to a command: SPEC 6.1, with the numbers of SPEC 6.2.
-#[derive(Clone, Copy)]
-pub enum Answer {
-    Done,
+// Why a command is refused: SPEC 6.1, with the numbers of SPEC 6.2.
+#[derive(Clone, Copy, Debug, PartialEq, Eq)]
+pub enum Refusal {
     BadLength,
     BadGroup,
     BadOpcode,
@@ -77,10 +76,9 @@ pub enum ChangeOp {
     SetMode(Mode),
 }
 
-// What a reply holds from byte 8.
+// What the reply to a success holds from byte 8.
 #[derive(Clone, Copy)]
 pub enum Body {
-    Nothing,
     Kind(ObjectKind),
     Number(u32),
     Headers,
@@ -88,52 +86,48 @@ pub enum Body {
     All,
 }
 
-pub fn status(a: Answer) -> u16
-    ensures { result ≡ status_of a }
+// Success, and nothing else, has status 0.
+pub fn status(answer: Result<(), Refusal>) -> u16
+    ensures number { result ≡ status_of answer }
+    ensures success { eqb result 0 ≡ is_ok answer }
 {
-    match a {
-        Answer::Done => 0,
-        Answer::BadLength => 22,
-        Answer::BadGroup => 22,
-        Answer::BadOpcode => 22,
-        Answer::NoMember => 22,
-        Answer::Marked => 11,
-        Answer::BadField => 22,
-        Answer::Exists => 17,
-        Answer::NotLive => 6,
-        Answer::NoRoom => 28,
-        Answer::WrongKind => 22,
-        Answer::Running => 11,
-        Answer::BadList => 22,
-        Answer::ShortReply => 12,
+    match answer {
+        Ok(_) => 0,
+        Err(Refusal::BadLength) => 22,
+        Err(Refusal::BadGroup) => 22,
+        Err(Refusal::BadOpcode) => 22,
+        Err(Refusal::NoMember) => 22,
+        Err(Refusal::Marked) => 11,
+        Err(Refusal::BadField) => 22,
+        Err(Refusal::Exists) => 17,
+        Err(Refusal::NotLive) => 6,
+        Err(Refusal::NoRoom) => 28,
+        Err(Refusal::WrongKind) => 22,
+        Err(Refusal::Running) => 11,
+        Err(Refusal::BadList) => 22,
+        Err(Refusal::ShortReply) => 12,
     }
 }
 
-pub fn qualifier(a: Answer) -> u16
-    ensures { result ≡ qualifier_of a }
+pub fn qualifier(answer: Result<(), Refusal>) -> u16
+    ensures { result ≡ qualifier_of answer }
 {
-    match a {
-        Answer::Done => 0,
-        Answer::BadLength => 1,
-        Answer::BadGroup => 4,
-        Answer::BadOpcode => 2,
-        Answer::NoMember => 5,
-        Answer::Marked => 7,
-        Answer::BadField => 3,
-        Answer::Exists => 1,
-        Answer::NotLive => 1,
-        Answer::NoRoom => 1,
-        Answer::WrongKind => 3,
-        Answer::Running => 7,
-        Answer::BadList => 3,
-        Answer::ShortReply => 6,
+    match answer {
+        Ok(_) => 0,
+        Err(Refusal::BadLength) => 1,
+        Err(Refusal::BadGroup) => 4,
+        Err(Refusal::BadOpcode) => 2,
+        Err(Refusal::NoMember) => 5,
+        Err(Refusal::Marked) => 7,
+        Err(Refusal::BadField) => 3,
+        Err(Refusal::Exists) => 1,
+        Err(Refusal::NotLive) => 1,
+        Err(Refusal::NoRoom) => 1,
+        Err(Refusal::WrongKind) => 3,
+        Err(Refusal::Running) => 7,
+        Err(Refusal::BadList) => 3,
+        Err(Refusal::ShortReply) => 6,
     }
-}
-
-pub fn is_done(a: Answer) -> bool
-    ensures { result ≡ is_done a }
-{
-    status(a) == 0
 }
 
 // The number of an event's answer: 0 for one that is done.

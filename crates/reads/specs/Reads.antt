@@ -1,8 +1,8 @@
 -- The commands that read a member, SPEC 4.6, 4.8 and 4.9: steps 8 to 10 of SPEC 6.1. Assumes nothing.
-use Rattle.std.specs.Prelude.{List, ℕ}
+use Rattle.std.specs.Prelude.{List, ℕ, Result, Ok, Err}
 use Rattle.theory.specs.Logic.{unless◌answer◌then◌}
-use Rattle.protocol.specs.declared.Answer.{Answer}
-use Rattle.protocol.specs.declared.Answer.TheVariants.{Done, NotLive, WrongKind, BadList}
+use Rattle.protocol.specs.declared.Refusal.{Refusal}
+use Rattle.protocol.specs.declared.Refusal.TheVariants.{NotLive, WrongKind, BadList}
 use Rattle.protocol.specs.declared.Metadata.{Metadata}
 use Rattle.protocol.specs.declared.Metadata.TheVariants.{Size, Count, HeaderList}
 use Rattle.protocol.specs.declared.ReadOp.{ReadOp}
@@ -14,17 +14,10 @@ use Rattle.objects.specs.Objects.{on_found}
 use Rattle.member.specs.declared.Member.{Member}
 use Rattle.member.specs.Objects.{lookup_of}
 use Rattle.protocol.specs.declared.Body.{Body}
-use Rattle.protocol.specs.declared.Body.TheVariants.{Nothing, Kind, Number, Headers, Selected, All}
-use Rattle.reads.specs.declared.Reading.{Reading}
+use Rattle.protocol.specs.declared.Body.TheVariants.{Kind, Number, Headers, Selected, All}
 
-abbrev pub refuse_read : Answer → Reading
-refuse_read a = record { answer = a; body = Nothing }
-
-abbrev pub succeed_read : Body → Reading
-succeed_read b = record { answer = Done; body = b }
-
-unfoldable pub query_of : ℕ → Member → Reading
-query_of id m = on_found (lookup_of m id) (λ k. succeed_read (Kind k)) (refuse_read NotLive)
+unfoldable pub query_of : ℕ → Member → Result Body Refusal
+query_of id m = on_found (lookup_of m id) (λ k. Ok (Kind k)) (Err NotLive)
 
 abbrev pub metadata_of : ℕ → Metadata → Body
 metadata_of queues Size = Number (parts_size queues)
@@ -32,19 +25,19 @@ metadata_of queues Count = Number (part_count queues)
 metadata_of queues HeaderList = Headers
 
 -- metadata and parts get need a live get object
-unfoldable pub through_get : ℕ → Member → Reading → Reading
+unfoldable pub through_get : {A : Type 0} → ℕ → Member → Result A Refusal → Result A Refusal
 through_get id m rest =
     on_found (lookup_of m id)
-    (λ k. unless is_get k answer refuse_read WrongKind then rest)
-    (refuse_read NotLive)
+    (λ k. unless is_get k answer Err WrongKind then rest)
+    (Err NotLive)
 
 -- list holds the headers asked for
-unfoldable pub selected_of : ℕ → List ℕ → Reading
-selected_of queues list = unless asked_of queues list answer refuse_read BadList then succeed_read Selected
+unfoldable pub selected_of : ℕ → List ℕ → Result Body Refusal
+selected_of queues list = unless asked_of queues list answer Err BadList then Ok Selected
 
 -- by the member's own queue count (02, request 9)
-abbrev pub read_of : List ℕ → ReadOp → Member → Reading
+abbrev pub read_of : List ℕ → ReadOp → Member → Result Body Refusal
 read_of list (QueryObject id) m = query_of id m
-read_of list (GetMetadata id what) m = through_get id m (succeed_read (metadata_of m.queues what))
+read_of list (GetMetadata id what) m = through_get id m (Ok (metadata_of m.queues what))
 read_of list (GetSelected id) m = through_get id m (selected_of m.queues list)
-read_of list (GetAll id) m = through_get id m (succeed_read All)
+read_of list (GetAll id) m = through_get id m (Ok All)

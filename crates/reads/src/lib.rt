@@ -4,43 +4,32 @@
 
 ghost use Rattle.std.specs.Prelude.{◌≡◌, length};
 ghost use Rattle.member.specs.Record.{member_size, member_of};
-ghost use Rattle.reads.specs.Reads.{refuse_read, succeed_read, query_of, metadata_of, through_get, selected_of, read_of};
+ghost use Rattle.reads.specs.Reads.{query_of, metadata_of, through_get, selected_of, read_of};
 
-use protocol::{Answer, Body, Metadata, ObjectKind, ReadOp};
+use protocol::{Body, Metadata, ObjectKind, ReadOp, Refusal};
 
-// The outcome of an operation that has a result and changes nothing.
-#[derive(Clone, Copy)]
-pub struct Reading {
-    pub answer: Answer,
-    pub body: Body,
-}
-
-fn refuse_read(answer: Answer) -> Reading
-    ensures { result ≡ refuse_read answer }
-{
-    Reading {
-        answer,
-        body: Body::Nothing,
-    }
-}
-
-fn succeed_read(body: Body) -> Reading
-    ensures { result ≡ succeed_read body }
-{
-    Reading {
-        answer: Answer::Done,
-        body,
-    }
-}
-
-fn query(bytes: &[u8], id: usize) -> Reading
+fn query(bytes: &[u8], id: usize) -> Result<Body, Refusal>
     requires { length bytes.now ≡ member_size }
     ensures { result ≡ query_of id (member_of bytes.now) }
 {
     let Some(kind) = member::lookup_in(bytes, id) else {
-        return refuse_read(Answer::NotLive);
+        return Err(Refusal::NotLive);
     };
-    succeed_read(Body::Kind(kind))
+    Ok(Body::Kind(kind))
+}
+
+// Metadata and parts get need a live get object.
+fn through_get(bytes: &[u8], id: usize) -> Result<(), Refusal>
+    requires { length bytes.now ≡ member_size }
+    ensures { result ≡ through_get id (member_of bytes.now) (Ok tt) }
+{
+    let Some(kind) = member::lookup_in(bytes, id) else {
+        return Err(Refusal::NotLive);
+    };
+    let ObjectKind::Get = kind else {
+        return Err(Refusal::WrongKind);
+    };
+    Ok(())
 }
 
 fn metadata(what: Metadata, queues: u8) -> Body
@@ -53,51 +42,35 @@ fn metadata(what: Metadata, queues: u8) -> Body
     }
 }
 
-fn get_metadata(bytes: &[u8], id: usize, what: Metadata, queues: u8) -> Reading
+fn get_metadata(bytes: &[u8], id: usize, what: Metadata, queues: u8) -> Result<Body, Refusal>
     requires { length bytes.now ≡ member_size }
-    ensures { result ≡ through_get id (member_of bytes.now) (succeed_read (metadata_of queues what)) }
+    ensures { result ≡ through_get id (member_of bytes.now) (Ok (metadata_of queues what)) }
 {
-    let Some(kind) = member::lookup_in(bytes, id) else {
-        return refuse_read(Answer::NotLive);
-    };
-    let ObjectKind::Get = kind else {
-        return refuse_read(Answer::WrongKind);
-    };
-    let body = metadata(what, queues);
-    succeed_read(body)
+    through_get(bytes, id)?;
+    Ok(metadata(what, queues))
 }
 
-fn get_selected(bytes: &[u8], id: usize, queues: u8, list: &[u8]) -> Reading
+fn get_selected(bytes: &[u8], id: usize, queues: u8, list: &[u8]) -> Result<Body, Refusal>
     requires { length bytes.now ≡ member_size }
     ensures { result ≡ through_get id (member_of bytes.now) (selected_of queues list.now) }
 {
-    let Some(kind) = member::lookup_in(bytes, id) else {
-        return refuse_read(Answer::NotLive);
-    };
-    let ObjectKind::Get = kind else {
-        return refuse_read(Answer::WrongKind);
-    };
+    through_get(bytes, id)?;
     if !rules::check_asked(queues, list) {
-        return refuse_read(Answer::BadList);
+        return Err(Refusal::BadList);
     }
-    succeed_read(Body::Selected)
+    Ok(Body::Selected)
 }
 
-fn get_all(bytes: &[u8], id: usize) -> Reading
+fn get_all(bytes: &[u8], id: usize) -> Result<Body, Refusal>
     requires { length bytes.now ≡ member_size }
-    ensures { result ≡ through_get id (member_of bytes.now) (succeed_read Body.All) }
+    ensures { result ≡ through_get id (member_of bytes.now) (Ok Body.All) }
 {
-    let Some(kind) = member::lookup_in(bytes, id) else {
-        return refuse_read(Answer::NotLive);
-    };
-    let ObjectKind::Get = kind else {
-        return refuse_read(Answer::WrongKind);
-    };
-    succeed_read(Body::All)
+    through_get(bytes, id)?;
+    Ok(Body::All)
 }
 
 // A command that reads; list holds the headers asked for. The parts are those of the member's own queue count.
-pub fn read(bytes: &[u8], op: ReadOp, list: &[u8]) -> Reading
+pub fn read(bytes: &[u8], op: ReadOp, list: &[u8]) -> Result<Body, Refusal>
     requires { length bytes.now ≡ member_size }
     ensures { result ≡ read_of list.now op (member_of bytes.now) }
 {

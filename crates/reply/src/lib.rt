@@ -4,12 +4,13 @@
 ghost use Rattle.std.specs.Prelude.{◌≡◌, ℕ, ◌+◌, ◌≤◌, ◌<◌, List, [], ◌++◌, length};
 ghost use Rattle.theory.specs.Bytes.{put};
 ghost use Rattle.wire.specs.Le.{bytes};
+ghost use Rattle.protocol.specs.Answers.{outcome_of};
 ghost use Rattle.inventory.specs.Inventory.{part_count, values_size};
 ghost use Rattle.capture.specs.Capture.{headers_of};
-ghost use Rattle.reply.specs.Result.{number_bytes, result_of};
+ghost use Rattle.reply.specs.Result.{number_bytes, result_of, result_given};
 ghost use Rattle.reply.specs.Reply.{head_size, head_of, final_of, reply_of, replied, written};
 
-use protocol::{Answer, Body};
+use protocol::{Body, Refusal};
 
 // The head: status 2 bytes, qualifier 2, four zero bytes; the result follows.
 const QUALIFIER_AT: usize = 2;
@@ -23,33 +24,33 @@ const MASK_SIZE: usize = 8;
 
 const NUMBER_SIZE: usize = 8;
 
-fn write_head(a: Answer, out: &mut [u8])
+fn write_head(answer: Result<(), Refusal>, out: &mut [u8])
     requires { head_size ≤ length out.old }
-    ensures { out.new ≡ put 0 (head_of a) out.old }
+    ensures { out.new ≡ put 0 (head_of answer) out.old }
 {
-    wire::write(out, 0, 2, protocol::status(a) as u64);
-    wire::write(out, QUALIFIER_AT, 2, protocol::qualifier(a) as u64);
+    wire::write(out, 0, 2, protocol::status(answer) as u64);
+    wire::write(out, QUALIFIER_AT, 2, protocol::qualifier(answer) as u64);
     wire::write(out, ZEROS_AT, 4, 0);
 }
 
 // A reply with no result: the bytes written.
-pub fn write_answer(a: Answer, reply: &mut [u8]) -> usize
+pub fn write_answer(answer: Result<(), Refusal>, reply: &mut [u8]) -> usize
     requires { head_size ≤ length reply.old }
-    ensures { (result, reply.new) ≡ written (reply_of a []) reply.old }
+    ensures { (result, reply.new) ≡ written (reply_of answer []) reply.old }
 {
-    write_head(a, reply);
+    write_head(answer, reply);
     HEAD_SIZE
 }
 
 // The reply to a list query: a mask of opcodes.
 pub fn write_mask(mask: u64, reply: &mut [u8]) -> usize
     requires { head_size ≤ length reply.old }
-    ensures { (result, reply.new) ≡ written (replied Answer.Done (bytes 8 mask) (length reply.old)) reply.old }
+    ensures { (result, reply.new) ≡ written (replied (Ok tt) (bytes 8 mask) (length reply.old)) reply.old }
 {
     if reply.len() - HEAD_SIZE < MASK_SIZE {
-        return write_answer(Answer::ShortReply, reply);
+        return write_answer(Err(Refusal::ShortReply), reply);
     }
-    write_head(Answer::Done, reply);
+    write_head(Ok(()), reply);
     wire::write(reply, HEAD_SIZE, MASK_SIZE, mask);
     HEAD_SIZE + MASK_SIZE
 }
@@ -60,7 +61,6 @@ fn result_bytes(body: Body, queues: u8, list: &[u8]) -> usize
     ensures { (values : List ℕ) → length values ≡ values_size → result ≡ length (result_of queues list.now values body) }
 {
     match body {
-        Body::Nothing => 0,
         Body::Kind(_) => 8,
         Body::Number(_) => NUMBER_SIZE,
         Body::Headers => NUMBER_SIZE + capture::headers_bytes(queues),
@@ -93,7 +93,6 @@ fn write_result(body: Body, queues: u8, list: &[u8], values: &[u8], out: &mut [u
     ensures { out.new ≡ put 0 (result_of queues list.now values.now body) out.old }
 {
     match body {
-        Body::Nothing => {}
         Body::Kind(kind) => write_number(out, protocol::kind_number(kind) as u32),
         Body::Number(n) => write_number(out, n),
         Body::Headers => write_metadata_list(out, queues),
@@ -104,24 +103,24 @@ fn write_result(body: Body, queues: u8, list: &[u8], values: &[u8], out: &mut [u
 
 // Steps 11 and 12 of a command with a result: the tail from byte 8 is lent to its writer.
 pub fn write_reading(
-    answer: Answer,
-    body: Body,
+    reading: Result<Body, Refusal>,
     queues: u8,
     list: &[u8],
     values: &[u8],
     reply: &mut [u8],
 ) -> usize
     requires { (queues < 5) × (length values.now ≡ values_size) × (head_size ≤ length reply.old) }
-    ensures { (result, reply.new) ≡ written (replied answer (result_of queues list.now values.now body) (length reply.old)) reply.old }
+    ensures { (result, reply.new) ≡ written (replied (outcome_of reading) (result_given queues list.now values.now reading) (length reply.old)) reply.old }
 {
-    if !protocol::is_done(answer) {
-        return write_answer(answer, reply);
-    }
+    let body = match reading {
+        Ok(body) => body,
+        Err(refusal) => return write_answer(Err(refusal), reply),
+    };
     let size = result_bytes(body, queues, list);
     if reply.len() - HEAD_SIZE < size {
-        return write_answer(Answer::ShortReply, reply);
+        return write_answer(Err(Refusal::ShortReply), reply);
     }
-    write_head(answer, reply);
+    write_head(Ok(()), reply);
     write_result(body, queues, list, values, &mut reply[HEAD_SIZE..]);
     HEAD_SIZE + size
 }

@@ -1,6 +1,6 @@
 -- The calls keep a card sound. Assumes nothing.
 use Rattle.std.specs.Prelude.{Result, Ok, Err}
-use Rattle.protocol.specs.declared.Answer.{Answer}
+use Rattle.protocol.specs.declared.Refusal.{Refusal}
 use mathlib.Core.Path.{◌≡◌, refl, ◌∙◌}
 use mathlib.Core.Bool.{true}
 use mathlib.Core.List.{List}
@@ -26,7 +26,7 @@ use Rattle.staging.proofs.Refusals.{on-member-cases, on-open-cases}
 use Rattle.staging.proofs.Places.{few-fed, number-sound, held-sound, gone-sound}
 
 -- a command leaves the setup
-perform-setup : (c r : List ℕ) (a : Result Ask Answer) → setup_of (perform c r a).card ≡ setup_of c
+perform-setup : (c r : List ℕ) (a : Result Ask Refusal) → setup_of (perform c r a).card ≡ setup_of c
 unfolding perform
 perform-setup c r (Err a) = refl
 perform-setup c r (Ok QueryList) = refl

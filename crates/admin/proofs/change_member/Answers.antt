@@ -1,3 +1,4 @@
+use Rattle.std.specs.Prelude.{Ok, Err}
 use borrow.Author.Rules.{rules}
 use Rattle.admin.proofs.OfSound.{header-there, record-there}
 use Rattle.admin.proofs.Arms.{change-refused, change-told}
@@ -9,13 +10,13 @@ setup_of-s-requires c = search (rules, header-there)
 pub load_member-before-requires : goal.load_member-before-requires
 load_member-before-requires c = search (rules, record-there)
 
-pub returns-then-not-is_done : goal.returns-then-not-is_done
-returns-then-not-is_done c = search (rules, change-refused)
-
 pub save_member-requires : goal.save_member-requires
 save_member-requires c = search (rules, record-there)
 
-pub returns : goal.returns
-returns c = change-told _ _ _ _ _ _ _ _ _ c.setup_of-s.ensures c.load_member-before.ensures _ _
-    c.from.ensures c.change-outcome.ensures c.write_answer-n.ensures c.requires.2 _
-    c.is_done.ensures _ c.if-not-is_done.false-raw c.save_member.ensures
+pub returns-in-Ok : goal.returns-in-Ok
+returns-in-Ok c = change-told _ _ _ _ _ _ _ _ _ c.setup_of-s.ensures c.load_member-before.ensures _ _
+    c.from.ensures c.change.ensures c.requires.2 _ c.in-Ok.is c.write_answer.ensures _ c.save_member.ensures
+
+pub returns-in-Err : goal.returns-in-Err
+returns-in-Err c = change-refused _ _ _ _ _ _ _ _ _ c.setup_of-s.ensures c.load_member-before.ensures _ _
+    c.from.ensures c.change.ensures c.requires.2 _ c.in-Err.is c.write_answer-in-Err.ensures

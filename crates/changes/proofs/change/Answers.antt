@@ -1,3 +1,4 @@
+use Rattle.std.proofs.Common.{ap, Ok}
 use Rattle.changes.proofs.change.Goals as goal
 
 pub returns-in-Create : goal.returns-in-Create
@@ -13,4 +14,4 @@ pub returns-in-SetParts : goal.returns-in-SetParts
 returns-in-SetParts c = rw c.in-SetParts.is c.set_parts.ensures
 
 pub returns-in-SetMode : goal.returns-in-SetMode
-returns-in-SetMode c = rw c.in-SetMode.is c.set_mode.ensures
+returns-in-SetMode c = rw c.in-SetMode.is (ap Ok c.set_mode.ensures)

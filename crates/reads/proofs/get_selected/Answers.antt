@@ -1,60 +1,15 @@
-use borrow.Author.Rules.{rules}
-use Rattle.reads.specs.Reads.{through_get, selected_of}
-use Rattle.reads.proofs.Steps.{steps}
+use Rattle.theory.proofs.Ladder.{ladder}
+use Rattle.reads.specs.Reads.{selected_of}
+use Rattle.reads.proofs.Steps.{get-left, get-went}
 use Rattle.reads.proofs.get_selected.Goals as goal
 
-pub lookup_in-requires : goal.lookup_in-requires
-unfolding through_get selected_of
-lookup_in-requires c = search rules
-
-pub enum_known-kind : goal.enum_known-kind
-unfolding through_get selected_of
-enum_known-kind c = search rules
-
-pub enum_told-1 : goal.enum_told-1
-unfolding through_get selected_of
-enum_told-1 c = search rules
-
-pub refuse_read-requires : goal.refuse_read-requires
-unfolding through_get selected_of
-refuse_read-requires c = search rules
-
-pub returns-in_default : goal.returns-in_default
-unfolding through_get selected_of
-returns-in_default c = search steps
-
-pub enum_told-in-Get : goal.enum_told-in-Get
-unfolding through_get selected_of
-enum_told-in-Get c = search rules
-
-pub enum_told-in_default-kind : goal.enum_told-in_default-kind
-unfolding through_get selected_of
-enum_told-in_default-kind c = search rules
-
-pub refuse_read-requires-in_default-kind : goal.refuse_read-requires-in_default-kind
-unfolding through_get selected_of
-refuse_read-requires-in_default-kind c = search rules
-
-pub returns-in_default-kind : goal.returns-in_default-kind
-unfolding through_get selected_of
-returns-in_default-kind c = search steps
-
-pub check_asked-requires : goal.check_asked-requires
-unfolding through_get selected_of
-check_asked-requires c = search rules
-
-pub refuse_read-requires-then-not-check_asked : goal.refuse_read-requires-then-not-check_asked
-unfolding through_get selected_of
-refuse_read-requires-then-not-check_asked c = search rules
+pub returns-in_err-through_get : goal.returns-in_err-through_get
+returns-in_err-through_get c = get-left _ _ _ c.through_get.ensures _ c.in_err-through_get.was _ c.from_residual.ensures.1 _
 
 pub returns-then-not-check_asked : goal.returns-then-not-check_asked
-unfolding through_get selected_of
-returns-then-not-check_asked c = search steps
-
-pub succeed_read-requires : goal.succeed_read-requires
-unfolding through_get selected_of
-succeed_read-requires c = search rules
+unfolding selected_of
+returns-then-not-check_asked c = get-went _ _ _ c.through_get.ensures _ c.in_ok-through_get.was _ _ (search ladder)
 
 pub returns : goal.returns
-unfolding through_get selected_of
-returns c = search steps
+unfolding selected_of
+returns c = get-went _ _ _ c.through_get.ensures _ c.in_ok-through_get.was _ _ (search ladder)

@@ -1,27 +1,20 @@
 use borrow.Author.Rules.{rules}
 use mathlib.Core.Path.{◌≡◌, refl, sym}
-use mathlib.Core.Bool.{true}
 use Prim.Native.Nat.{ℕ}
 use lib.ListN.{length}
 use Rattle.wire.specs.Le.{bytes}
 use Rattle.wire.proofs.Le.{length-bytes}
-use Rattle.protocol.specs.declared.Answer.TheVariants.{Done}
-use Rattle.protocol.specs.Answers.{is_done}
 use Rattle.reply.proofs.Reply.{short-written, result-written, result-fits}
 use Rattle.reply.proofs.write_mask.Goals as goal
 
 eight : (x : ℕ) → 8 ≡ length (bytes 8 x)
 eight x = sym (length-bytes 8 x)
 
-succeeds : true ≡ is_done Done
-succeeds = refl
-
 pub returns-then-reply-lt-MASK_SIZE : goal.returns-then-reply-lt-MASK_SIZE
-returns-then-reply-lt-MASK_SIZE c = short-written _ _ _ _ succeeds refl c.requires 8 (eight _) _ c.if-reply-lt-MASK_SIZE.true c.write_answer.ensures
+returns-then-reply-lt-MASK_SIZE c = short-written _ _ _ refl c.requires 8 (eight _) _ c.if-reply-lt-MASK_SIZE.true c.write_answer.ensures
 
 pub write-requires : goal.write-requires
 write-requires c = search (rules, result-fits)
 
 pub returns : goal.returns
-returns c = result-written _ _ _ _ succeeds refl c.requires 8 (eight _) _ _ c.if-reply-lt-MASK_SIZE.false c.write_head.ensures
-    c.write.ensures
+returns c = result-written _ _ _ refl c.requires 8 (eight _) _ _ c.if-reply-lt-MASK_SIZE.false c.write_head.ensures c.write.ensures

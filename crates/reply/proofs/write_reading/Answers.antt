@@ -4,20 +4,16 @@ use mir.Syntax.{w64}
 use mir.Val.{Fits}
 use lib.ListN.{length}
 use Rattle.theory.proofs.Lent.{lent-tail}
-use Rattle.reply.proofs.Reply.{refused-written, short-written, result-written, tail-fits, reply-word}
-use Rattle.reply.proofs.write_reading.Goals.{Start}
+use Rattle.reply.proofs.Reply.{refusal-written, success-written, short-written, result-written, tail-fits, reply-word}
 use Rattle.reply.proofs.write_reading.Goals as goal
 
-word : (s : Start) → Fits w64 (length s.args.reply.now)
-word s = search rules
-
-pub returns-then-not-is_done : goal.returns-then-not-is_done
-returns-then-not-is_done c = refused-written _ _ _ _ c.is_done.ensures _ c.if-not-is_done.true-raw c.write_answer.ensures
+pub returns-in-Err : goal.returns-in-Err
+returns-in-Err c = refusal-written _ _ _ _ _ _ c.in-Err.is _ c.write_answer.ensures
 
 pub returns-then-reply-size : goal.returns-then-reply-size
 returns-then-reply-size c = let pre = c.requires in
-    short-written _ _ _ _ c.is_done.ensures c.if-not-is_done.false-raw pre.2 _ (c.result_bytes-size.ensures _ pre.1) _
-    c.if-reply-size.true c.write_answer-then-reply-size.ensures
+    success-written _ _ _ _ _ _ c.in-Ok.is _
+    (short-written _ _ _ refl pre.2 _ (c.result_bytes-size.ensures _ pre.1) _ c.if-reply-size.true c.write_answer-then-reply-size.ensures)
 
 pub write_result-requires : goal.write_result-requires
 write_result-requires c = let pre = c.requires in (
@@ -32,5 +28,6 @@ overflow_add-result c = let word : Fits w64 (length c.args.reply.now) = search r
 
 pub returns : goal.returns
 returns c = let pre = c.requires in
-    result-written _ _ _ _ c.is_done.ensures c.if-not-is_done.false-raw pre.2 _ (c.result_bytes-size.ensures _ pre.1) _ _
-    c.if-reply-size.false c.write_head.ensures (lent-tail _ _ _ _ _ refl c.write_result.ensures)
+    success-written _ _ _ _ _ _ c.in-Ok.is _
+    (result-written _ _ _ refl pre.2 _ (c.result_bytes-size.ensures _ pre.1) _ _
+    c.if-reply-size.false c.write_head.ensures (lent-tail _ _ _ _ _ refl c.write_result.ensures))

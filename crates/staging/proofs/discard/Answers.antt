@@ -4,9 +4,9 @@ use Rattle.staging.proofs.Refusals.{open-refused, open-record}
 use Rattle.staging.proofs.Returns.{dropped}
 use Rattle.staging.proofs.discard.Goals as goal
 
-pub returns-then-a-ne-DONE : goal.returns-then-a-ne-DONE
+pub returns-in_err-check_open : goal.returns-in_err-check_open
 unfolding drop_of
-returns-then-a-ne-DONE c = search (rules, open-refused)
+returns-in_err-check_open c = open-refused _ _ _ c.check_open.ensures _ c.in_err-check_open.was _ c.from_residual.ensures.1 _
 
 pub load_member-requires : goal.load_member-requires
 load_member-requires c = search (rules, open-record)

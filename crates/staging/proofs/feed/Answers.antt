@@ -4,9 +4,9 @@ use Rattle.staging.proofs.Refusals.{open-refused, open-record}
 use Rattle.staging.proofs.Returns.{held-some, held-room, held_fits, fed-over, fed-in}
 use Rattle.staging.proofs.feed.Goals as goal
 
-pub returns-then-a-ne-DONE : goal.returns-then-a-ne-DONE
+pub returns-in_err-check_open : goal.returns-in_err-check_open
 unfolding feed_of
-returns-then-a-ne-DONE c = search (rules, open-refused)
+returns-in_err-check_open c = open-refused _ _ _ c.check_open.ensures _ c.in_err-check_open.was _ c.from_residual.ensures.1 _
 
 pub load_member-x-requires : goal.load_member-x-requires
 load_member-x-requires c = search (rules, open-record)

@@ -2,8 +2,8 @@ use Rattle.std.proofs.Common.{ℕ, List, Result, Ok, Err, ◌∙◌, ◌≡◌, 
 use Rattle.theory.specs.Logic.{when◌then◌else◌, unless◌answer◌then◌, ◌and◌}
 use Rattle.theory.proofs.Ladder.{ladder}
 use Rattle.theory.proofs.Refused.{left_with, went_with}
-use Rattle.protocol.specs.declared.Answer.{Answer}
-use Rattle.protocol.specs.declared.Answer.TheVariants.{BadField}
+use Rattle.protocol.specs.declared.Refusal.{Refusal}
+use Rattle.protocol.specs.declared.Refusal.TheVariants.{BadField}
 use Rattle.protocol.specs.declared.ReadOp.TheVariants.{GetSelected, GetAll}
 use Rattle.frame.specs.declared.Ask.{Ask}
 use Rattle.frame.specs.declared.Ask.TheVariants.{Read}
@@ -12,7 +12,7 @@ use Rattle.frame.specs.Fields.{get_in}
 use Rattle.frame.proofs.fields.get_in.Goals as goal
 
 -- what is asked through the object of an id
-by_type : ℕ → List ℕ → ℕ → Result Ask Answer
+by_type : ℕ → List ℕ → ℕ → Result Ask Refusal
 by_type m d i =
     when eqb (get_or d type_at 0) 0 then Ok (Read m (GetSelected i)) else
     unless eqb (get_or d type_at 0) 1 and leb (length d) headers_at answer Err BadField then

@@ -2,7 +2,7 @@ use Rattle.std.proofs.Common.{Ok, Err, ◌∙◌, sym, ap, leb, get_or}
 use Rattle.theory.specs.Logic.{unless◌answer◌then◌}
 use Rattle.theory.proofs.Ladder.{ladder, pass, told-true}
 use Rattle.theory.proofs.Refused.{two-steps, left_with, went_with}
-use Rattle.protocol.specs.declared.Answer.TheVariants.{BadField}
+use Rattle.protocol.specs.declared.Refusal.TheVariants.{BadField}
 use Rattle.frame.specs.Frame.{kind_at}
 use Rattle.frame.specs.Fields.{flags_valid, kind_valid, kind_in}
 use Rattle.frame.proofs.fields.id_and_kind_in.Goals as goal

@@ -2,7 +2,7 @@ use Rattle.std.proofs.Common.{Ok, Err, ◌∙◌, sym, ap, leb, get_or}
 use Rattle.theory.specs.Logic.{unless◌answer◌then◌}
 use Rattle.theory.proofs.Ladder.{ladder, pass}
 use Rattle.theory.proofs.Refused.{two-steps, left_with, went_with}
-use Rattle.protocol.specs.declared.Answer.TheVariants.{BadField}
+use Rattle.protocol.specs.declared.Refusal.TheVariants.{BadField}
 use Rattle.protocol.specs.declared.ReadOp.TheVariants.{GetMetadata}
 use Rattle.frame.specs.declared.Ask.TheVariants.{Read}
 use Rattle.frame.specs.Frame.{type_at}

@@ -1,9 +1,9 @@
 use borrow.Author.Rules.{rules}
 use Rattle.staging.proofs.Refusals.{member-record, member-first, not-begun, is-begun}
-use Rattle.staging.proofs.open_refusal.Goals as goal
+use Rattle.staging.proofs.check_open.Goals as goal
 
-pub returns-then-a-ne-DONE : goal.returns-then-a-ne-DONE
-returns-then-a-ne-DONE c = search (rules, member-first)
+pub returns-in_err-check_member : goal.returns-in_err-check_member
+returns-in_err-check_member c = member-first _ _ _ c.check_member.ensures _ c.in_err-check_member.was _ c.from_residual.ensures.1
 
 pub load_member-x-requires : goal.load_member-x-requires
 load_member-x-requires c = search (rules, member-record)
