@@ -16,6 +16,7 @@ use Rattle.protocol.specs.Answers.{Answer, outcome_of}
 use Rattle.protocol.specs.declared.Refusal.TheVariants.{BadOpcode, BadField}
 use Rattle.protocol.specs.declared.ChangeOp.TheVariants.{SetParts}
 use Rattle.protocol.specs.Opcodes.{bit}
+use Rattle.member.specs.declared.Member.{Member}
 use Rattle.changes.specs.Changes.{member_after, change_of}
 use Rattle.card.specs.Layout.{setup_of, in_use_of, is_member, member_in, with_member, is_marked}
 use Rattle.card.specs.Sound.{is_sound}

@@ -9,12 +9,10 @@ use mathlib.Core.Bool.{Bool, true, false, not}
 use mathlib.Core.List.{List}
 use Prim.Native.Nat.{ℕ, ◌≤◌, ◌<◌}
 use native.Mathlib.Omega.{arith}
-use lib.Dec.{eqb}
 use lib.ListN.{length}
-use borrow.Author.Tests.{eqb-true, eq-eqb, ne_eqb, not-false, lt-ltb}
+use borrow.Author.Tests.{not-false, lt-ltb}
 use Rattle.theory.specs.Logic.{unless◌answer◌then◌}
 use Rattle.theory.proofs.Tests.{by_cases, never}
-use Rattle.theory.proofs.Ladder.{stop, pass}
 use Rattle.protocol.specs.declared.Refusal.TheVariants.{NoMember, Marked, NotLive}
 use Rattle.member.specs.declared.Member.{Member}
 use Rattle.card.specs.Layout.{card_header_size, card_size, setup_of, is_member, member_in, is_marked, HasRecord}
@@ -51,15 +49,17 @@ pub record Passed (s b u o : Bool) : Type 0 where
   pub unmarked : u ≡ false
   pub begun : o ≡ true
 
-open_is : (r : Result ⊤ RestoreError) (o : Bool) → is_ok (result_and r (unless o answer Err (Refused NotLive) then Ok tt)) ≡ true
-    → (is_ok r ≡ true) × (o ≡ true)
-unfolding unless◌answer◌then◌
+opened : Bool → Result ⊤ RestoreError
+opened o = unless o answer Err (Refused NotLive) then Ok tt
+
+open_is : (r : Result ⊤ RestoreError) (o : Bool) → is_ok (result_and r (opened o)) ≡ true → (is_ok r ≡ true) × (o ≡ true)
+unfolding opened unless◌answer◌then◌
 open_is (Ok x) true e = (refl, refl)
 open_is (Ok x) false e = never e
 open_is (Err a) o e = never e
 
 open-tests : (c : List ℕ) (m : ℕ) → is_ok (open_refusal c m) ≡ true → Passed (is_sound c) (is_member c m) (is_marked c m) (is_open c m)
-unfolding open_refusal
+unfolding open_refusal opened
 open-tests c m e =
     let p = open_is (member_refusal c m) (is_open c m) e in
     let t = member-tests c m p.0 in

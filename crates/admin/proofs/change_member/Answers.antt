@@ -1,4 +1,3 @@
-use Rattle.std.specs.Prelude.{Ok, Err}
 use borrow.Author.Rules.{rules}
 use Rattle.admin.proofs.OfSound.{header-there, record-there}
 use Rattle.admin.proofs.Arms.{change-refused, change-told}

@@ -9,14 +9,14 @@ unfolding begin_of
 returns-in_err-check_member c = member-refused _ _ _ c.check_member.ensures _ c.in_err-check_member.was _ c.from_residual.ensures.1 _
 
 pub load_member-x-requires : goal.load_member-x-requires
-load_member-x-requires c = search (rules, member-record)
+load_member-x-requires c = member-record _ _ _ c.check_member.ensures _ c.in_ok-check_member.was
 
 pub returns-then-held-ne0 : goal.returns-then-held-ne0
 unfolding begin_of
 returns-then-held-ne0 c = search (rules, member-passed, already-open)
 
 pub save_member-requires : goal.save_member-requires
-save_member-requires c = search (rules, member-record)
+save_member-requires c = member-record _ _ _ c.check_member.ensures _ c.in_ok-check_member.was
 
 pub returns : goal.returns
 unfolding begin_of

@@ -6,7 +6,7 @@ pub returns-in_err-check_member : goal.returns-in_err-check_member
 returns-in_err-check_member c = member-first _ _ _ c.check_member.ensures _ c.in_err-check_member.was _ c.from_residual.ensures.1
 
 pub load_member-x-requires : goal.load_member-x-requires
-load_member-x-requires c = search (rules, member-record)
+load_member-x-requires c = member-record _ _ _ c.check_member.ensures _ c.in_ok-check_member.was
 
 pub returns-then-held-eq0 : goal.returns-then-held-eq0
 returns-then-held-eq0 c = search (rules, not-begun)

@@ -1,4 +1,3 @@
-use Rattle.std.specs.Prelude.{Ok, Err}
 use borrow.Author.Rules.{rules}
 use Rattle.staging.specs.Staging.{finish_of}
 use Rattle.staging.proofs.Refusals.{open-refused, open-sound, open-member, open-record}
@@ -10,22 +9,26 @@ unfolding finish_of
 returns-in_err-check_open c = open-refused _ _ _ c.check_open.ensures _ c.in_err-check_open.was _ c.from_residual.ensures.1 _
 
 pub load_member-before-requires : goal.load_member-before-requires
-load_member-before-requires c = search (rules, open-record)
+load_member-before-requires c = open-record _ _ _ c.check_open.ensures _ c.in_ok-check_open.was
 
 pub overflow_sub-held : goal.overflow_sub-held
-overflow_sub-held c = search (rules, held-some)
+overflow_sub-held c = held-some _ _ _ c.check_open.ensures _ c.in_ok-check_open.was _ c.load_member-before.ensures
 
 pub set_held-requires : goal.set_held-requires
-set_held-requires c = (search (rules, open-sound), search (rules, open-member), search (rules, held-room))
+set_held-requires c = (open-sound _ _ _ c.check_open.ensures _ c.in_ok-check_open.was, open-member _ _ _ c.check_open.ensures _ c.in_ok-check_open.was, held-room _ _ _ c.check_open.ensures _ c.in_ok-check_open.was _ c.load_member-before.ensures)
 
 pub end-requires : goal.end-requires
-end-requires c = search (rules, open-record)
+end-requires c = open-record _ _ _ c.check_open.ensures _ c.in_ok-check_open.was
 
 pub end-requires-in-Err : goal.end-requires-in-Err
-end-requires-in-Err c = search (rules, open-record)
+end-requires-in-Err c = open-record _ _ _ c.check_open.ensures _ c.in_ok-check_open.was
 
 pub returns-in-Ok : goal.returns-in-Ok
-returns-in-Ok c = search (rules, finished-with)
+returns-in-Ok c =
+    finished-with _ _ _ c.check_open.ensures _ c.in_ok-check_open.was _ c.load_member-before.ensures
+    _ (search rules) _ c.set_held.ensures _ _ c.in-Ok.is c.end.ensures
 
 pub returns-in-Err : goal.returns-in-Err
-returns-in-Err c = search (rules, finished-refused)
+returns-in-Err c =
+    finished-refused _ _ _ c.check_open.ensures _ c.in_ok-check_open.was _ c.load_member-before.ensures
+    _ (search rules) _ c.set_held.ensures _ _ c.in-Err.is c.end-in-Err.ensures
