@@ -62,8 +62,7 @@ fn accepts(m: Member, list: &[u8]) -> bool
     ensures { result ≡ is_accepted (cause_of m.queues (features_in m) list.now) }
 {
     let values = m.values;
-    let cause = rules::check_list(m.queues, &values[0..FEATURES_SIZE], list);
-    rules::is_accepted(cause)
+    rules::check_list(m.queues, &values[0..FEATURES_SIZE], list).is_ok()
 }
 
 // Steps 8, 9 and 10 of parts set; all or nothing.

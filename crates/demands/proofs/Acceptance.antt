@@ -12,7 +12,7 @@ use Rattle.protocol.specs.declared.ObjectKind.TheVariants.{Get}
 use Rattle.protocol.specs.Opcodes.{bit}
 use Rattle.inventory.specs.Inventory.{values_size, parts_size}
 use Rattle.inventory.specs.Queue.{queues_allowed}
-use Rattle.rules.specs.declared.Cause.TheVariants.{Accepted}
+use Rattle.std.specs.Prelude.{Ok}
 use Rattle.rules.specs.Rules.{cause_of, is_accepted}
 use Rattle.capture.specs.Capture.{capture_of}
 use Rattle.capture.proofs.Sizes.{capture-length}
@@ -67,7 +67,7 @@ module _ (c : List ℕ) (m i : ℕ) (d : List ℕ) (k j : ℕ) (x : Acceptable c
   unfolding list
   list-long = capture-length q v few-queues long-source
 
-  list-accepted : cause_of q (bytes_at 0 16 w) list ≡ Accepted
+  list-accepted : cause_of q (bytes_at 0 16 w) list ≡ Ok tt
   unfolding list
   list-accepted = capture-accepted q v few-queues long-source allowed-source w features-same
 

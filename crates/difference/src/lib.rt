@@ -101,7 +101,7 @@ fn part_at<'a>(full: &'a [u8], later: &'a [u8], found: Lookup) -> &'a [u8]
 fn is_good(queues: u8, features: &[u8], list: &[u8]) -> bool
     ensures { result ≡ is_accepted (cause_of queues features.now list.now) }
 {
-    rules::is_accepted(rules::check_list(queues, features, list))
+    rules::check_list(queues, features, list).is_ok()
 }
 
 // Whether a list has the part of a row, if a member with so many queues has it.

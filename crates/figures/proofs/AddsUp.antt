@@ -4,8 +4,9 @@ use Prim.Native.Nat.{ℕ, ◌+◌}
 use native.Mathlib.Omega.{arith}
 use lib.Dec.{eqb}
 use Rattle.theory.specs.Logic.{indicator}
+use Rattle.std.specs.Prelude.{Result, Ok, Err}
 use Rattle.rules.specs.declared.Cause.{Cause}
-use Rattle.rules.specs.declared.Cause.TheVariants.{Accepted, Cut, Unknown, Length, Size, Features, Twice}
+use Rattle.rules.specs.declared.Cause.TheVariants.{Cut, Unknown, Length, Size, Features, Twice}
 use Rattle.rules.specs.Rules.{cause_of}
 use Rattle.tally.specs.Rows.{cause_line, rows}
 use Rattle.stream.specs.Stream.{whole, torn, capture, long}
@@ -13,20 +14,20 @@ use Rattle.stream.specs.Totals.{total, totals}
 use Rattle.figures.specs.Claims.{sum, AddsUp}
 
 -- whether a capture is counted in the line i
-in-line : Cause → ℕ → ℕ
+in-line : Result (Unit {0}) Cause → ℕ → ℕ
 in-line a i = indicator (eqb (cause_line a) i)
 
 -- it is in one of the eight
-one : (a : Cause)
+one : (a : Result (Unit {0}) Cause)
     → in-line a 1 + (in-line a 2 + (in-line a 3 + (in-line a 4 + (in-line a 5 + (in-line a 6 + (in-line a 7 + in-line a 8)))))) ≡ 1
 unfolding indicator in-line
-one Accepted = refl
-one Cut = refl
-one Unknown = refl
-one Length = refl
-one Size = refl
-one Features = refl
-one Twice = refl
+one (Ok u) = refl
+one (Err Cut) = refl
+one (Err Unknown) = refl
+one (Err Length) = refl
+one (Err Size) = refl
+one (Err Features) = refl
+one (Err Twice) = refl
 
 pub adds-up : AddsUp
 unfolding totals total rows sum indicator in-line

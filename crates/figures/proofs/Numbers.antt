@@ -10,8 +10,9 @@ use Rattle.theory.specs.Logic.{when◌then◌else◌, ◌and◌, indicator}
 use Rattle.theory.proofs.Tests.{by_cases, if-same}
 use Rattle.parts.specs.declared.ListForm.TheVariants.{Parts}
 use Rattle.parts.specs.List.{parts_of}
+use Rattle.std.specs.Prelude.{Result, Ok, Err}
 use Rattle.rules.specs.declared.Cause.{Cause}
-use Rattle.rules.specs.declared.Cause.TheVariants.{Accepted, Cut, Unknown, Length, Size, Features, Twice}
+use Rattle.rules.specs.declared.Cause.TheVariants.{Cut, Unknown, Length, Size, Features, Twice}
 use Rattle.rules.specs.Rules.{cause_of}
 use Rattle.tally.specs.Rows.{Row, row, rows, cause_line, long_line, parts_of_type}
 use Rattle.stream.specs.Totals.{total, totals}
@@ -22,14 +23,14 @@ cons : {x y : ℕ} {xs ys : List ℕ} → x ≡ y → xs ≡ ys → ◌≡◌ {A
 cons e f = rw (e, f)
 
 -- no cause has the line of the long ones
-not-long : (k : Cause) → (eqb (cause_line k) long_line ≡ false) × (eqb long_line (cause_line k) ≡ false)
-not-long Accepted = (refl, refl)
-not-long Cut = (refl, refl)
-not-long Unknown = (refl, refl)
-not-long Length = (refl, refl)
-not-long Size = (refl, refl)
-not-long Features = (refl, refl)
-not-long Twice = (refl, refl)
+not-long : (k : Result (Unit {0}) Cause) → (eqb (cause_line k) long_line ≡ false) × (eqb long_line (cause_line k) ≡ false)
+not-long (Ok u) = (refl, refl)
+not-long (Err Cut) = (refl, refl)
+not-long (Err Unknown) = (refl, refl)
+not-long (Err Length) = (refl, refl)
+not-long (Err Size) = (refl, refl)
+not-long (Err Features) = (refl, refl)
+not-long (Err Twice) = (refl, refl)
 
 length-sum : (cs : List (List ℕ)) → sum_of (λ c. 1) cs ≡ length cs
 unfolding sum_of
@@ -54,7 +55,7 @@ module _ (q : ℕ) (features : List ℕ) where
     abbrev line_of : ℕ
     line_of = cause_line (cause_of q features c)
 
-    one-under : (k : Cause)
+    one-under : (k : Result (Unit {0}) Cause)
         → (when is_long c then indicator (eqb long_line (cause_line k)) else indicator (eqb line_of (cause_line k)))
         ≡ indicator (is_under q features k c)
     unfolding is_under when◌then◌else◌ indicator ◌and◌
@@ -65,8 +66,8 @@ module _ (q : ℕ) (features : List ℕ) where
     one-long = by_cases (is_long c) (λ e. rw e) (λ e. rw (e, (not-long (cause_of q features c)).0))
 
     if-accepted : (n : ℕ)
-        → (when is_long c then 0 else when eqb line_of (cause_line Accepted) then n else 0)
-        ≡ (when is_under q features Accepted c then n else 0)
+        → (when is_long c then 0 else when eqb line_of (cause_line (Ok tt)) then n else 0)
+        ≡ (when is_under q features (Ok tt) c then n else 0)
     unfolding is_under when◌then◌else◌ ◌and◌
     if-accepted n = by_cases (is_long c) (λ e. rw e) (λ e. rw e)
 
@@ -81,30 +82,30 @@ module _ (q : ℕ) (features : List ℕ) where
     unfolding count_of indicator
     long-are name = sum_is (row name (λ queues i c. indicator (eqb i long_line))) _ one-long cs ended
 
-    causes-are : (name : List ℕ) (k : Cause)
+    causes-are : (name : List ℕ) (k : Result (Unit {0}) Cause)
         → total_of name (λ queues i c. indicator (eqb i (cause_line k))) ≡ count_of (is_under q features k) cs
     unfolding count_of
     causes-are name k =
         sum_is (row name (λ queues i c. indicator (eqb i (cause_line k)))) _ (λ c. one-under c k) cs ended
 
     accepted-are : (name : List ℕ) (f : ℕ → List ℕ → ℕ)
-        → total_of name (λ queues i c. when eqb i (cause_line Accepted) then f queues c else 0) ≡ accepted_sum q features (f q) cs
+        → total_of name (λ queues i c. when eqb i (cause_line (Ok tt)) then f queues c else 0) ≡ accepted_sum q features (f q) cs
     unfolding accepted_sum when◌then◌else◌
     accepted-are name f =
-        sum_is (row name (λ queues i c. when eqb i (cause_line Accepted) then f queues c else 0)) _
+        sum_is (row name (λ queues i c. when eqb i (cause_line (Ok tt)) then f queues c else 0)) _
         (λ c. if-accepted c (f q c)) cs ended
 
     pub numbers-are : totals q features (captures_of cs ended) ≡ numbers q features cs
     unfolding totals rows numbers
     numbers-are =
         cons (read-are _)
-        (cons (causes-are _ Accepted)
-        (cons (causes-are _ Cut)
-        (cons (causes-are _ Unknown)
-        (cons (causes-are _ Length)
-        (cons (causes-are _ Size)
-        (cons (causes-are _ Features)
-        (cons (causes-are _ Twice)
+        (cons (causes-are _ (Ok tt))
+        (cons (causes-are _ (Err Cut))
+        (cons (causes-are _ (Err Unknown))
+        (cons (causes-are _ (Err Length))
+        (cons (causes-are _ (Err Size))
+        (cons (causes-are _ (Err Features))
+        (cons (causes-are _ (Err Twice))
         (cons (long-are _)
         (cons (accepted-are _ (λ queues c. parts_of_type queues 0x100 (parts_of Parts c)))
         (cons (accepted-are _ (λ queues c. parts_of_type queues 0x101 (parts_of Parts c)))

@@ -1,7 +1,7 @@
 -- WHAT IS CLAIMED of a sheet and the captures that it counts, each a plain list of bytes. The numbers, names and words stand
 -- here once more, apart from the definitions that the contracts cite. ../proofs/EncodingExample.antt has streams that meet the
 -- hypotheses. Assumes nothing.
-use Rattle.std.specs.Prelude.{◌≡◌, Ok, Bool, true, false, not, List, [], ◌∷◌, ◌++◌, ℕ, ◌+◌, ◌≤◌, ◌<◌, eqb, ltb, length, get_or}
+use Rattle.std.specs.Prelude.{◌≡◌, Bool, true, false, not, List, [], ◌∷◌, ◌++◌, ℕ, ◌+◌, ◌≤◌, ◌<◌, eqb, ltb, length, get_or, Result, Ok, Err}
 use Rattle.theory.specs.Logic.{when◌then◌else◌, ◌and◌, indicator}
 use Rattle.wire.specs.Le.{bytes, number}
 use Rattle.decimal.specs.Decimal.{decimal}
@@ -10,7 +10,7 @@ use Rattle.setups.specs.Reading.{read_version1}
 use Rattle.parts.specs.declared.ListForm.TheVariants.{Parts}
 use Rattle.parts.specs.List.{parts_of}
 use Rattle.rules.specs.declared.Cause.{Cause}
-use Rattle.rules.specs.declared.Cause.TheVariants.{Accepted, Cut, Unknown, Length, Size, Features, Twice}
+use Rattle.rules.specs.declared.Cause.TheVariants.{Cut, Unknown, Length, Size, Features, Twice}
 use Rattle.rules.specs.Rules.{cause_of}
 use Rattle.tally.specs.Rows.{cause_line, parts_of_type}
 use Rattle.figures.specs.Sheet.{first_count, sheet_of}
@@ -52,24 +52,24 @@ unfoldable pub is_long : List ℕ → Bool
 is_long c = ltb 4064 (length c)
 
 -- it is not long, and this is the first cause that occurs anywhere in it
-unfoldable pub is_under : ℕ → List ℕ → Cause → List ℕ → Bool
+unfoldable pub is_under : ℕ → List ℕ → Result (Unit {0}) Cause → List ℕ → Bool
 is_under queues features k c = not (is_long c) and eqb (cause_line (cause_of queues features c)) (cause_line k)
 
 -- over accepted captures
 unfoldable pub accepted_sum : ℕ → List ℕ → (List ℕ → ℕ) → List (List ℕ) → ℕ
-accepted_sum queues features f cs = sum_of (λ c. when is_under queues features Accepted c then f c else 0) cs
+accepted_sum queues features f cs = sum_of (λ c. when is_under queues features (Ok tt) c then f c else 0) cs
 
 -- line by line
 unfoldable pub numbers : ℕ → List ℕ → List (List ℕ) → List ℕ
 numbers queues features cs =
     length cs
-    ∷ count_of (is_under queues features Accepted) cs
-    ∷ count_of (is_under queues features Cut) cs
-    ∷ count_of (is_under queues features Unknown) cs
-    ∷ count_of (is_under queues features Length) cs
-    ∷ count_of (is_under queues features Size) cs
-    ∷ count_of (is_under queues features Features) cs
-    ∷ count_of (is_under queues features Twice) cs
+    ∷ count_of (is_under queues features (Ok tt)) cs
+    ∷ count_of (is_under queues features (Err Cut)) cs
+    ∷ count_of (is_under queues features (Err Unknown)) cs
+    ∷ count_of (is_under queues features (Err Length)) cs
+    ∷ count_of (is_under queues features (Err Size)) cs
+    ∷ count_of (is_under queues features (Err Features)) cs
+    ∷ count_of (is_under queues features (Err Twice)) cs
     ∷ count_of is_long cs
     ∷ accepted_sum queues features (λ c. parts_of_type queues 0x100 (parts_of Parts c)) cs
     ∷ accepted_sum queues features (λ c. parts_of_type queues 0x101 (parts_of Parts c)) cs

@@ -21,7 +21,7 @@ use Rattle.inventory.proofs.Rules.{features-row}
 use Rattle.inventory.proofs.Find.{own-place, rows-distinct}
 use Rattle.parts.specs.declared.ListForm.TheVariants.{Parts}
 use Rattle.parts.specs.List.{Part, PartList, parts_of, whole, among}
-use Rattle.rules.specs.declared.Cause.TheVariants.{Accepted}
+use Rattle.std.specs.Prelude.{Ok}
 use Rattle.rules.specs.Rules.{known, known_or_skipped, length_right, size_right, features_same, every, repeated, cause_in, cause_of, is_accepted}
 use Rattle.rules.proofs.Accepted.{accepts}
 use Rattle.values.specs.Apply.{applied}
@@ -101,7 +101,7 @@ module _ (q : ℕ) (v : List ℕ) (few : q < 5) (long : length v ≡ values_size
 
   -- ---- the capture is accepted ----
 
-  pub accepted : queues_allowed q v ≡ true → (w : List ℕ) → bytes_at 0 features_size v ≡ bytes_at 0 features_size w → cause_of q (bytes_at 0 features_size w) (capture_of q v) ≡ Accepted
+  pub accepted : queues_allowed q v ≡ true → (w : List ℕ) → bytes_at 0 features_size v ≡ bytes_at 0 features_size w → cause_of q (bytes_at 0 features_size w) (capture_of q v) ≡ Ok tt
   unfolding cause_in unless◌answer◌then◌
   accepted a w f =
       rw (

@@ -3,6 +3,7 @@ use mathlib.Core.Path.{◌≡◌}
 use mathlib.Core.Bool.{true, false, not}
 use mathlib.Core.List.{List}
 use Prim.Native.Nat.{ℕ}
+use Rattle.std.specs.Prelude.{Result}
 use borrow.Author.Tests.{not-true}
 use Rattle.theory.proofs.Tests.{never, unless-passed}
 use Rattle.parts.specs.List.{PartList, whole}
@@ -15,7 +16,7 @@ pub record Accepts (q : ℕ) (features : List ℕ) (ps : PartList) : Type 0 wher
   pub valued : every (features_same features) ps ≡ true
   pub once : repeated q ps ≡ false
 
-abbrev Passes : Cause → Type 0
+abbrev Passes : Result (Unit {0}) Cause → Type 0
 Passes c = is_accepted c ≡ true
 
 pub accepts : (q : ℕ) (features : List ℕ) (ps : PartList) → is_accepted (cause_in q features ps) ≡ true → Accepts q features ps

@@ -1,4 +1,4 @@
 pub mod Seen
-pub mod Ranks
+pub mod PartCauses
 pub mod Causes
 pub mod Accepted

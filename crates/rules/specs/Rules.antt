@@ -1,5 +1,5 @@
 -- Step 10, a bad list: one given to be set, SPEC 5.5, and one asked for, SPEC 5.6. Assumes nothing.
-use Rattle.std.specs.Prelude.{Bool, true, false, not, List, ℕ, ◌%◌, ltb, eqb, length, is_some}
+use Rattle.std.specs.Prelude.{Bool, true, false, not, List, ℕ, ◌%◌, ltb, eqb, length, is_some, Result, Ok, Err}
 use Rattle.theory.specs.Logic.{unless◌answer◌then◌, ◌and◌, ◌or◌}
 use Rattle.theory.specs.Bytes.{same}
 use Rattle.inventory.specs.Inventory.{row_at, device_features, place_of, on_place}
@@ -7,7 +7,7 @@ use Rattle.inventory.specs.Queue.{value_allowed}
 use Rattle.parts.specs.declared.ListForm.TheVariants.{Parts, Headers}
 use Rattle.parts.specs.List.{Part, PartList, end, cut, part, parts_of, whole, among}
 use Rattle.rules.specs.declared.Cause.{Cause}
-use Rattle.rules.specs.declared.Cause.TheVariants.{Accepted, Cut, Unknown, Length, Size, Features, Twice}
+use Rattle.rules.specs.declared.Cause.TheVariants.{Cut, Unknown, Length, Size, Features, Twice}
 
 -- ---- rules of one part ----
 
@@ -61,27 +61,22 @@ repeated queues (part p ps) =
     or repeated queues ps
 
 -- a list given to be set: the first cause, in the order of SPEC 5.5, that occurs anywhere in it
-unfoldable pub cause_in : ℕ → List ℕ → PartList → Cause
+unfoldable pub cause_in : ℕ → List ℕ → PartList → Result (Unit {0}) Cause
 cause_in queues features ps =
-    unless whole ps answer Cut then
-    unless every (known_or_skipped queues) ps answer Unknown then
-    unless every (length_right queues) ps answer Length then
-    unless every (size_right queues) ps answer Size then
-    unless every (features_same features) ps answer Features then
-    unless not (repeated queues ps) answer Twice then
-    Accepted
+    unless whole ps answer Err Cut then
+    unless every (known_or_skipped queues) ps answer Err Unknown then
+    unless every (length_right queues) ps answer Err Length then
+    unless every (size_right queues) ps answer Err Size then
+    unless every (features_same features) ps answer Err Features then
+    unless not (repeated queues ps) answer Err Twice then
+    Ok tt
 
-abbrev pub cause_of : ℕ → List ℕ → List ℕ → Cause
+abbrev pub cause_of : ℕ → List ℕ → List ℕ → Result (Unit {0}) Cause
 cause_of queues features l = cause_in queues features (parts_of Parts l)
 
-abbrev pub is_accepted : Cause → Bool
-is_accepted Accepted = true
-is_accepted Cut = false
-is_accepted Unknown = false
-is_accepted Length = false
-is_accepted Size = false
-is_accepted Features = false
-is_accepted Twice = false
+abbrev pub is_accepted : Result (Unit {0}) Cause → Bool
+is_accepted (Ok u) = true
+is_accepted (Err c) = false
 
 -- a list of headers asked for: whole headers, each of a known part, none twice
 unfoldable pub asked_in : ℕ → PartList → Bool

@@ -6,8 +6,8 @@ ghost use Rattle.theory.specs.Logic.{◌or◌};
 ghost use Rattle.theory.specs.Bytes.{same};
 ghost use Rattle.inventory.specs.Inventory.{device_features};
 ghost use Rattle.parts.specs.List.{parts_of};
-ghost use Rattle.rules.specs.Rules.{known, asks_known, every, repeated, cause_of, is_accepted, asked_of};
-ghost use Rattle.rules.specs.Ranks.{absent_rank, row_rank, least, cause_at};
+ghost use Rattle.rules.specs.Rules.{known, asks_known, every, repeated, cause_of, asked_of};
+ghost use Rattle.rules.specs.PartCauses.{absent_checked, row_checked, first_of, decided};
 
 use inventory::{DEVICE_FEATURES, ROWS, SIZES};
 use parts::ListForm;
@@ -15,24 +15,9 @@ use parts::ListForm;
 // A part of this type or above is never skipped.
 const NEVER_SKIPPED: u16 = 0x600;
 
-// The causes that a part can give, ranked in the order of SPEC 5.5: the last is a row seen before, so that its part may be
-// named twice. Then the rank of a part that gives none.
-const UNKNOWN: u8 = 0;
-
-const LENGTH: u8 = 1;
-
-const SIZE: u8 = 2;
-
-const FEATURES: u8 = 3;
-
-const AGAIN: u8 = 4;
-
-const NO_CAUSE: u8 = 5;
-
-// Why a list given to be set is refused: the first cause, in the order of SPEC 5.5, that occurs anywhere in it, or none.
-#[derive(Clone, Copy)]
+// Why a list given to be set is refused, in the order of SPEC 5.5.
+#[derive(Clone, Copy, PartialEq, Eq, PartialOrd, Ord)]
 pub enum Cause {
-    Accepted,
     Cut,
     Unknown,
     Length,
@@ -51,18 +36,18 @@ pub fn is_known(queues: u8, t: u16, selector: u64) -> bool
     inventory::place_of(queues, t, selector).is_some()
 }
 
-// The rank of a part that the member has not got: it is skipped where it has the optional bit, bit 0 of the flags, and its
-// type is low enough.
-fn absent_rank(t: u16, flags: u8) -> u8
-    ensures { result ≡ absent_rank t flags }
+// What is wrong with a part that the member has not got: nothing where it has the optional bit, bit 0 of the flags, and its type
+// is low enough, so that it is skipped.
+fn check_absent(t: u16, flags: u8) -> Result<(), Cause>
+    ensures { result ≡ absent_checked t flags }
 {
     if flags % 2 != 1 {
-        return UNKNOWN;
+        return Err(Cause::Unknown);
     }
     if t < NEVER_SKIPPED {
-        return NO_CAUSE;
+        return Ok(());
     }
-    UNKNOWN
+    Err(Cause::Unknown)
 }
 
 // Whether a value is the features, where the part is the device features.
@@ -75,23 +60,24 @@ fn is_features(t: u16, value: &[u8], features: &[u8]) -> bool
     wire::equal(value, features)
 }
 
-// The rank of a part that the member has got, with the size of its row, and whether its row has been seen before.
-fn row_rank(size: u8, seen: bool, t: u16, value: &[u8], features: &[u8]) -> u8
-    ensures { result ≡ row_rank size seen t value.now features.now }
+// What is wrong with a part that the member has got, with the size of its row. Where its row has been seen before, it may be named
+// twice.
+fn check_row(size: u8, seen: bool, t: u16, value: &[u8], features: &[u8]) -> Result<(), Cause>
+    ensures { result ≡ row_checked size seen t value.now features.now }
 {
     if value.len() != size as usize {
-        return LENGTH;
+        return Err(Cause::Length);
     }
     if !inventory::is_value_allowed(t, value) {
-        return SIZE;
+        return Err(Cause::Size);
     }
     if !is_features(t, value, features) {
-        return FEATURES;
+        return Err(Cause::Features);
     }
     if seen {
-        return AGAIN;
+        return Err(Cause::Twice);
     }
-    NO_CAUSE
+    Ok(())
 }
 
 // Whether every header asked for is of a part that the member has got.
@@ -143,70 +129,57 @@ fn repeats(form: ListForm, list: &[u8], queues: u8) -> bool
     true
 }
 
-// The lesser of two ranks.
-fn least(a: u8, b: u8) -> u8
-    ensures { result ≡ least a b }
+// The first of two causes, if there is one.
+fn first_of(a: Result<(), Cause>, b: Result<(), Cause>) -> Result<(), Cause>
+    ensures { result ≡ first_of a b }
 {
-    if a <= b {
+    let Err(x) = a else {
+        return b;
+    };
+    let Err(y) = b else {
         return a;
-    }
-    b
+    };
+    Err(x.min(y))
 }
 
-// The cause of a list whose parts have this least rank. The rows seen spare the nested loops where no row was seen again.
-fn cause_at(rank: u8, list: &[u8], queues: u8) -> Cause
-    ensures { result ≡ cause_at rank (repeated queues (parts_of ListForm.Parts list.now)) }
+// Why a list is refused, by the first cause of its parts. The nested loops tell a part that is named twice, and are spared where
+// no row was seen again.
+fn decide(first: Result<(), Cause>, list: &[u8], queues: u8) -> Result<(), Cause>
+    ensures { result ≡ decided first (repeated queues (parts_of ListForm.Parts list.now)) }
 {
-    match rank {
-        UNKNOWN => Cause::Unknown,
-        LENGTH => Cause::Length,
-        SIZE => Cause::Size,
-        FEATURES => Cause::Features,
-        AGAIN => {
-            if repeats(ListForm::Parts, list, queues) {
-                return Cause::Twice;
-            }
-            Cause::Accepted
-        }
-        _ => Cause::Accepted,
+    let Err(cause) = first else {
+        return Ok(());
+    };
+    let Cause::Twice = cause else {
+        return first;
+    };
+    if repeats(ListForm::Parts, list, queues) {
+        return first;
     }
+    Ok(())
 }
 
-// Why a list given to be set is refused, if it is. One walk, which keeps the least rank of a part and the rows seen.
-pub fn check_list(queues: u8, features: &[u8], list: &[u8]) -> Cause
+// Why a list given to be set is refused, if it is: the first cause that occurs anywhere in it. One walk, which keeps the first
+// cause of a part and the rows seen.
+pub fn check_list(queues: u8, features: &[u8], list: &[u8]) -> Result<(), Cause>
     ensures { result ≡ cause_of queues features.now list.now }
 {
     let sizes = SIZES;
     let mut seen = [false; ROWS];
-    let mut rank = NO_CAUSE;
+    let mut first = Ok(());
     for part in parts::read(ListForm::Parts, list) {
         let Ok(part) = part else {
-            return Cause::Cut;
+            return Err(Cause::Cut);
         };
         let t = part.part_type;
         let Some(i) = inventory::place_of(queues, t, part.selector) else {
-            rank = least(rank, absent_rank(t, part.flags));
+            first = first_of(first, check_absent(t, part.flags));
             continue;
         };
-        rank = least(rank, row_rank(sizes[i], seen[i], t, part.value, features));
+        first = first_of(first, check_row(sizes[i], seen[i], t, part.value, features));
         seen[i] = true;
     }
-    cause_at(rank, list, queues)
-}
-
-// Whether there is no cause to refuse a list.
-pub fn is_accepted(c: Cause) -> bool
-    ensures { result ≡ is_accepted c }
-{
-    match c {
-        Cause::Accepted => true,
-        Cause::Cut => false,
-        Cause::Unknown => false,
-        Cause::Length => false,
-        Cause::Size => false,
-        Cause::Features => false,
-        Cause::Twice => false,
-    }
+    decide(first, list, queues)
 }
 
 // Whether a list of headers can be asked for.

@@ -12,8 +12,9 @@ use Rattle.theory.specs.Logic.{when◌then◌else◌, indicator}
 use Rattle.theory.proofs.Tests.{by_cases, indicator-le}
 use Rattle.parts.specs.declared.ListForm.TheVariants.{Parts}
 use Rattle.parts.specs.List.{parts_of}
+use Rattle.std.specs.Prelude.{Result, Ok, Err}
 use Rattle.rules.specs.declared.Cause.{Cause}
-use Rattle.rules.specs.declared.Cause.TheVariants.{Accepted, Cut, Unknown, Length, Size, Features, Twice}
+use Rattle.rules.specs.declared.Cause.TheVariants.{Cut, Unknown, Length, Size, Features, Twice}
 use Rattle.rules.specs.Rules.{cause_of}
 use Rattle.tally.specs.Counts.{◌plus◌, Below}
 use Rattle.tally.specs.Rows.{cause_line, long_line, longest, parts_of_type, rows, adds_in, adds_of, adds_long}
@@ -89,27 +90,27 @@ module _ (a b : List ℕ) (q : ℕ) (c : List ℕ) (v : Below (2 ^ 62) a) (short
 
 -- ---- any capture ----
 
-refused-adds : (q : ℕ) (k : Cause) (c : List ℕ) → (cause_line k ≡ 1 → ⊥) → capture_adds (cause_line k) ≡ adds_in q (cause_line k) c
+refused-adds : (q : ℕ) (k : Result (Unit {0}) Cause) (c : List ℕ) → (cause_line k ≡ 1 → ⊥) → capture_adds (cause_line k) ≡ adds_in q (cause_line k) c
 unfolding capture_adds in_line adds_in rows ◌plus◌ indicator when◌then◌else◌
-refused-adds q Accepted c h = absurd (h refl)
-refused-adds q Cut c h = refl
-refused-adds q Unknown c h = refl
-refused-adds q Length c h = refl
-refused-adds q Size c h = refl
-refused-adds q Features c h = refl
-refused-adds q Twice c h = refl
+refused-adds q (Ok u) c h = absurd (h refl)
+refused-adds q (Err Cut) c h = refl
+refused-adds q (Err Unknown) c h = refl
+refused-adds q (Err Length) c h = refl
+refused-adds q (Err Size) c h = refl
+refused-adds q (Err Features) c h = refl
+refused-adds q (Err Twice) c h = refl
 
-cause-line-low : (k : Cause) → cause_line k ≤ long_line
-cause-line-low Accepted = omega arith
-cause-line-low Cut = omega arith
-cause-line-low Unknown = omega arith
-cause-line-low Length = omega arith
-cause-line-low Size = omega arith
-cause-line-low Features = omega arith
-cause-line-low Twice = omega arith
+cause-line-low : (k : Result (Unit {0}) Cause) → cause_line k ≤ long_line
+cause-line-low (Ok u) = omega arith
+cause-line-low (Err Cut) = omega arith
+cause-line-low (Err Unknown) = omega arith
+cause-line-low (Err Length) = omega arith
+cause-line-low (Err Size) = omega arith
+cause-line-low (Err Features) = omega arith
+cause-line-low (Err Twice) = omega arith
 
 -- k is what check_list answered, and line its line
-module _ (a : List ℕ) (q : ℕ) (features c : List ℕ) (k : Cause) (line : ℕ) (told : k ≡ cause_of q features c) (e : line ≡ cause_line k) where
+module _ (a : List ℕ) (q : ℕ) (features c : List ℕ) (k : Result (Unit {0}) Cause) (line : ℕ) (told : k ≡ cause_of q features c) (e : line ≡ cause_line k) where
   pub line_low : line ≤ long_line
   line_low = rw e (cause-line-low k)
 

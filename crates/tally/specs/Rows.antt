@@ -1,22 +1,22 @@
 -- The numbers of the sheet, and what a capture adds to each: 02, request 11. Assumes nothing.
-use Rattle.std.specs.Prelude.{List, [], ◌∷◌, map, ℕ, ◌+◌, eqb, length}
+use Rattle.std.specs.Prelude.{List, [], ◌∷◌, map, ℕ, ◌+◌, eqb, length, Result, Ok, Err}
 use Rattle.theory.specs.Logic.{when◌then◌else◌, ◌and◌, indicator}
 use Rattle.inventory.specs.Inventory.{device_features, driver_features, pci_common, device_status, queue, queue_notify}
 use Rattle.parts.specs.declared.ListForm.TheVariants.{Parts}
 use Rattle.parts.specs.List.{PartList, end, cut, part, parts_of, longest_list}
 use Rattle.rules.specs.declared.Cause.{Cause}
-use Rattle.rules.specs.declared.Cause.TheVariants.{Accepted, Cut, Unknown, Length, Size, Features, Twice}
+use Rattle.rules.specs.declared.Cause.TheVariants.{Cut, Unknown, Length, Size, Features, Twice}
 use Rattle.rules.specs.Rules.{known, cause_of}
 
 -- Each capture is counted in one of the lines 1 to 8, besides `read`: in that of the first cause that occurs anywhere in it
-abbrev pub cause_line : Cause → ℕ
-cause_line Accepted = 1
-cause_line Cut = 2
-cause_line Unknown = 3
-cause_line Length = 4
-cause_line Size = 5
-cause_line Features = 6
-cause_line Twice = 7
+abbrev pub cause_line : Result (Unit {0}) Cause → ℕ
+cause_line (Ok u) = 1
+cause_line (Err Cut) = 2
+cause_line (Err Unknown) = 3
+cause_line (Err Length) = 4
+cause_line (Err Size) = 5
+cause_line (Err Features) = 6
+cause_line (Err Twice) = 7
 
 -- or, where it is over 4,064 bytes, the longest list of a request, in a line of its own
 abbrev pub long_line : ℕ
@@ -46,7 +46,7 @@ captures i queues k c = indicator (eqb k i)
 
 -- over accepted captures: their parts of a type, and their bytes without the lengths before them
 abbrev over_accepted : ℕ → ℕ → ℕ
-over_accepted k n = when eqb k (cause_line Accepted) then n else 0
+over_accepted k n = when eqb k (cause_line (Ok tt)) then n else 0
 
 abbrev parts : ℕ → ℕ → ℕ → List ℕ → ℕ
 parts t queues k c = over_accepted k (parts_of_type queues t (parts_of Parts c))

@@ -28,12 +28,14 @@ const FIRST_TYPE: usize = 9;
 
 const BYTES: usize = 15;
 
-// The line that counts captures of a cause.
-fn cause_line(cause: Cause) -> usize
-    ensures { result ≡ cause_line cause }
+// The line that counts captures of a cause, or accepted ones.
+fn cause_line(checked: Result<(), Cause>) -> usize
+    ensures { result ≡ cause_line checked }
 {
+    let Err(cause) = checked else {
+        return ACCEPTED;
+    };
     match cause {
-        Cause::Accepted => ACCEPTED,
         Cause::Cut => 2,
         Cause::Unknown => 3,
         Cause::Length => 4,

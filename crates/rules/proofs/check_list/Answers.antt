@@ -16,9 +16,9 @@ returns-in_default c = cause-cut _ _ _ _ _ c.loop-part.invariant (cut_given c.in
 pub loop-part-preserved-in_default-place_of : goal.loop-part-preserved-in_default-place_of
 loop-part-preserved-in_default-place_of c =
     let n = selector_given c.in-Some.ensures.steps c.in-Ok.is in
-    rw c.least-rank.ensures
+    rw c.first_of-first.ensures
     (cause-absent _ _ _ _ _ c.loop-part.invariant _ _ _ _ (part_given c.in-Some.ensures.steps c.in-Ok.is) _
-    n.0 n.1 (sym c.in_default-place_of.ensures) c.absent_rank.ensures)
+    n.0 n.1 (sym c.in_default-place_of.ensures) c.check_absent.ensures)
 
 pub bounds-sizes-i : goal.bounds-sizes-i
 bounds-sizes-i c = search (rules, row_in)
@@ -32,9 +32,9 @@ bounds-seen-i-in-loop-part c = search (rules, row_in)
 pub loop-part-preserved : goal.loop-part-preserved
 unfolding rows
 loop-part-preserved c =
-    rw c.least-rank-in-loop-part.ensures
+    rw c.first_of-first-in-loop-part.ensures
     (cause-row _ _ _ _ _ c.loop-part.invariant _ _ _ _ (part_given c.in-Some.ensures.steps c.in-Ok.is) _
-    c.in-Some-place_of.i (sym c.in-Some-place_of.ensures) c.row_rank.ensures)
+    c.in-Some-place_of.i (sym c.in-Some-place_of.ensures) c.check_row.ensures)
 
 pub returns : goal.returns
-returns c = c.cause_at.ensures ∙ cause-end _ _ _ _ _ c.loop-part.invariant c.in-None.ensures.steps.first.0
+returns c = c.decide.ensures ∙ cause-end _ _ _ _ _ c.loop-part.invariant c.in-None.ensures.steps.first.0

@@ -1,4 +1,4 @@
--- The loop keeps that the parts that are left decide the cause, with the least rank and the rows seen so far.
+-- The loop keeps that the parts that are left decide the cause, with the first cause and the rows seen so far.
 use Rattle.std.proofs.Common.{◌≡◌}
 use Rattle.parts.specs.declared.ListForm.TheVariants.{Parts}
 use Rattle.parts.specs.List.{parts_of}
@@ -9,4 +9,4 @@ use Rattle.rules.proofs.check_list.Given as goal
 
 abbrev pub invariant-loop-part : goal.invariant-loop-part
 invariant-loop-part l = cause_of l.queues l.features l.list
-    ≡ cause_left l.queues l.features (repeated l.queues (parts_of Parts l.list)) l.rank l.seen (left l.part-iterator)
+    ≡ cause_left l.queues l.features (repeated l.queues (parts_of Parts l.list)) l.first l.seen (left l.part-iterator)
