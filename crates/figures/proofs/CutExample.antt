@@ -59,7 +59,7 @@ chunk4 = 0 ∷ 0 ∷ 0 ∷ 1 ∷ 0 ∷ 0 ∷ 0 ∷ 15 ∷ []
 
 took-1 : Took (waiting 0) buffer chunk1 (waiting 5) (put 0 chunk1 buffer)
 took-1 =
-    setup-more (waiting 0) buffer chunk1 (however-cut.starts buffer refl) refl (put 0 chunk1 buffer) (waiting 5) refl refl
+    setup-more 0 buffer chunk1 (however-cut.starts buffer refl) (put 0 chunk1 buffer) (waiting 5) refl refl
     (omega arith)
 
 abbrev setup : Setup
@@ -108,7 +108,7 @@ half_length h =
 took-2 : Took (waiting 5) (put 0 chunk1 buffer) chunk2 (taking p3) buffer3
 unfolding every_model
 took-2 =
-    setup-whole (waiting 5) (put 0 chunk1 buffer) chunk2 took-1.ready refl (omega arith) buffer2 refl (taking p3) buffer3
+    setup-whole 5 (put 0 chunk1 buffer) chunk2 took-1.ready (omega arith) _ _ refl refl buffer2 refl (taking p3) buffer3
     (open-taken buffer2 length1 refl setup captures.started (taking p3) buffer3 refl refl
     (captures-taken 1 zeros captures.started buffer2 length1 p3 buffer3 (half_length refl)))
 

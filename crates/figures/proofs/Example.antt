@@ -22,7 +22,7 @@ abbrev some : List ℕ
 some = 0x21 ∷ 0x04 ∷ 0x40 ∷ 0x00 ∷ 0 ∷ []
 
 took-some : Took (waiting 0) buffer some (waiting 5) (put 0 some buffer)
-took-some = setup-more (waiting 0) buffer some (however-cut.starts buffer refl) refl (put 0 some buffer) (waiting 5) refl refl (omega arith)
+took-some = setup-more 0 buffer some (however-cut.starts buffer refl) (put 0 some buffer) (waiting 5) refl refl (omega arith)
 
 -- they are fed, and so the claim says what is written where the stream ends here
 fed-some : Fed (waiting 0) buffer (some ∷ []) (waiting 5) (put 0 some buffer)
@@ -32,7 +32,7 @@ fed-some = next took-some none
 took-second : Took (waiting 0) buffer second refused (put 0 second buffer)
 unfolding model
 took-second =
-    setup-whole (waiting 0) buffer second (however-cut.starts buffer refl) refl (omega arith) (put 0 second buffer) refl refused
+    setup-whole 0 buffer second (however-cut.starts buffer refl) (omega arith) _ _ refl refl (put 0 second buffer) refl refused
     (put 0 second buffer)
     (open-refused (put 0 second buffer) (0 ∷ []) refl Version2 refused refl refl)
 

@@ -17,12 +17,11 @@ use Rattle.sheet.specs.Text.{text_of}
 use Rattle.stream.specs.Progress as captures
 use Rattle.stream.proofs.Ends.{at-end, stopped-same}
 use Rattle.figures.specs.Sheet.{setup_size, refused_text, sheet_under, sheet_of}
-use Rattle.figures.specs.State.{waiting, sheet_from, sheet_in, finished_of, finished_in, over, over_in, Ready}
+use Rattle.figures.specs.State.{waiting, sheet_from, finished_of, over, Ready}
 use Rattle.figures.specs.Claims.{Fed, none, next, joined, HoweverCut}
-use Rattle.figures.specs.declared.Phase.{Phase}
-use Rattle.figures.specs.declared.Phase.TheVariants as phase
 use Rattle.figures.specs.declared.State.{State}
-use Rattle.figures.proofs.Taking.{without-ready, standing-is}
+use Rattle.figures.specs.declared.State.TheVariants as state
+use Rattle.figures.proofs.Taking.{waiting-ready}
 
 -- ---- under 19 bytes ----
 
@@ -42,24 +41,19 @@ short-sheet l h = rw (take_all setup_size l (omega arith)) (short-refused l _ h)
 
 -- ---- the end, and nothing more ----
 
-module _ (s : State) (b : List ℕ) (w : Ready s b) where
-  end-in : (ph : Phase) → s.phase ≡ ph → sheet_in ph s b [] ≡ finished_in ph s
-  unfolding captures.finished_of
-  end-in phase.Setup e =
-      let h : s.have < setup_size = standing-is s phase.Setup e b w in
-      let n : length (take s.have b) ≡ s.have = length-take-le s.have b (omega (arith, w.room)) in
-      rw append-nil (short-sheet (take s.have b) (omega arith))
-  end-in phase.Captures e =
-      ap text_of (at-end s.queues s.features s.progress b (standing-is s phase.Captures e b w))
-  end-in phase.Refused e = refl
+ends-here : (s : State) (b : List ℕ) → Ready s b → sheet_from s b [] ≡ finished_of s
+unfolding captures.finished_of
+ends-here (state.Setup have) b w =
+    let h : have < setup_size = w.standing in
+    let n : length (take have b) ≡ have = length-take-le have b (omega (arith, w.room)) in
+    rw append-nil (short-sheet (take have b) (omega arith))
+ends-here (state.Captures queues features p) b w = ap text_of (at-end queues features p b w.standing)
+ends-here state.Refused b w = refl
 
-  ends-here : sheet_from s b [] ≡ finished_of s
-  ends-here = end-in s.phase refl
-
-over-in : (ph : Phase) (s : State) (b l : List ℕ) → over_in ph s ≡ true → sheet_in ph s b l ≡ sheet_in ph s b []
-over-in phase.Setup s b l h = cc
-over-in phase.Captures s b l h = ap text_of (stopped-same s.queues s.features s.progress b l h)
-over-in phase.Refused s b l h = refl
+over-same : (s : State) (b l : List ℕ) → over s ≡ true → sheet_from s b l ≡ sheet_from s b []
+over-same (state.Setup have) b l h = cc
+over-same (state.Captures queues features p) b l h = ap text_of (stopped-same queues features p b l h)
+over-same state.Refused b l h = refl
 
 -- ---- the chunks ----
 
@@ -75,7 +69,7 @@ fed-same {s} {b = b} (next {chunk = c} {chunks = cs} t f) l =
     fed-same f l ∙ t.same (joined cs ++ l) ∙ ap (sheet_from s b) (sym (append_assoc c (joined cs) l))
 
 start-ready : (b : List ℕ) → length b ≡ longest → Ready (waiting 0) b
-start-ready b h = without-ready phase.Setup 0 b h (omega arith)
+start-ready b h = waiting-ready 0 b h (omega arith)
 
 module _ (b : List ℕ) (chunks : List (List ℕ)) (r : State) (after : List ℕ) (h : length b ≡ longest)
     (f : Fed (waiting 0) b chunks r after) where
@@ -83,7 +77,7 @@ module _ (b : List ℕ) (chunks : List (List ℕ)) (r : State) (after : List ℕ
   ends = sym (ends-here r after (fed-ready f (start-ready b h))) ∙ fed-same f [] ∙ ap sheet_of (append-nil (joined chunks))
 
   stops : (l : List ℕ) → over r ≡ true → finished_of r ≡ sheet_of (joined chunks ++ l)
-  stops l o = sym (ends-here r after (fed-ready f (start-ready b h))) ∙ sym (over-in r.phase r after l o) ∙ fed-same f l
+  stops l o = sym (ends-here r after (fed-ready f (start-ready b h))) ∙ sym (over-same r after l o) ∙ fed-same f l
 
 pub however-cut : HoweverCut
 however-cut = record {

@@ -1,5 +1,5 @@
 -- What a chunk leaves, in each phase: laws for the needs and returns of the functions. Assumes nothing.
-use mathlib.Core.Path.{◌≡◌, ap, sym, ◌∙◌}
+use mathlib.Core.Path.{◌≡◌, refl, ap, sym, ◌∙◌}
 use mathlib.Core.List.{List, ◌++◌, append_assoc}
 use Rattle.std.proofs.Common.{Result, Ok, Err}
 use Prim.Native.Nat.{ℕ, ◌+◌, ◌-◌, ◌≤◌, ◌<◌}
@@ -23,20 +23,14 @@ use Rattle.stream.specs.Progress as captures
 use Rattle.stream.proofs.Feeding.{counts-fit}
 use Rattle.stream.proofs.Rest.{held_more}
 use Rattle.stream.proofs.Ends.{started-ready, from_start}
-use Rattle.figures.specs.Sheet.{setup_size, first_count, sheet_under, sheet_of}
-use Rattle.figures.specs.State.{without, waiting, refused, counting, sheet_in, sheet_from, finished_in, finished_of, Standing, Ready, Took, TookBehind}
-use Rattle.figures.specs.declared.Phase.{Phase}
-use Rattle.figures.specs.declared.Phase.TheVariants as phase
+use Rattle.figures.specs.Sheet.{setup_size, refused_text, first_count, sheet_under, sheet_of}
+use Rattle.figures.specs.State.{waiting, refused, counting, sheet_from, finished_of, CountedIn, Ready, Took, TookBehind}
 use Rattle.figures.specs.declared.State.{State}
 
 -- ---- states ----
 
-pub placed : (ph : Phase) (have : ℕ) (p : Progress) → p ≡ captures.started
-    → record { phase = ph; have = have; queues = 0; features = replicate features_size 0; progress = p } ≡ without ph have
-placed ph have p e = rw e
-
-pub without-ready : (ph : Phase) (have : ℕ) (b : List ℕ) → length b ≡ longest → Standing ph have captures.started b → Ready (without ph have) b
-without-ready ph have b h w = record { room = h; counted = (started-ready b h).counted; standing = w }
+pub waiting-ready : (have : ℕ) (b : List ℕ) → length b ≡ longest → have < setup_size → Ready (waiting have) b
+waiting-ready have b h w = record { room = h; counted = tt; standing = w }
 
 pub counting-ready : (q : ℕ) (features : List ℕ) (p : Progress) (b : List ℕ) → captures.Ready p b → Ready (counting q features p) b
 counting-ready q features p b w = record { room = w.room; counted = w.counted; standing = w }
@@ -68,7 +62,7 @@ module _ (b rest : List ℕ) (h : length b ≡ longest) where
 
   pub open-refused : (x : ReadRefusal) (r : State) → Err x ≡ read_version1 (take setup_size b) → r ≡ refused → TookBehind b rest r b
   open-refused x r e z = rw z (record {
-    ready = without-ready phase.Refused 0 b h tt;
+    ready = record { room = h; counted = tt; standing = tt };
     same = λ l. front (Err x) e (rest ++ l);
   })
 
@@ -81,99 +75,63 @@ module _ (b rest : List ℕ) (h : length b ≡ longest) where
         ∙ ap text_of (from_start (first_count s) s.features b (rest ++ l)) ∙ front (Ok s) e (rest ++ l);
   }
 
--- ---- the phase under way ----
+-- ---- the end ----
 
-finished-short : (ph : Phase) (s : State) → Counted s.progress.counts → length (finished_in ph s) ≤ sheet_room
+finished-fits : (p : Progress) (r : ℕ) → r ≡ length (captures.finished_of p) → Counted p.counts → r ≤ sheet_room
 unfolding captures.finished_of
-finished-short phase.Setup s w = omega arith
-finished-short phase.Captures s w = text-short s.progress.counts (counts-fit s.progress.counts w) (captures.ended s.progress)
-finished-short phase.Refused s w = omega arith
+finished-fits p r e w = omega (arith, text-short p.counts (counts-fit p.counts w) (captures.ended p))
 
-module _ (s : State) (ph : Phase) (e : s.phase ≡ ph) where
-  pub sheet-is : (b l : List ℕ) → sheet_from s b l ≡ sheet_in ph s b l
-  sheet-is b l = ap (λ x. sheet_in x s b l) e
+pub captures-finish : (s : State) (q : ℕ) (features : List ℕ) (p : Progress) (out after : List ℕ) (r : ℕ)
+    → s ≡ counting q features p → CountedIn s → after ≡ put 0 (captures.finished_of p) out → r ≡ length (captures.finished_of p)
+    → (after ≡ put 0 (finished_of s) out) × (r ≡ length (finished_of s)) × (r ≤ sheet_room)
+captures-finish s q features p out after r e w f g =
+    let v : Counted p.counts = rw e at w in
+    rw e (f, g, finished-fits p r g v)
 
-  pub standing-is : (b : List ℕ) → Ready s b → Standing ph s.have s.progress b
-  standing-is b w = rw e at w.standing
+-- ---- a chunk ----
 
-  pub finish-put : (out after : List ℕ) → after ≡ put 0 (finished_in ph s) out → after ≡ put 0 (finished_of s) out
-  finish-put out after f = f ∙ ap (λ x. put 0 (finished_in x s) out) (sym e)
+-- bytes of the setup
+module _ (have : ℕ) (b chunk : List ℕ) (w : Ready (waiting have) b) where
+  have-less : have < setup_size
+  have-less = w.standing
 
-  pub finish-length : (r : ℕ) → r ≡ length (finished_in ph s) → r ≡ length (finished_of s)
-  finish-length r f = f ∙ ap (λ x. length (finished_in x s)) (sym e)
+  pub setup-left : have ≤ setup_size
+  setup-left = omega (arith, have-less)
 
-  pub finish-fits : (r : ℕ) → r ≡ length (finished_in ph s) → Counted s.progress.counts → r ≤ sheet_room
-  finish-fits r f w = rw f (finished-short ph s w)
+  short-room : length chunk < setup_size - have → have + length chunk ≤ length b
+  short-room k = omega (arith, w.room)
 
-module _ (s : State) (b chunk : List ℕ) (w : Ready s b) where
-  pub captures-ready : s.phase ≡ phase.Captures → Ready (counting s.queues s.features s.progress) b
-  captures-ready e = counting-ready s.queues s.features s.progress b (standing-is s phase.Captures e b w)
+  pub setup-more : (after : List ℕ) (r : State) → after ≡ put have chunk b → r ≡ waiting (have + length chunk)
+      → length chunk < setup_size - have → Took (waiting have) b chunk r after
+  setup-more after r put-there z k =
+      let held = held_more have chunk b after put-there (short-room k) in
+      rw z (record {
+        ready = waiting-ready (have + length chunk) after (rw (put-there, length-put) w.room) (omega arith);
+        same = λ l. rw (held, append_assoc);
+      })
 
-  pub feed-captures : (r : State) (after : List ℕ) → s.phase ≡ phase.Captures
-      → Took (counting s.queues s.features s.progress) b chunk r after → Took s b chunk r after
-  feed-captures r after e t = record { ready = t.ready; same = λ l. t.same l ∙ sym (sheet-is s phase.Captures e b (chunk ++ l)) }
-
-  pub feed-refused : s.phase ≡ phase.Refused → Took s b chunk s b
-  feed-refused e = record { ready = w; same = λ l. sheet-is s phase.Refused e b l ∙ sym (sheet-is s phase.Refused e b (chunk ++ l)) }
-
-  -- ---- bytes of the setup ----
-
-  module _ (e : s.phase ≡ phase.Setup) where
-    have-less : s.have < setup_size
-    have-less = standing-is s phase.Setup e b w
-
-    pub setup-left : s.have ≤ setup_size
-    setup-left = omega (arith, have-less)
-
-    short-room : length chunk < setup_size - s.have → s.have + length chunk ≤ length b
-    short-room k = omega (arith, w.room)
-
-    pub setup-more : (after : List ℕ) (r : State) → after ≡ put s.have chunk b → r ≡ waiting (s.have + length chunk)
-        → length chunk < setup_size - s.have → Took s b chunk r after
-    setup-more after r put-there z k =
-        let held = held_more s.have chunk b after put-there (short-room k) in
-        rw z (record {
-          ready = without-ready phase.Setup (s.have + length chunk) after (rw (put-there, length-put) w.room) (omega arith);
-          same = λ l. rw (held, append_assoc) (sym (sheet-is s phase.Setup e b (chunk ++ l)));
-        })
-
-    module _ (k : setup_size - s.have ≤ length chunk) where
-      -- the part of the chunk that is still of the setup
-      abbrev piece : List ℕ
-      piece = take (setup_size - s.have - 0) chunk
-
-      piece_is : piece ≡ take (setup_size - s.have) chunk
-      piece_is = rw sub-zero
-
-      -- and what follows it
-      abbrev rest : List ℕ
-      rest = take (length chunk - (setup_size - s.have)) (drop (setup_size - s.have) chunk)
-
-      rest-is : rest ≡ drop (setup_size - s.have) chunk
-      rest-is = tail-is (setup_size - s.have) chunk
-
+  module _ (k : setup_size - have ≤ length chunk) where
+    -- the part of the chunk that is still of the setup, and what follows it
+    module _ (piece rest : List ℕ) (ep : piece ≡ take (setup_size - have) chunk) (er : rest ≡ drop (setup_size - have) chunk) where
       chunk-is : piece ++ rest ≡ chunk
-      chunk-is = rw (piece_is, rest-is) (take-append-drop (setup_size - s.have) chunk)
+      chunk-is = rw (ep, er) (take-append-drop (setup_size - have) chunk)
 
-      piece-long : length piece ≡ setup_size - s.have
-      piece-long = rw sub-zero (length-take-le (setup_size - s.have) chunk k)
+      piece-long : length piece ≡ setup_size - have
+      piece-long = rw ep (length-take-le (setup_size - have) chunk k)
 
-      pub whole_room : s.have + length piece ≤ length b
+      pub whole_room : have + length piece ≤ length b
       whole_room = omega (arith, w.room, piece-long, have-less)
 
-      module _ (after : List ℕ) (put-there : after ≡ put s.have piece b) where
-        setup-held : take setup_size after ≡ take s.have b ++ piece
+      module _ (after : List ℕ) (put-there : after ≡ put have piece b) where
+        setup-held : take setup_size after ≡ take have b ++ piece
         setup-held =
-            let n : s.have + length piece ≡ setup_size = omega (arith, piece-long, have-less) in
-            rw n at (held_more s.have piece b after put-there whole_room)
+            let n : have + length piece ≡ setup_size = omega (arith, piece-long, have-less) in
+            rw n at (held_more have piece b after put-there whole_room)
 
-        pub setup-whole : (r : State) (end : List ℕ) → TookBehind after rest r end → Took s b chunk r end
-        setup-whole r end t = record {
-          ready = t.ready;
-          same = λ l. t.same l ∙ ap sheet_of (joined-there l) ∙ sym (sheet-is s phase.Setup e b (chunk ++ l));
-        }
+        pub setup-whole : (r : State) (end : List ℕ) → TookBehind after rest r end → Took (waiting have) b chunk r end
+        setup-whole r end t = record { ready = t.ready; same = λ l. t.same l ∙ ap sheet_of (joined-there l) }
           where
-            joined-there : (l : List ℕ) → take setup_size after ++ (rest ++ l) ≡ take s.have b ++ (chunk ++ l)
+            joined-there : (l : List ℕ) → take setup_size after ++ (rest ++ l) ≡ take have b ++ (chunk ++ l)
             joined-there l =
-                ap (◌++ (rest ++ l)) setup-held ∙ append_assoc (take s.have b) piece (rest ++ l)
-                ∙ ap (take s.have b ++◌) (sym (append_assoc piece rest l) ∙ ap (◌++ l) chunk-is)
+                ap (◌++ (rest ++ l)) setup-held ∙ append_assoc (take have b) piece (rest ++ l)
+                ∙ ap (take have b ++◌) (sym (append_assoc piece rest l) ∙ ap (◌++ l) chunk-is)

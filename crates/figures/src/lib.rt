@@ -6,10 +6,8 @@ ghost use Rattle.std.specs.Prelude.{◌≡◌, ◌≤◌, length};
 ghost use Rattle.theory.specs.Bytes.{put};
 ghost use Rattle.tally.specs.Rows.{longest};
 ghost use Rattle.sheet.specs.Text.{sheet_room};
-ghost use Rattle.stream.specs.Progress.{Counted};
-ghost use Rattle.figures.specs.declared.Phase.TheVariants.{Setup};
 ghost use Rattle.figures.specs.Sheet.{refused_text};
-ghost use Rattle.figures.specs.State.{waiting, refused, counting, over, finished_of, Ready, Took, TookBehind};
+ghost use Rattle.figures.specs.State.{waiting, counting, over, finished_of, CountedIn, Ready, Took, TookBehind};
 
 use setups::FEATURES_SIZE;
 use stream::Progress;
@@ -17,49 +15,19 @@ use stream::Progress;
 // A setup of version 1.
 const SETUP_SIZE: usize = 19;
 
-// What the stream is in the middle of: its setup, or its captures. Or its setup is refused.
+// What the stream is in the middle of: its setup, of which so many bytes are held; or its captures, under what the setup says.
+// Or its setup is refused.
 #[derive(Clone, Copy)]
-pub enum Phase {
-    Setup,
-    Captures,
+pub enum State {
+    Setup {
+        have: usize,
+    },
+    Captures {
+        queues: u8,
+        features: [u8; FEATURES_SIZE],
+        progress: Progress,
+    },
     Refused,
-}
-
-// How many bytes of the setup are held; then what it says, and how far the captures are taken.
-#[derive(Clone, Copy)]
-pub struct State {
-    pub phase: Phase,
-    pub have: usize,
-    pub queues: u8,
-    pub features: [u8; FEATURES_SIZE],
-    pub progress: Progress,
-}
-
-// ---- the states ----
-
-// So many bytes of the setup are held.
-fn await_setup(have: usize) -> State
-    ensures { result ≡ waiting have }
-{
-    State {
-        phase: Phase::Setup,
-        have,
-        queues: 0,
-        features: [0u8; FEATURES_SIZE],
-        progress: stream::start(),
-    }
-}
-
-fn refuse() -> State
-    ensures { result ≡ refused }
-{
-    State {
-        phase: Phase::Refused,
-        have: 0,
-        queues: 0,
-        features: [0u8; FEATURES_SIZE],
-        progress: stream::start(),
-    }
 }
 
 // ---- a chunk ----
@@ -76,9 +44,7 @@ fn take_captures(
     ensures { Took (counting queues features p) buffer.old chunk.now result buffer.new }
 {
     let progress = stream::feed(p, queues, &features, buffer, chunk);
-    State {
-        phase: Phase::Captures,
-        have: 0,
+    State::Captures {
         queues,
         features,
         progress,
@@ -96,23 +62,25 @@ fn open_captures(buffer: &mut [u8], rest: &[u8]) -> State
             let features = setup.features;
             take_captures(stream::start(), queues[0], features, buffer, rest)
         }
-        Err(_) => refuse(),
+        Err(_) => State::Refused,
     }
 }
 
-// Bytes of the setup, and what follows it.
-fn take_setup(s: State, buffer: &mut [u8], chunk: &[u8]) -> State
-    requires { Ready s buffer.old × (s.phase ≡ Setup) }
-    ensures { Took s buffer.old chunk.now result buffer.new }
+// Bytes of the setup, of which so many are held, and what follows it.
+fn take_setup(have: usize, buffer: &mut [u8], chunk: &[u8]) -> State
+    requires { Ready (waiting have) buffer.old }
+    ensures { Took (waiting have) buffer.old chunk.now result buffer.new }
 {
-    let have = s.have;
     let left = SETUP_SIZE - have;
     if chunk.len() < left {
         wire::copy(buffer, have, chunk);
-        return await_setup(have + chunk.len());
+        return State::Setup {
+            have: have + chunk.len(),
+        };
     }
-    wire::copy(buffer, have, &chunk[0..left]);
-    open_captures(buffer, &chunk[left..])
+    let (last, rest) = chunk.split_at(left);
+    wire::copy(buffer, have, last);
+    open_captures(buffer, rest)
 }
 
 // ---- the stream ----
@@ -121,7 +89,7 @@ fn take_setup(s: State, buffer: &mut [u8], chunk: &[u8]) -> State
 pub fn start() -> State
     ensures { result ≡ waiting 0 }
 {
-    await_setup(0)
+    State::Setup { have: 0 }
 }
 
 // A chunk, wherever it ends. The buffer is the one of the chunks before it.
@@ -129,16 +97,14 @@ pub fn feed(s: State, buffer: &mut [u8], chunk: &[u8]) -> State
     requires { Ready s buffer.old }
     ensures { Took s buffer.old chunk.now result buffer.new }
 {
-    let phase = s.phase;
-    match phase {
-        Phase::Setup => return take_setup(s, buffer, chunk),
-        Phase::Captures => {
-            let queues = s.queues;
-            let features = s.features;
-            let progress = s.progress;
-            return take_captures(progress, queues, features, buffer, chunk);
-        }
-        Phase::Refused => return s,
+    match s {
+        State::Setup { have } => take_setup(have, buffer, chunk),
+        State::Captures {
+            queues,
+            features,
+            progress,
+        } => take_captures(progress, queues, features, buffer, chunk),
+        State::Refused => State::Refused,
     }
 }
 
@@ -146,12 +112,10 @@ pub fn feed(s: State, buffer: &mut [u8], chunk: &[u8]) -> State
 pub fn is_over(s: State) -> bool
     ensures { result ≡ over s }
 {
-    let phase = s.phase;
-    let progress = s.progress;
-    match phase {
-        Phase::Setup => false,
-        Phase::Captures => stream::is_stopped(progress),
-        Phase::Refused => true,
+    match s {
+        State::Setup { .. } => false,
+        State::Captures { progress, .. } => stream::is_stopped(progress),
+        State::Refused => true,
     }
 }
 
@@ -160,20 +124,18 @@ fn write_refused(out: &mut [u8]) -> usize
     requires { sheet_room ≤ length out.old }
     ensures { (out.new ≡ put 0 refused_text out.old) × (result ≡ length refused_text) }
 {
-    wire::copy(out, 0, b"setup refused\n");
-    14
+    let text = b"setup refused\n";
+    wire::copy(out, 0, text);
+    text.len()
 }
 
 // The stream has ended: its sheet, from the start of the buffer. Answers how long it is.
 pub fn finish(s: State, out: &mut [u8]) -> usize
-    requires { Counted s.progress.counts × (sheet_room ≤ length out.old) }
+    requires { CountedIn s × (sheet_room ≤ length out.old) }
     ensures { (out.new ≡ put 0 (finished_of s) out.old) × (result ≡ length (finished_of s)) × (result ≤ sheet_room) }
 {
-    let phase = s.phase;
-    let progress = s.progress;
-    match phase {
-        Phase::Setup => return write_refused(out),
-        Phase::Captures => return stream::finish(progress, out),
-        Phase::Refused => return write_refused(out),
+    match s {
+        State::Captures { progress, .. } => stream::finish(progress, out),
+        State::Setup { .. } | State::Refused => write_refused(out),
     }
 }

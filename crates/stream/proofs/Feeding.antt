@@ -2,22 +2,21 @@
 use mathlib.Core.Path.{◌≡◌, refl, ap, sym, ◌∙◌}
 use mathlib.Core.Bool.{Bool}
 use mathlib.Core.List.{List, [], ◌++◌, append_assoc}
-use Prim.Native.Nat.{ℕ, ◌+◌, ◌-◌, ◌≤◌, ◌<◌, ◌^◌}
+use Prim.Native.Nat.{ℕ, min, ◌-◌, ◌≤◌, ◌<◌, ◌^◌}
 use native.Mathlib.Nat.{le_refl}
 use native.Mathlib.Omega.{arith}
-use borrow.Author.Tests.{ne_eqb, le-leb, lt-leb}
-use lib.ListN.{length, take, drop, replicate, take-append-drop, drop_of_length-le}
-use lib.Seq.{drop-drop}
+use borrow.Author.Tests.{ne_eqb, le-leb, lt-leb, lt-ltb}
+use lib.ListN.{length, take, drop, replicate, take-append-drop}
+use lib.Seq.{length-take-le}
+use Rattle.std.proofs.lemmas.List.{nil_from_length}
 use Rattle.theory.specs.Logic.{when◌then◌else◌}
 use Rattle.theory.specs.Bytes.{put}
-use Rattle.theory.proofs.Bytes.{length-bytes_at}
 use Rattle.tally.specs.Counts.{◌plus◌, Below}
 use Rattle.tally.specs.Rows.{row_count, longest, adds_of}
 use Rattle.tally.proofs.Plus.{below_more}
 use Rattle.sheet.specs.Text.{figures, text_of}
-use Rattle.stream.specs.Progress.{figures_from, started, ended_in, ended, stopped_in, stopped, finished_of, Counted, Ready, Took, Run}
-use Rattle.stream.specs.Steps.{progress, awaiting, opened}
-use Rattle.stream.specs.declared.Item.{Item}
+use Rattle.stream.specs.Progress.{figures_from, started, ended, finished_of, Counted, Ready, Took, Run}
+use Rattle.stream.specs.Steps.{progress, awaiting, opened, skipped}
 use Rattle.stream.specs.declared.Item.TheVariants as item
 use Rattle.stream.specs.declared.Progress.{Progress}
 use Rattle.stream.proofs.Totals.{counts-room}
@@ -25,53 +24,40 @@ use Rattle.stream.proofs.Totals.{counts-room}
 -- ---- the loop ----
 
 -- what is left of the chunk, and what follows, give the figures that the whole chunk and what follows give
-pub record Along (q : ℕ) (features : List ℕ) (p : Progress) (b chunk : List ℕ) (s : Progress) (buffer : List ℕ) (at : ℕ) : Type 0 where
-  pub count : at ≤ length chunk
+pub record Along (q : ℕ) (features : List ℕ) (p : Progress) (b chunk : List ℕ) (s : Progress) (buffer rest : List ℕ) : Type 0 where
   pub long : length buffer ≡ length b
   pub ready : Ready s buffer
-  pub same : (l : List ℕ) → figures_from q features s buffer (drop at chunk ++ l) ≡ figures_from q features p b (chunk ++ l)
+  pub same : (l : List ℕ) → figures_from q features s buffer (rest ++ l) ≡ figures_from q features p b (chunk ++ l)
 
-pub along-start : (q : ℕ) (features : List ℕ) (p : Progress) (b chunk : List ℕ) → Ready p b → Along q features p b chunk p b 0
-along-start q features p b chunk w = record { count = omega arith; long = refl; ready = w; same = λ l. refl }
+pub along-start : (q : ℕ) (features : List ℕ) (p : Progress) (b chunk : List ℕ) → Ready p b → Along q features p b chunk p b chunk
+along-start q features p b chunk w = record { long = refl; ready = w; same = λ l. refl }
 
-module _ (q : ℕ) (features : List ℕ) (p : Progress) (b chunk : List ℕ) (s : Progress) (buffer : List ℕ) (at : ℕ)
-    (a : Along q features p b chunk s buffer at) where
-  pub run_fits : (n : ℕ) → Run s.left (length chunk - at) n
-      → Run s.left (length (take (at + n - at) (drop at chunk))) (length (take (at + n - at) (drop at chunk)))
-  run_fits n z =
-      let e : at + n - at ≡ n = omega arith in
-      let l : length (take (at + n - at) (drop at chunk)) ≡ n = rw e (length-bytes_at at n chunk (omega (arith, a.count, z.chunk))) in
-      rw l (record { some = z.some; item = z.item; chunk = le_refl n })
+module _ (q : ℕ) (features : List ℕ) (p : Progress) (b chunk : List ℕ) (s : Progress) (buffer rest : List ℕ)
+    (a : Along q features p b chunk s buffer rest) where
+  -- a run is as much of the rest as the item still takes
+  pub run_fits : (run : List ℕ) (n : ℕ) → 0 < length rest → n ≡ min s.left (length rest) → run ≡ take n rest → Run s.left (length run) (length run)
+  run_fits run n h e f =
+      let l : length run ≡ n = rw f (length-take-le n rest (omega arith)) in
+      let more : 0 < s.left = a.ready.more in
+      record { some = omega arith; item = omega arith; chunk = le_refl (length run) }
 
-  pub along-on : (n : ℕ) (r : Progress) (after : List ℕ) → Run s.left (length chunk - at) n
-      → Took q features s buffer (take (at + n - at) (drop at chunk)) r after → length after ≡ length buffer
-      → Along q features p b chunk r after (at + n)
-  along-on n r after z t l =
-      let e : at + n - at ≡ n = omega arith in
-      let cut : take (at + n - at) (drop at chunk) ++ drop (at + n) chunk ≡ drop at chunk =
-      rw (e, ← drop-drop n at chunk) (take-append-drop n (drop at chunk)) in
+  pub along-on : (run after : List ℕ) (n : ℕ) (r : Progress) (held : List ℕ) → run ≡ take n rest → after ≡ drop n rest
+      → Took q features s buffer run r held → length held ≡ length buffer → Along q features p b chunk r held after
+  along-on run after n r held e f t l =
+      let cut : run ++ after ≡ rest = rw (e, f) (take-append-drop n rest) in
       record {
-        count = omega (arith, a.count, z.chunk);
         long = l ∙ a.long;
         ready = t.ready;
-        same = λ x.
-            t.same (drop (at + n) chunk ++ x)
-            ∙ ap (figures_from q features s buffer) (sym (append_assoc (take (at + n - at) (drop at chunk)) (drop (at + n) chunk) x) ∙ ap (◌++ x) cut) ∙ a.same x;
+        same = λ x. t.same (after ++ x) ∙ ap (figures_from q features s buffer) (sym (append_assoc run after x) ∙ ap (◌++ x) cut) ∙ a.same x;
       }
 
-  pub along-end : length chunk ≤ at → Took q features p b chunk s buffer
-  along-end h = record { ready = a.ready; same = λ l. ap (λ x. figures_from q features s buffer (x ++ l)) (sym (drop_of_length-le chunk h)) ∙ a.same l }
+  pub along-end : length rest ≡ 0 → Took q features p b chunk s buffer
+  along-end h = record { ready = a.ready; same = λ l. ap (λ x. figures_from q features s buffer (x ++ l)) (sym (nil_from_length rest h)) ∙ a.same l }
 
 -- ---- the sheet ----
 
 pub counts-fit : (counts : List ℕ) → Counted counts → Below (2 ^ 64) counts
 counts-fit counts w = below_more (2 ^ 62) (2 ^ 64) counts (counts-room counts w) (omega arith)
-
-pub ended_is : (p : Progress) (i : Item) (x : Bool) → p.item ≡ i → x ≡ ended_in i p.have → x ≡ ended p
-ended_is p i x e f = f ∙ ap (λ j. ended_in j p.have) (sym e)
-
-pub stopped-is : (p : Progress) (i : Item) (x : Bool) → p.item ≡ i → x ≡ stopped_in i → x ≡ stopped p
-stopped-is p i x e f = f ∙ ap stopped_in (sym e)
 
 module _ (p : Progress) (w : Bool) (e : w ≡ ended p) where
   pub finish-put : (out after : List ℕ) → after ≡ put 0 (text_of (figures p.counts w)) out → after ≡ put 0 (finished_of p) out
@@ -95,10 +81,14 @@ module _ (q : ℕ) (features counts : List ℕ) (n x : ℕ) (e : n ≡ x) where
   unfolding opened when◌then◌else◌
   opened-empty r f h = rw (← e, h) f
 
-  pub opened-held : (n ≡ 0 → ⊥) → n ≤ longest → progress item.Capture 0 n counts ≡ opened q features counts x
+  pub opened-held : (r : Progress) → r ≡ progress item.Capture 0 n counts → (n ≡ 0 → ⊥) → n ≤ longest → r ≡ opened q features counts x
   unfolding opened when◌then◌else◌
-  opened-held h k = rw (← e, ne_eqb n 0 h, le-leb n longest k)
+  opened-held r f h k = f ∙ rw (← e, ne_eqb n 0 h, le-leb n longest k)
 
-  pub opened-long : (n ≡ 0 → ⊥) → longest < n → progress item.Skipped 0 n counts ≡ opened q features counts x
+  pub opened-long : (r : Progress) → r ≡ progress item.Skipped 0 n counts → (n ≡ 0 → ⊥) → longest < n → r ≡ opened q features counts x
   unfolding opened when◌then◌else◌
-  opened-long h k = rw (← e, ne_eqb n 0 h, lt-leb n longest k)
+  opened-long r f h k = f ∙ rw (← e, ne_eqb n 0 h, lt-leb n longest k)
+
+pub skips : (p : Progress) (n : ℕ) (r : Progress) → r ≡ progress item.Skipped 0 (p.left - n) p.counts → n < p.left → r ≡ skipped p n
+unfolding skipped when◌then◌else◌
+skips p n r e h = e ∙ rw (lt-ltb n p.left h)

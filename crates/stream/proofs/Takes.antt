@@ -1,13 +1,13 @@
 -- What a run of bytes leaves: one law for each need and return of the functions that take runs. Assumes nothing.
-use mathlib.Core.Path.{◌≡◌, ap, sym, ◌∙◌}
+use mathlib.Core.Path.{◌≡◌, ap, sym, subst, ◌∙◌}
 use mathlib.Core.List.{List, ◌++◌, append_assoc}
 use Prim.Native.Nat.{ℕ, ◌+◌, ◌-◌, ◌≤◌, ◌<◌}
-use native.Mathlib.Nat.{le_refl, sub-zero}
+use native.Mathlib.Nat.{le_refl}
 use native.Mathlib.Omega.{arith}
 use mir.Syntax.{w64}
 use mir.Val.{Fits}
 use lib.Dec.{ltb}
-use lib.ListN.{length, take, drop}
+use lib.ListN.{length, take}
 use lib.Seq.{take-take, length-take-le}
 use borrow.Author.Tests.{ltb-true, ltb-false}
 use Rattle.theory.proofs.Tests.{by_cases}
@@ -64,9 +64,9 @@ module _ (p : Progress) (b run : List ℕ) (w : Ready p b) (e : p.item ≡ item.
     pub length_front : length_size ≤ length after
     length_front = omega (arith, long_after)
 
-    pub length_more : length run < p.left
+    length-going : length run < p.left
         → Took q features p b run (progress item.Length (p.have + length run) (p.left - length run) p.counts) after
-    length_more h = record {
+    length-going h = record {
       ready = record {
         room = long_after;
         more = omega arith;
@@ -78,6 +78,13 @@ module _ (p : Progress) (b run : List ℕ) (w : Ready p b) (e : p.item ≡ item.
           ap (with_rest q features p.counts)
           (rw (held, append_assoc) (sym (rest-is p b item.Length e (run ++ l))));
     }
+
+    -- the item stays as it is
+    pub length_more : length run < p.left
+        → Took q features p b run (progress p.item (p.have + length run) (p.left - length run) p.counts) after
+    length_more h =
+        let P : Item → Type 0 = λ i. Took q features p b run (progress i (p.have + length run) (p.left - length run) p.counts) after in
+        subst P (sym e) (length-going h)
 
     pub length-done : (r : Progress) → r ≡ opened q features p.counts (number 0 length_size after) → p.left ≤ length run
         → Took q features p b run r after
@@ -146,12 +153,15 @@ module _ (p : Progress) (b run : List ℕ) (w : Ready p b) (e : p.item ≡ item.
     long-here : length after ≡ longest
     long-here = rw (put-there, length-put) w.room
 
-    pub held-short : length (take (p.have + length run - 0) (drop 0 after)) ≤ longest
-    held-short = rw (sub-zero, length-take-le (p.have + length run) after after-room) (omega (arith, capture-size, z.item))
+    pub held-long : p.have + length run ≡ length (take (p.have + length run) after)
+    held-long = sym (length-take-le (p.have + length run) after after-room)
 
-    pub capture-more : length run < p.left
+    pub held-short : length (take (p.have + length run) after) ≤ longest
+    held-short = rw (length-take-le (p.have + length run) after after-room) (omega (arith, capture-size, z.item))
+
+    capture-on : length run < p.left
         → Took q features p b run (progress item.Capture (p.have + length run) (p.left - length run) p.counts) after
-    capture-more h =
+    capture-on h =
         let same_size : p.have + length run + (p.left - length run) ≡ p.have + p.left = omega arith in
         record {
           ready = record {
@@ -166,11 +176,17 @@ module _ (p : Progress) (b run : List ℕ) (w : Ready p b) (e : p.item ≡ item.
               (rw (same_size, held-here, append_assoc) (sym (rest-is p b item.Capture e (run ++ l))));
         }
 
-    pub capture-done : (r : Progress) → r ≡ awaiting (p.counts plus adds_of q features (take (p.have + length run - 0) (drop 0 after)))
+    pub capture-more : length run < p.left
+        → Took q features p b run (progress p.item (p.have + length run) (p.left - length run) p.counts) after
+    capture-more h =
+        let P : Item → Type 0 = λ i. Took q features p b run (progress i (p.have + length run) (p.left - length run) p.counts) after in
+        subst P (sym e) (capture-on h)
+
+    pub capture-done : (r : Progress) → r ≡ awaiting (p.counts plus adds_of q features (take (p.have + length run) after))
         → p.left ≤ length run → Took q features p b run r after
     capture-done r f h =
         let n : length (take (p.have + length run) after) ≡ p.have + length run = length-take-le (p.have + length run) after after-room in
-        rw (f, sub-zero) (done q features after (take (p.have + length run) after) held-here h
+        rw f (done q features after (take (p.have + length run) after) held-here h
         (omega (arith, capture-size, z.item)) (omega (arith, z.item)) long-here)
 
 -- ---- a long capture, and nothing more ----

@@ -10,7 +10,7 @@ ghost use Rattle.tally.specs.Rows.{longest, adds_of};
 ghost use Rattle.sheet.specs.Text.{sheet_room};
 ghost use Rattle.stream.specs.Stream.{length_size};
 ghost use Rattle.stream.specs.Progress.{started, ended, stopped, finished_of, Counted, Ready, Run, Took};
-ghost use Rattle.stream.specs.Steps.{awaiting, opened, skipped};
+ghost use Rattle.stream.specs.Steps.{progress, awaiting, opened, skipped};
 
 use tally::{LINES, LONGEST, READ};
 
@@ -30,7 +30,9 @@ pub enum Item {
     Stopped,
 }
 
-// The item under way, how many of its bytes are held and how many are still to come, and the numbers of the sheet.
+// The item under way, how many of its bytes are held and how many are still to come, and the numbers of the sheet. The two
+// numbers stand beside the item: the loop over a chunk asks how much is still to come of any item, which of four variants
+// would take a match.
 #[derive(Clone, Copy)]
 pub struct Progress {
     pub item: Item,
@@ -41,24 +43,26 @@ pub struct Progress {
 
 // ---- the end of an item ----
 
+// An item of which no byte has come yet.
+fn begin(item: Item, left: usize, counts: [u64; LINES]) -> Progress
+    ensures { result ≡ progress item 0 left counts }
+{
+    Progress {
+        item,
+        have: 0,
+        left,
+        counts,
+    }
+}
+
 // A capture has ended: a length comes next, or nothing more is taken.
 fn await_length(counts: [u64; LINES]) -> Progress
     ensures { result ≡ awaiting counts }
 {
     if counts[READ] < MOST {
-        return Progress {
-            item: Item::Length,
-            have: 0,
-            left: LENGTH_SIZE,
-            counts,
-        };
+        return begin(Item::Length, LENGTH_SIZE, counts);
     }
-    Progress {
-        item: Item::Stopped,
-        have: 0,
-        left: usize::MAX,
-        counts,
-    }
+    begin(Item::Stopped, usize::MAX, counts)
 }
 
 // A capture has come whole.
@@ -76,22 +80,12 @@ fn open_capture(counts: [u64; LINES], queues: u8, features: &[u8], held: &[u8]) 
 {
     let n = wire::read_u32(held, 0) as usize;
     if n == 0 {
-        return close_capture(counts, queues, features, &held[0..0]);
+        return close_capture(counts, queues, features, &[]);
     }
     if n <= LONGEST {
-        return Progress {
-            item: Item::Capture,
-            have: 0,
-            left: n,
-            counts,
-        };
+        return begin(Item::Capture, n, counts);
     }
-    Progress {
-        item: Item::Skipped,
-        have: 0,
-        left: n,
-        counts,
-    }
+    begin(Item::Skipped, n, counts)
 }
 
 // ---- a run: bytes of a chunk, no more than the item under way still takes ----
@@ -101,20 +95,16 @@ fn take_length(p: Progress, queues: u8, features: &[u8], buffer: &mut [u8], run:
     requires { Ready p buffer.old × (p.item ≡ Item.Length) × Run p.left (length run.now) (length run.now) }
     ensures { Took queues features.now p buffer.old run.now result buffer.new }
 {
-    let have = p.have;
-    let left = p.left;
-    let counts = p.counts;
     let n = run.len();
-    wire::copy(buffer, have, run);
-    if n < left {
+    wire::copy(buffer, p.have, run);
+    if n < p.left {
         return Progress {
-            item: Item::Length,
-            have: have + n,
-            left: left - n,
-            counts,
+            have: p.have + n,
+            left: p.left - n,
+            ..p
         };
     }
-    open_capture(counts, queues, features, buffer)
+    open_capture(p.counts, queues, features, buffer)
 }
 
 // Bytes of a capture. One that lies whole in the chunk is not copied.
@@ -122,25 +112,20 @@ fn take_capture(p: Progress, queues: u8, features: &[u8], buffer: &mut [u8], run
     requires { Ready p buffer.old × (p.item ≡ Item.Capture) × Run p.left (length run.now) (length run.now) }
     ensures { Took queues features.now p buffer.old run.now result buffer.new }
 {
-    let have = p.have;
-    let left = p.left;
-    let counts = p.counts;
     let n = run.len();
-    if n < left {
-        wire::copy(buffer, have, run);
+    if p.left <= n && p.have == 0 {
+        return close_capture(p.counts, queues, features, run);
+    }
+    wire::copy(buffer, p.have, run);
+    let end = p.have + n;
+    if n < p.left {
         return Progress {
-            item: Item::Capture,
-            have: have + n,
-            left: left - n,
-            counts,
+            have: end,
+            left: p.left - n,
+            ..p
         };
     }
-    if have == 0 {
-        return close_capture(counts, queues, features, run);
-    }
-    wire::copy(buffer, have, run);
-    let end = have + n;
-    close_capture(counts, queues, features, &buffer[0..end])
+    close_capture(p.counts, queues, features, &buffer[..end])
 }
 
 // So many bytes of a long capture.
@@ -148,17 +133,10 @@ fn skip_bytes(p: Progress, count: usize) -> Progress
     requires { Counted p.counts × (count ≤ p.left) }
     ensures { result ≡ skipped p count }
 {
-    let left = p.left;
-    let counts = p.counts;
-    if count < left {
-        return Progress {
-            item: Item::Skipped,
-            have: 0,
-            left: left - count,
-            counts,
-        };
+    if count < p.left {
+        return begin(Item::Skipped, p.left - count, p.counts);
     }
-    await_length(tally::count_long(counts))
+    await_length(tally::count_long(p.counts))
 }
 
 // Bytes of the item under way.
@@ -166,21 +144,12 @@ fn take_run(p: Progress, queues: u8, features: &[u8], buffer: &mut [u8], run: &[
     requires { Ready p buffer.old × Run p.left (length run.now) (length run.now) }
     ensures { Took queues features.now p buffer.old run.now result buffer.new }
 {
-    let item = p.item;
-    match item {
-        Item::Capture => return take_capture(p, queues, features, buffer, run),
-        Item::Length => return take_length(p, queues, features, buffer, run),
-        Item::Skipped => return skip_bytes(p, run.len()),
-        Item::Stopped => return p,
+    match p.item {
+        Item::Capture => take_capture(p, queues, features, buffer, run),
+        Item::Length => take_length(p, queues, features, buffer, run),
+        Item::Skipped => skip_bytes(p, run.len()),
+        Item::Stopped => p,
     }
-}
-
-// As many bytes of the rest of a chunk as the item under way still takes.
-fn run_size(left: usize, rest: usize) -> usize
-    requires { (0 < left) × (0 < rest) }
-    ensures { Run left rest result }
-{
-    if left < rest { left } else { rest }
 }
 
 // ---- the captures ----
@@ -198,12 +167,11 @@ pub fn feed(p: Progress, queues: u8, features: &[u8], buffer: &mut [u8], chunk: 
     ensures { Took queues features.now p buffer.old chunk.now result buffer.new }
 {
     let mut s = p;
-    let mut at = 0;
-    while at < chunk.len() {
-        let left = s.left;
-        let end = at + run_size(left, chunk.len() - at);
-        s = take_run(s, queues, features, buffer, &chunk[at..end]);
-        at = end;
+    let mut rest = chunk;
+    while !rest.is_empty() {
+        let (run, after) = rest.split_at(s.left.min(rest.len()));
+        s = take_run(s, queues, features, buffer, run);
+        rest = after;
     }
     s
 }
@@ -212,26 +180,14 @@ pub fn feed(p: Progress, queues: u8, features: &[u8], buffer: &mut [u8], chunk: 
 fn is_whole(p: Progress) -> bool
     ensures { result ≡ ended p }
 {
-    let item = p.item;
-    match item {
-        Item::Length => p.have == 0,
-        Item::Capture => false,
-        Item::Skipped => false,
-        Item::Stopped => false,
-    }
+    matches!(p.item, Item::Length) && p.have == 0
 }
 
 // Whether nothing more is taken, whatever follows.
 pub fn is_stopped(p: Progress) -> bool
     ensures { result ≡ stopped p }
 {
-    let item = p.item;
-    match item {
-        Item::Length => false,
-        Item::Capture => false,
-        Item::Skipped => false,
-        Item::Stopped => true,
-    }
+    matches!(p.item, Item::Stopped)
 }
 
 // The stream has ended: its sheet, from the start of the buffer. Answers how long it is.
@@ -239,6 +195,5 @@ pub fn finish(p: Progress, out: &mut [u8]) -> usize
     requires { Counted p.counts × (sheet_room ≤ length out.old) }
     ensures { (out.new ≡ put 0 (finished_of p) out.old) × (result ≡ length (finished_of p)) }
 {
-    let counts = p.counts;
-    sheet::write(out, counts, is_whole(p))
+    sheet::write(out, p.counts, is_whole(p))
 }

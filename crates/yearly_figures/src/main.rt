@@ -2,7 +2,7 @@
 #![tactic(auto)]
 
 ghost use Rattle.std.specs.Io.{ReadsAtMost};
-ghost use Rattle.stream.specs.Progress.{Counted};
+ghost use Rattle.figures.specs.State.{CountedIn};
 
 use cause::Cause;
 use figures::State;
@@ -21,7 +21,7 @@ fn fail(rt: &HostRuntime, what: &str, e: io::Error) -> io::Result<()> {
 
 // The sheet of a stream that has ended.
 fn print_sheet(rt: &HostRuntime, s: State) -> io::Result<()>
-    requires { Counted s.progress.counts }
+    requires { CountedIn s }
 {
     let mut text = [0u8; SHEET_ROOM];
     let n = figures::finish(s, &mut text);

@@ -8,8 +8,8 @@ copy-requires c = search length-room
 pub overflow_add-result : goal.overflow_add-result
 overflow_add-result c = search length-sum
 
-pub returns-then-n-left : goal.returns-then-n-left
-returns-then-n-left c = search (rules, length_more)
+pub returns-then-n-p : goal.returns-then-n-p
+returns-then-n-p c = search (rules, length_more)
 
 pub open_capture-requires : goal.open_capture-requires
 open_capture-requires c = (search rules, search length_front)
