@@ -61,9 +61,9 @@ const FIRST_NOTIFY: usize = 11;
 #[derive(Clone, Copy)]
 pub struct Row {
     pub part_type: u16,
-    pub selector: u32,
     pub size: u8,
     pub offset: u8,
+    pub selector: u32,
 }
 
 // A row, written as type, selector, size and offset.
@@ -71,9 +71,9 @@ macro_rules! row {
     ($part_type:expr, $selector:expr, $size:expr, $offset:expr) => {
         Row {
             part_type: $part_type,
-            selector: $selector,
             size: $size,
             offset: $offset,
+            selector: $selector,
         }
     };
 }

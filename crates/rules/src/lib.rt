@@ -9,7 +9,7 @@ ghost use Rattle.parts.specs.List.{parts_of};
 ghost use Rattle.rules.specs.Rules.{known, asks_known, every, repeated, cause_of, is_accepted, asked_of};
 ghost use Rattle.rules.specs.Ranks.{absent_rank, row_rank, least, cause_at};
 
-use inventory::{DEVICE_FEATURES, ROWS, SIZES};
+use inventory::{DEVICE_FEATURES, INVENTORY, ROWS};
 use parts::ListForm;
 
 // A part of this type or above is never skipped.
@@ -176,7 +176,7 @@ fn cause_at(rank: u8, list: &[u8], queues: u8) -> Cause
 pub fn check_list(queues: u8, features: &[u8], list: &[u8]) -> Cause
     ensures { result ≡ cause_of queues features.now list.now }
 {
-    let sizes = SIZES;
+    let rows = INVENTORY;
     let mut seen = [false; ROWS];
     let mut rank = NO_CAUSE;
     for part in parts::read(ListForm::Parts, list) {
@@ -188,7 +188,7 @@ pub fn check_list(queues: u8, features: &[u8], list: &[u8]) -> Cause
             rank = least(rank, absent_rank(t, part.flags));
             continue;
         };
-        rank = least(rank, row_rank(sizes[i], seen[i], t, part.value, features));
+        rank = least(rank, row_rank(rows[i].size, seen[i], t, part.value, features));
         seen[i] = true;
     }
     cause_at(rank, list, queues)
