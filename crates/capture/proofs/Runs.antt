@@ -1,9 +1,9 @@
 -- Runs of rows of one type and size, and all parts of a member as such runs. Assumes nothing.
-use mathlib.Core.Path.{◌≡◌, refl, sym, ◌∙◌}
+use mathlib.Core.Path.{◌≡◌, refl, ap, sym, ◌∙◌}
 use mathlib.Core.Bool.{Bool, true, false}
 use mathlib.Core.List.{List, [], ◌∷◌, ◌++◌, append_assoc}
 use Prim.Native.Nat.{ℕ, zero, suc, ◌+◌, ◌-◌, ◌*◌, ◌≤◌, ◌<◌}
-use native.Mathlib.Nat.{add-zero, add_assoc, mul-one, mul-add, mul-le-mul}
+use native.Mathlib.Nat.{add-zero, add_assoc, mul-zero, mul-one, mul-add, mul-le-mul}
 use native.Mathlib.Omega.{arith}
 use borrow.Author.Tests.{eqb-true, ltb-true, leb-true, le-ltb, lt-leb}
 use mir.Syntax.{w32}
@@ -17,85 +17,86 @@ use Rattle.theory.proofs.Tests.{false-or, both}
 use Rattle.theory.proofs.Table.{every, at}
 use Rattle.theory.proofs.Sums.{length-items, sum_same}
 use Rattle.theory.proofs.Items.{Written, written_start, written-room, written-end, written_at}
-use Rattle.inventory.specs.Inventory.{Row, row, rows, row_at, row_count, offset_of, values_size}
+use Rattle.inventory.specs.declared.Row.{Row}
+use Rattle.inventory.specs.Inventory.{row, rows, row_at, row_count, offset_of, values_size}
 use Rattle.inventory.specs.Header.{header_of, header_size}
-use Rattle.inventory.proofs.Columns.{types, selectors, sizes, offsets, type_at, selector-at, size-at, offset-at}
-use Rattle.inventory.proofs.Rules.{table, every-row, every-count, row_within, offset-next}
+use Rattle.inventory.proofs.Rules.{table, every-row, every-count, row_within, offset-own}
 use Rattle.capture.specs.Capture.{part_at, asks, part_item, parts_written, capture_of, CaptureFits}
-use Rattle.capture.specs.Runs.{largest_value, RowsAlike, RunFits, run_of, Wrote}
+use Rattle.capture.specs.Runs.{largest_value, run_row, RowsAlike, RunFits, run_of, Wrote}
 use Rattle.capture.proofs.Sizes.{part_length, capture-length}
-use Rattle.capture.proofs.Writes.{row_small, wrote-next}
+use Rattle.capture.proofs.Writes.{row_inside, row_small, wrote-next}
 
 -- ---- one run ----
 
--- i parts are written; the next goes to `at`, its value starts at `from`, and its selector is s
-pub record Running (v : List ℕ) (first count selector step b : ℕ) (out₀ out : List ℕ) (at from s i : ℕ) : Type 0 where
+-- i parts are written; the next goes to `at`, and is that of the row `next`
+pub record Running (v : List ℕ) (first count : ℕ) (r : Row) (step b : ℕ) (out₀ out : List ℕ) (at : ℕ) (next : Row) (i : ℕ) : Type 0 where
   pub written : Written (λ j. part_at v (first + j)) count b out₀ out at i
-  pub starts : from ≡ offset_of (first + i)
-  pub chosen : s ≡ selector + step * i
+  pub here : next ≡ run_row r step i
 
-pub run_end : (v : List ℕ) (first count selector step b : ℕ) (out₀ out : List ℕ) (at from s i : ℕ)
-    → Running v first count selector step b out₀ out at from s i → count ≤ i → Wrote (run_of v first count) b out₀ out at
-run_end v first count selector step b out₀ out at from s i w h =
+pub run_end : (v : List ℕ) (first count : ℕ) (r : Row) (step b : ℕ) (out₀ out : List ℕ) (at : ℕ) (next : Row) (i : ℕ)
+    → Running v first count r step b out₀ out at next i → count ≤ i → Wrote (run_of v first count) b out₀ out at
+run_end v first count r step b out₀ out at next i w h =
     record { buffer = written-end _ _ _ _ _ _ _ w.written h; place = written_at _ _ _ _ _ _ _ w.written h }
 
-module _ (v : List ℕ) (first count type selector step size offset : ℕ) (a : RowsAlike first count type selector step size offset) (e : length v ≡ values_size) where
+module _ (v : List ℕ) (first count : ℕ) (r : Row) (step : ℕ) (a : RowsAlike first count r step) (e : length v ≡ values_size) where
   abbrev item : ℕ → List ℕ
   item j = part_at v (first + j)
 
   inside : (j : ℕ) → j < count → first + j < row_count
   inside j h = let l = a.there in omega arith
 
-  run-item : (j : ℕ) → j < count → length (item j) ≡ header_size + size
-  run-item j h = part_length v (first + j) (inside j h) e ∙ rw (a.sized j h)
+  run-item : (j : ℕ) → j < count → length (item j) ≡ header_size + r.size
+  run-item j h = part_length v (first + j) (inside j h) e ∙ rw (a.rows j h)
 
-  pub run_length : length (run_of v first count) ≡ count * (header_size + size)
-  run_length = length-items item (λ j. header_size + size) count count 0 (omega arith) run-item ∙ sum_same (header_size + size) count 0
+  pub run_length : length (run_of v first count) ≡ count * (header_size + r.size)
+  run_length = length-items item (λ j. header_size + r.size) count count 0 (omega arith) run-item ∙ sum_same (header_size + r.size) count 0
 
-  pub run-start : (b : ℕ) (out : List ℕ) → b + count * (header_size + size) ≤ length out → Running v first count selector step b out out b offset selector 0
+  pub run-start : (b : ℕ) (out : List ℕ) → b + count * (header_size + r.size) ≤ length out → Running v first count r step b out out b r 0
   run-start b out h =
-      record { written = written_start item count b out (omega (arith, run_length)); starts = a.starts ∙ rw add-zero; chosen = omega arith }
+      record { written = written_start item count b out (omega (arith, run_length)); here = rw (mul-zero step, mul-zero r.size, add-zero r.selector, add-zero r.offset) }
 
   -- a turn: row first + i is the next
-  module _ (b : ℕ) (out₀ out : List ℕ) (at from s i : ℕ) (w : Running v first count selector step b out₀ out at from s i) (h : i < count) where
+  module _ (b : ℕ) (out₀ out : List ℕ) (at : ℕ) (next : Row) (i : ℕ) (w : Running v first count r step b out₀ out at next i) (h : i < count) where
     row-there : first + i < row_count
     row-there = inside i h
 
-    pub run_small : size ≤ largest_value
-    run_small = rw (size-at (first + i), a.sized i h) at (row_small (first + i) row-there)
+    row-is : next ≡ row_at (first + i)
+    row-is = w.here ∙ sym (a.rows i h)
 
-    pub run_inside : from + size ≤ values_size
-    run_inside = rw (w.starts, ← a.sized i h) (row_within (first + i) row-there)
+    pub run_small : next.size ≤ largest_value
+    run_small = rw row-is (row_small (first + i) row-there)
 
-    pub run_room : at + (header_size + size) ≤ length out
-    run_room = written-room item count b out₀ out at i w.written (header_size + size) h (run-item i h)
+    pub run_inside : next.offset + next.size ≤ length v
+    run_inside = rw row-is (row_inside (first + i) v row-there e)
 
-    next-item : item i ≡ header_of (row type s size) ++ bytes_at from size v
+    pub run_room : at + (header_size + next.size) ≤ length out
+    run_room = rw w.here (written-room item count b out₀ out at i w.written (header_size + r.size) h (run-item i h))
+
+    next-item : item i ≡ header_of next ++ bytes_at next.offset next.size v
     unfolding part_at
-    next-item = rw (w.starts, w.chosen, ← a.typed i h, ← a.selected i h, ← a.sized i h)
+    next-item = rw (row-is, offset-own (first + i) row-there)
 
-    next-starts : from + size ≡ offset_of (first + (i + 1))
-    next-starts = rw (w.starts, ← a.sized i h, ← add_assoc) (sym (offset-next (first + i) row-there))
+    once_more : (y x : ℕ) → y + x * i + x ≡ y + x * (i + 1)
+    once_more y x = let d : x * (i + 1) ≡ x * i + x = mul-add x i 1 ∙ rw mul-one in omega arith
 
-    next-chosen : s + step ≡ selector + step * (i + 1)
-    next-chosen = let d : step * (i + 1) ≡ step * i + step = mul-add step i 1 ∙ rw mul-one in let c = w.chosen in omega arith
+    abbrev after : Row
+    after = record { part_type = next.part_type; selector = next.selector + step; size = next.size; offset = next.offset + next.size }
+
+    after-is : after ≡ run_row r step (i + 1)
+    after-is = rw (w.here, once_more r.selector step, once_more r.offset r.size)
 
     -- and no sum is too large
-    pub run-low : Fits w32 (s + step)
+    pub run-low : Fits w32 (next.selector + step)
     run-low =
         let n : i + 1 ≤ row_count = (let t = row-there in omega arith) in
         let m : step * (i + 1) ≤ 256 * row_count = mul-le-mul a.low.1 n in
         let l = a.low.0 in
-        let c = next-chosen in
+        let c : next.selector + step ≡ r.selector + step * (i + 1) = ap (λ (x : Row). x.selector) after-is in
         omega arith
 
-    pub run_on : (out' : List ℕ) (next : ℕ) → Wrote (header_of (row type s size) ++ bytes_at from size v) at out out' next
-        → Running v first count selector step b out₀ out' next (from + size) (s + step) (i + 1)
-    run_on out' next d = record {
-      written = wrote-next item count b out₀ out out' _ at next i w.written h next-item d;
-      starts = next-starts;
-      chosen = next-chosen;
-    }
+    pub run_on : (out' : List ℕ) (end : ℕ) → Wrote (header_of next ++ bytes_at next.offset next.size v) at out out' end
+        → Running v first count r step b out₀ out' end after (i + 1)
+    run_on out' end d = record { written = wrote-next item count b out₀ out out' _ at end i w.written h next-item d; here = after-is }
 
 -- ---- the table of the runs ----
 
@@ -122,46 +123,39 @@ steps = 0 ∷ 0 ∷ 8 ∷ 6 ∷ 0 ∷ 1 ∷ 1 ∷ []
 abbrev pub step_of : ℕ → ℕ
 step_of k = get_or steps k 0
 
--- row i is the next of the run by its selector and like the first in all else, or not in the run
+-- row i is the next of the run, or not in the run
 abbrev alike_at : ℕ → ℕ → ℕ → ℕ → Row → Bool
 alike_at first count step i r =
+    let x = run_row (row_at first) step (i - first) in
     (ltb i first or leb (first + count) i)
-    or (eqb r.part_type (row_at first).part_type and eqb r.selector ((row_at first).selector + step * (i - first)) and eqb r.size (row_at first).size)
+    or (eqb r.part_type x.part_type and eqb r.selector x.selector and eqb r.size x.size and eqb r.offset x.offset)
 
 abbrev alike_run : ℕ → ℕ → ℕ → Bool
-alike_run first count step =
-    ltb first row_count and leb (first + count) row_count and leb (get_or selectors first 0) 256 and leb step 256 and every (alike_at first count step) 0 rows
+alike_run first count step = leb (first + count) row_count and leb (row_at first).selector 256 and leb step 256 and every (alike_at first count step) 0 rows
 
--- a run has the type, the first selector, the size and the offset that the tables have at its first row
-abbrev Alike : ℕ → ℕ → ℕ → Type 0
-Alike first count step = RowsAlike first count (get_or types first 0) (get_or selectors first 0) step (get_or sizes first 0) (get_or offsets first 0)
+same_row : (x y : Row) → x.part_type ≡ y.part_type → x.selector ≡ y.selector → x.size ≡ y.size → x.offset ≡ y.offset
+    → row x.part_type x.selector x.size x.offset ≡ row y.part_type y.selector y.size y.offset
+same_row x y t s n o = rw (t, s, n, o)
 
-alike : (first count step : ℕ) → alike_run first count step ≡ true → Alike first count step
+alike : (first count step : ℕ) → alike_run first count step ≡ true → RowsAlike first count (row_at first) step
 alike first count step t =
     let b = both _ _ t in
     let d = both _ _ b.0 in
     let l = both _ _ d.0 in
-    let c = both _ _ l.0 in
-    let n : first + count ≤ row_count = leb-true _ _ c.1 in
-    let next-alike : (j : ℕ) → j < count
-    → eqb (row_at (first + j)).part_type (row_at first).part_type and eqb (row_at (first + j)).selector ((row_at first).selector + step * j)
-    and eqb (row_at (first + j)).size (row_at first).size ≡ true =
+    let n : first + count ≤ row_count = leb-true _ _ l.0 in
+    let next-alike : (j : ℕ) → j < count → row_at (first + j) ≡ run_row (row_at first) step j =
     λ j h.
     let y : ltb (first + j) first ≡ false = le-ltb (first + j) first (omega arith) in
     let z : leb (first + count) (first + j) ≡ false = lt-leb (first + count) (first + j) (omega arith) in
     let x : first + j - first ≡ j = omega arith in
-    simp (y, z, false-or, x) at (every-row (alike_at first count step) b.1 (first + j) (omega arith)) in
-    record {
-      there = n;
-      typed = λ j h. eqb-true _ _ (both _ _ (both _ _ (next-alike j h)).0).0 ∙ sym (type_at first);
-      selected = λ j h. eqb-true _ _ (both _ _ (both _ _ (next-alike j h)).0).1 ∙ rw (selector-at first);
-      low = (leb-true _ _ l.1, leb-true _ _ d.1);
-      sized = λ j h. eqb-true _ _ (both _ _ (next-alike j h)).1 ∙ sym (size-at first);
-      starts = offset-at first (ltb-true _ _ c.0);
-    }
+    let k = both _ _ (simp (y, z, false-or, x) at (every-row (alike_at first count step) b.1 (first + j) (omega arith))) in
+    let m = both _ _ k.0 in
+    let p = both _ _ m.0 in
+    same_row (row_at (first + j)) (run_row (row_at first) step j) (eqb-true _ _ p.0) (eqb-true _ _ p.1) (eqb-true _ _ m.1) (eqb-true _ _ k.1) in
+    record { there = n; rows = next-alike; low = (leb-true _ _ l.1, leb-true _ _ d.1) }
 
 -- one test over the table: each run is of rows alike, whatever the queues
-run-alike : (q k : ℕ) → q < 5 → k < run_count → Alike (first_of k) (count_of q k) (step_of k)
+run-alike : (q k : ℕ) → q < 5 → k < run_count → RowsAlike (first_of k) (count_of q k) (row_at (first_of k)) (step_of k)
 unfolding table
 run-alike q k f h =
     let t = every-count (λ q. every (λ j n. alike_run (first_of j) n (step_of j)) 0 (counts q)) refl q f in
@@ -201,12 +195,11 @@ module _ {q : ℕ} {v out₀ : List ℕ} where
       abbrev few : k < run_count
       few = ltb→lt k run_count h
 
-      pub run-asks : RunFits v (first_of k) (count_of q k) (get_or types (first_of k) 0) (get_or selectors (first_of k) 0) (step_of k) (get_or sizes (first_of k) 0)
-          (get_or offsets (first_of k) 0) at out
+      pub run-asks : RunFits v (first_of k) (count_of q k) (row_at (first_of k)) (step_of k) at out
       run-asks =
           let p = w.fits in
           let a = run-alike q k p.few few in
-          record { alike = a; long = p.long; room = written-room _ _ _ _ _ _ _ w.written _ few (run_length v _ _ _ _ _ _ _ a p.long) }
+          record { alike = a; long = p.long; room = written-room _ _ _ _ _ _ _ w.written _ few (run_length v _ _ _ _ a p.long) }
 
       pub upto_next : {out' : List ℕ} {next : ℕ} → Wrote (run q v k) at out out' next → Upto q v out₀ (k + 1) out' next
       upto_next d = record { fits = w.fits; written = wrote-next _ _ _ _ _ _ _ _ _ _ w.written few refl d }

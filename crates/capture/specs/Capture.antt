@@ -2,7 +2,8 @@
 use Rattle.std.specs.Prelude.{Bool, List, [], ◌++◌, ◌≡◌, ℕ, ◌≤◌, ◌<◌, length}
 use Rattle.theory.specs.Logic.{when◌then◌else◌, ◌and◌}
 use Rattle.theory.specs.Items.{items_from}
-use Rattle.inventory.specs.Inventory.{Row, row_at, row_count, present, values_size, parts_size, value_of}
+use Rattle.inventory.specs.declared.Row.{Row}
+use Rattle.inventory.specs.Inventory.{row_at, row_count, present, values_size, parts_size, value_of}
 use Rattle.inventory.specs.Header.{header_of}
 use Rattle.parts.specs.declared.ListForm.TheVariants.{Headers}
 use Rattle.parts.specs.List.{parts_of, among}

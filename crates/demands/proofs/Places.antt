@@ -14,7 +14,8 @@ use Rattle.theory.specs.Items.{items_from}
 use Rattle.theory.proofs.Tests.{both, same_true, never}
 use Rattle.theory.proofs.Table.{every, at}
 use Rattle.wire.specs.Le.{bytes}
-use Rattle.inventory.specs.Inventory.{Row, rows, row_at, row_count, present, part_count, place_of}
+use Rattle.inventory.specs.declared.Row.{Row}
+use Rattle.inventory.specs.Inventory.{rows, row_at, row_count, present, part_count, place_of}
 use Rattle.inventory.specs.Header.{header_of, header_size}
 use Rattle.inventory.proofs.Rules.{table, every-row, every-count}
 use Rattle.inventory.proofs.Find.{place_found, own-place}

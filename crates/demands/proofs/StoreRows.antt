@@ -43,21 +43,15 @@ notify-rows (suc (suc (suc (suc k)))) h = absurd (omega arith)
 
 -- the n-th of them, if the member has it
 nth-there : (first q n : ℕ) → n < q → q ≤ 4 → nth_of first (queue_rows q) n ≡ Some (first + n)
-unfolding nth_of queue_rows when◌then◌else◌
-nth-there first q n h l =
-    by_cases (ltb q 4) (λ e. rw (e, lt-ltb n q h)) (λ e. rw (e, lt-ltb n 4 (omega arith)))
+unfolding nth_of when◌then◌else◌
+nth-there first q n h l = rw (lt-ltb n (queue_rows q) (omega arith))
 
 nth-below : (first q n i : ℕ) → q ≤ 4 → nth_of first (queue_rows q) n ≡ Some i → (n < q) × (first + n ≡ i)
-unfolding nth_of queue_rows when◌then◌else◌
+unfolding nth_of when◌then◌else◌
 nth-below first q n i l e =
-    let k : (ltb n q ≡ true → (n < q) × (first + n ≡ i)) → (ltb n q ≡ false → (n < q) × (first + n ≡ i))
-    → (n < q) × (first + n ≡ i) = by_cases (ltb n q) in
-    by_cases (ltb q 4)
-    (λ a. k (λ b. (ltb-true n q b, let d : Some (first + n) ≡ Some i = rw (a, b) at e in cc)) (λ b. let d : None
-    ≡ Some i = rw (a, b) at e in never cc))
-    (λ a. by_cases (ltb n 4)
-    (λ b. (omega tests, let d : Some (first + n) ≡ Some i = rw (a, b) at e in cc))
-    (λ b. let d : None ≡ Some i = rw (a, b) at e in never cc))
+    by_cases (ltb n (queue_rows q))
+    (λ a. (omega (arith, ltb-true n (queue_rows q) a), let d : Some (first + n) ≡ Some i = rw a at e in cc))
+    (λ a. let d : None ≡ Some i = rw a at e in never cc)
 
 -- the place of each type
 module _ (q s : ℕ) where

@@ -2,7 +2,8 @@
 use Rattle.std.specs.Prelude.{◌≡◌, List, [], ◌∷◌, ℕ, ◌+◌, ◌*◌, ◌≤◌, ◌<◌, length, get_or, Some, None}
 use Rattle.theory.specs.Logic.{when◌then◌else◌}
 use Rattle.theory.specs.Bytes.{bytes_at}
-use Rattle.inventory.specs.Inventory.{Row, rows, row_at, row_count, present, part_count, place_of}
+use Rattle.inventory.specs.declared.Row.{Row}
+use Rattle.inventory.specs.Inventory.{rows, row_at, row_count, present, part_count, place_of}
 use Rattle.inventory.specs.Header.{header_of, header_size}
 use Rattle.capture.specs.Capture.{headers_of}
 

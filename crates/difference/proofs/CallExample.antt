@@ -4,7 +4,8 @@ use mathlib.Core.Bool.{Bool, true}
 use native.Mathlib.Omega.{arith}
 use Rattle.theory.specs.Logic.{when◌then◌else◌}
 use Rattle.theory.proofs.Table.{every}
-use Rattle.inventory.specs.Inventory.{Row, rows, present}
+use Rattle.inventory.specs.declared.Row.{Row}
+use Rattle.inventory.specs.Inventory.{rows, present}
 use Rattle.inventory.proofs.Rules.{every-row}
 use Rattle.parts.specs.declared.ListForm.TheVariants.{Parts}
 use Rattle.parts.specs.List.{parts_of, among}

@@ -7,31 +7,26 @@ use borrow.Author.Tests.{ltb-true, ltb-false, not-true, not-false}
 use lib.Dec.{ltb}
 use lib.ListN.{get_or}
 use Rattle.theory.proofs.Tests.{by_cases, both, and_i, true-and, false-and, true-or, or-true, false-or}
-use Rattle.inventory.specs.Inventory.{row, row_at, row_count, present}
-use Rattle.inventory.proofs.Columns.{types, selectors, type_at, selector-at, present-at}
+use Rattle.inventory.specs.Inventory.{row_at, row_count, present}
 use Rattle.parts.specs.List.{PartList, among}
 use Rattle.difference.specs.Difference.{has_row, has_rows}
 
 -- ---- the turns of the loop ----
 
 module _ (queues : ℕ) (ps : PartList) (x : Bool) (i : ℕ) (e : x ≡ has_rows queues ps (row_count - i) i) where
-  -- b: the list has the part of row i, as the tables have the row
-  module _ (b : Bool) (told : b ≡ has_row queues ps (row (get_or types i 0) (get_or selectors i 0) 0)) (h : i < row_count) where
-    own : has_row queues ps (row_at i) ≡ b
-    unfolding has_row
-    own = sym (told ∙ rw (present-at queues i, type_at i, selector-at i))
-
+  -- b: the list has the part of row i
+  module _ (b : Bool) (told : b ≡ has_row queues ps (row_at i)) (h : i < row_count) where
     pub rows_out : not b ≡ true → x ≡ false
     unfolding has_rows
     rows_out n =
         let k : row_count - i ≡ suc (row_count - (i + 1)) = omega arith in
-        e ∙ rw (k, own, not-true b n) (false-and _)
+        e ∙ rw (k, ← told, not-true b n) (false-and _)
 
     pub rows_on : not b ≡ false → x ≡ has_rows queues ps (row_count - (i + 1)) (i + 1)
     unfolding has_rows
     rows_on n =
         let k : row_count - i ≡ suc (row_count - (i + 1)) = omega arith in
-        e ∙ rw (k, own, not-false b n) (true-and _)
+        e ∙ rw (k, ← told, not-false b n) (true-and _)
 
   pub rows_end : row_count ≤ i → x ≡ true
   unfolding has_rows

@@ -4,7 +4,8 @@ use Rattle.std.specs.Prelude.{Bool, true, not, List, [], ◌++◌, ℕ, zero, su
 use Rattle.theory.specs.Logic.{when◌then◌else◌, unless◌answer◌then◌, ◌and◌, ◌or◌}
 use Rattle.theory.specs.Bytes.{bytes_at, put}
 use Rattle.theory.specs.Items.{items_from}
-use Rattle.inventory.specs.Inventory.{Row, row_at, row_count, present, parts_size, selector_of}
+use Rattle.inventory.specs.declared.Row.{Row}
+use Rattle.inventory.specs.Inventory.{row_at, row_count, present, parts_size, selector_of}
 use Rattle.inventory.specs.Header.{header_of, header_size}
 use Rattle.parts.specs.declared.ListForm.TheVariants.{Parts}
 use Rattle.parts.specs.List.{PartList, end, cut, part, parts_of, among}

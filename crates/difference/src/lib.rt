@@ -3,7 +3,6 @@
 
 ghost use Rattle.std.specs.Prelude.{◌≡◌, ◌+◌, ◌<◌, ◌≤◌, length};
 ghost use Rattle.theory.specs.Bytes.{put};
-ghost use Rattle.inventory.specs.Inventory.{row};
 ghost use Rattle.parts.specs.List.{parts_of};
 ghost use Rattle.rules.specs.Rules.{cause_of, is_accepted};
 ghost use Rattle.capture.specs.Runs.{Wrote};
@@ -12,7 +11,7 @@ ghost use Rattle.difference.specs.Difference.{span_of, place_in, has_row, is_ful
 ghost use Rattle.difference.specs.Under.{lookup_under, merge_under};
 ghost use Rattle.difference.specs.Handed.{PartOf, Handed, Inside};
 
-use inventory::{HEADER_SIZE, ROWS, SELECTORS, SIZES, TYPES};
+use inventory::{HEADER_SIZE, INVENTORY, Row};
 use parts::ListForm;
 
 // Where the value of a part stands in a list.
@@ -105,27 +104,23 @@ fn is_good(queues: u8, features: &[u8], list: &[u8]) -> bool
 }
 
 // Whether a list has the part of a row, if a member with so many queues has it.
-fn has_row(queues: u8, list: &[u8], row_type: u16, row_selector: u8) -> bool
-    ensures { result ≡ has_row queues (parts_of ListForm.Parts list.now) (row row_type row_selector 0) }
+fn has_row(queues: u8, list: &[u8], row: Row) -> bool
+    ensures { result ≡ has_row queues (parts_of ListForm.Parts list.now) row }
 {
-    if !inventory::is_present(queues, row_type, row_selector) {
+    if !row.is_present(queues) {
         return true;
     }
-    parts::contains(ListForm::Parts, list, row_type, row_selector as u64)
+    parts::contains(ListForm::Parts, list, row.part_type, row.selector as u64)
 }
 
 // Whether a list lacks no part of the inventory.
 fn is_full(queues: u8, list: &[u8]) -> bool
     ensures { result ≡ is_full queues list.now }
 {
-    let types = TYPES;
-    let selectors = SELECTORS;
-    let mut i = 0;
-    while i < ROWS {
-        if !has_row(queues, list, types[i], selectors[i]) {
+    for row in INVENTORY {
+        if !has_row(queues, list, row) {
             return false;
         }
-        i += 1;
     }
     true
 }
@@ -272,23 +267,15 @@ pub fn find_place(
 // ---- making one list ----
 
 // The part of a row, the table's header and the value looked up. Returns the place after it.
-fn write_part<'a>(
-    out: &mut [u8],
-    at: usize,
-    full: &'a [u8],
-    later: &'a [u8],
-    row_type: u16,
-    row_selector: u8,
-    size: u8,
-) -> usize
-    requires { at + length (made_part full.now later.now (row row_type row_selector size)) ≤ length out.old }
-    ensures { Wrote (made_part full.now later.now (row row_type row_selector size)) at out.old out.new result }
+fn write_part<'a>(out: &mut [u8], at: usize, full: &'a [u8], later: &'a [u8], row: Row) -> usize
+    requires { at + length (made_part full.now later.now row) ≤ length out.old }
+    ensures { Wrote (made_part full.now later.now row) at out.old out.new result }
 {
-    inventory::write_header(out, at, row_type, row_selector as u32, size);
+    row.write_header(out, at);
     let value = part_at(
         full,
         later,
-        place_in(full, later, row_type, row_selector as u64),
+        place_in(full, later, row.part_type, row.selector as u64),
     );
     wire::copy(out, at + HEADER_SIZE, value);
     at + HEADER_SIZE + value.len()
@@ -299,18 +286,11 @@ fn write_made<'a>(out: &mut [u8], queues: u8, full: &'a [u8], later: &'a [u8])
     requires { length (made queues full.now later.now) ≤ length out.old }
     ensures { out.new ≡ put 0 (made queues full.now later.now) out.old }
 {
-    let types = TYPES;
-    let selectors = SELECTORS;
-    let sizes = SIZES;
     let mut at = 0;
-    let mut i = 0;
-    while i < ROWS {
-        if inventory::is_present(queues, types[i], selectors[i]) {
-            at = write_part(out, at, full, later, types[i], selectors[i], sizes[i]);
-            i += 1;
-            continue;
+    for row in INVENTORY {
+        if row.is_present(queues) {
+            at = write_part(out, at, full, later, row);
         }
-        i += 1;
     }
 }
 

@@ -12,7 +12,8 @@ use Rattle.std.specs.Prelude.{Option, Some, None}
 use Rattle.theory.specs.Logic.{when◌then◌else◌}
 use Rattle.theory.proofs.Tests.{by_cases, both, never}
 use Rattle.theory.proofs.Table.{every}
-use Rattle.inventory.specs.Inventory.{Row, row, rows, row_at, row_count, present, is_row, seek, place_of}
+use Rattle.inventory.specs.declared.Row.{Row}
+use Rattle.inventory.specs.Inventory.{row, rows, row_at, row_count, present, is_row, seek, place_of}
 use Rattle.inventory.proofs.Rules.{table, every-row, every-count}
 
 -- ---- what is found ----
@@ -32,7 +33,7 @@ found q t s i h e =
     record { below = h; type-is = eqb-true _ _ b.0; selector-is = eqb-true _ _ b.1; there = a.1 }
 
 -- in rows that are those of the table from k on
-seek_found : (q t s : ℕ) (rs : List Row) (k i : ℕ) → k + length rs ≡ row_count → ((j : ℕ) → get_or rs j (row 0 0 0) ≡ row_at (k + j))
+seek_found : (q t s : ℕ) (rs : List Row) (k i : ℕ) → k + length rs ≡ row_count → ((j : ℕ) → get_or rs j (row 0 0 0 0) ≡ row_at (k + j))
     → seek q t s rs k ≡ Some i → Found q t s i
 unfolding seek when◌then◌else◌
 seek_found q t s [] k i n same e = never cc

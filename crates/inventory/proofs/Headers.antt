@@ -13,7 +13,8 @@ use Rattle.theory.proofs.Tests.{bool-byte, indicator-le}
 use Rattle.theory.proofs.Bytes.{put-append, put-comm}
 use Rattle.wire.specs.Le.{bytes, number}
 use Rattle.wire.proofs.Le.{le_bytes, bytes-append}
-use Rattle.inventory.specs.Inventory.{row, row_at, row_count, device_features}
+use Rattle.inventory.specs.declared.Row.{Row}
+use Rattle.inventory.specs.Inventory.{row_at, row_count, device_features}
 use Rattle.inventory.specs.Header.{flags_at, selector_at, length_at, header_of, flags_of}
 use Rattle.inventory.proofs.Rules.{type-below, selector-below, size_below}
 
@@ -27,31 +28,31 @@ unfolding bytes indicator
 flags-two true = refl
 flags-two false = refl
 
-module _ (t s n : ℕ) (h : t < 2 ^ 16) (k : s < 2 ^ 32) where
+module _ (r : Row) (h : r.part_type < 2 ^ 16) (k : r.selector < 2 ^ 32) where
   abbrev flags : ℕ
-  flags = indicator (eqb t device_features)
+  flags = flags_of r
 
-  first_word : bytes 8 (t + 2 ^ 16 * (flags + 2 ^ 16 * s)) ≡ bytes 2 t ++ (flags ∷ 0 ∷ bytes 4 s)
+  first_word : bytes 8 (r.part_type + 2 ^ 16 * (flags + 2 ^ 16 * r.selector)) ≡ bytes 2 r.part_type ++ (flags ∷ 0 ∷ bytes 4 r.selector)
   first_word =
-      bytes-append 2 6 t (flags + 2 ^ 16 * s) h
-      ∙ ap (bytes 2 t ++◌) (bytes-append 2 4 flags s (omega (arith, indicator-le (eqb t device_features))) ∙ rw (flags-two (eqb t device_features)))
+      bytes-append 2 6 r.part_type (flags + 2 ^ 16 * r.selector) h
+      ∙ ap (bytes 2 r.part_type ++◌) (bytes-append 2 4 flags r.selector (omega (arith, indicator-le (eqb r.part_type device_features))) ∙ rw (flags-two (eqb r.part_type device_features)))
 
-  second_word : bytes 8 (2 ^ 32 * n) ≡ bytes 4 0 ++ bytes 4 n
-  second_word = ap (bytes 8) (omega arith) ∙ bytes-append 4 4 0 n (omega arith)
+  second_word : bytes 8 (2 ^ 32 * r.size) ≡ bytes 4 0 ++ bytes 4 r.size
+  second_word = ap (bytes 8) (omega arith) ∙ bytes-append 4 4 0 r.size (omega arith)
 
-  selector-wide : bytes 8 s ≡ bytes 4 s ++ bytes 4 0
-  selector-wide = ap (bytes 8) (omega arith) ∙ bytes-append 4 4 s 0 (omega arith)
+  selector-wide : bytes 8 r.selector ≡ bytes 4 r.selector ++ bytes 4 0
+  selector-wide = ap (bytes 8) (omega arith) ∙ bytes-append 4 4 r.selector 0 (omega arith)
 
-  header_is : bytes 8 (t + 2 ^ 16 * (flags + 2 ^ 16 * s)) ++ bytes 8 (2 ^ 32 * n) ≡ header_of (row t s n)
+  header_is : bytes 8 (r.part_type + 2 ^ 16 * (flags + 2 ^ 16 * r.selector)) ++ bytes 8 (2 ^ 32 * r.size) ≡ header_of r
   unfolding header_of
   header_is = rw (first_word, second_word, selector-wide) (simp append_assoc)
 
-  pub header-put : (at : ℕ) (out out₁ out₂ : List ℕ) (w : ℕ) → w ≡ t + 2 ^ 16 * (flags + 2 ^ 16 * s)
-      → out₁ ≡ put (at + 8) (bytes 8 (2 ^ 32 * n)) out → out₂ ≡ put at (bytes 8 w) out₁ → out₂ ≡ put at (header_of (row t s n)) out
+  pub header-put : (at : ℕ) (out out₁ out₂ : List ℕ) (w : ℕ) → w ≡ r.part_type + 2 ^ 16 * (flags + 2 ^ 16 * r.selector)
+      → out₁ ≡ put (at + 8) (bytes 8 (2 ^ 32 * r.size)) out → out₂ ≡ put at (bytes 8 w) out₁ → out₂ ≡ put at (header_of r) out
   unfolding bytes
   header-put at out out₁ out₂ w e p q =
-      let x = bytes 8 (t + 2 ^ 16 * (flags + 2 ^ 16 * s)) in
-      let y = bytes 8 (2 ^ 32 * n) in
+      let x = bytes 8 (r.part_type + 2 ^ 16 * (flags + 2 ^ 16 * r.selector)) in
+      let y = bytes 8 (2 ^ 32 * r.size) in
       q ∙ rw (p, e, ← header_is) (put-comm at x (at + 8) y out (omega arith) ∙ sym (put-append at x y out))
 
 -- ---- read back from the front of a list ----

@@ -1,4 +1,3 @@
-pub mod Columns
 pub mod Rules
 pub mod Values
 pub mod Find

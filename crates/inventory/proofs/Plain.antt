@@ -16,7 +16,7 @@ use Rattle.wire.specs.Le.{number}
 use Rattle.wire.proofs.Le.{number_append, number-below}
 use Rattle.inventory.specs.Inventory.{offset_of, rows}
 use Rattle.inventory.specs.Queue.{power_below, ring_size, queue_size, enabled_at, queue_allowed, queue_row, queues_allowed}
-use Rattle.inventory.specs.Worked.{number_before, plain_queue, plain_at, plain_queues}
+use Rattle.inventory.specs.Worked.{plain_queue, plain_at, plain_queues}
 use Rattle.inventory.proofs.Powers.{power-tested}
 use Rattle.inventory.proofs.Queue.{allowed_at, all-allowed}
 
@@ -40,14 +40,24 @@ some_size q n =
     ap (λ x. eqb x 0) b ∙ power-tested 16 s (omega arith) (omega arith)
     ∙ sym (rw (ne_eqb q 0 (λ e. n (omega arith))) (false-or _))
 
-plain-tested : (q r : ℕ) → q < 2 ^ 64 → r ≡ number_before (q % 2 ^ 16) → eqb (bit_and q r) 0 ≡ plain_queue q
-unfolding plain_queue number_before when◌then◌else◌
+-- the number before s in eight bytes, as the library takes one from s
+abbrev before : ℕ → ℕ
+before s = (s + 18446744073709551615) % 18446744073709551616
+
+plain-tested : (q r : ℕ) → q < 2 ^ 64 → r ≡ before (q % 2 ^ 16) → eqb (bit_and q r) 0 ≡ plain_queue q
+unfolding plain_queue
 plain-tested q r h e =
     by_cases (eqb (q % 2 ^ 16) 0)
-    (λ t. rw (e, t) (no_size q h (eqb-true _ _ t)))
-    (λ t. rw (e, t) (some_size q (eqb-false _ _ t)))
+    (λ t.
+    let z = eqb-true _ _ t in
+    let d : r ≡ 2 ^ 64 - 1 = omega arith in
+    rw d (no_size q h z))
+    (λ t.
+    let z = eqb-false _ _ t in
+    let d : r ≡ q % 2 ^ 16 - 1 = omega arith in
+    rw d (some_size q z))
 
-pub plain-first : (l : List ℕ) (at q r : ℕ) → q ≡ number at 8 l → q < 2 ^ 64 → r ≡ number_before (q % 65536)
+pub plain-first : (l : List ℕ) (at q r : ℕ) → q ≡ number at 8 l → q < 2 ^ 64 → r ≡ before (q % 65536)
     → eqb (bit_and q r) 0 ≡ plain_queue (number at 8 l)
 plain-first l at q r e h d = plain-tested q r h d ∙ ap plain_queue e
 

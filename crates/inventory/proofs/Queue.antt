@@ -74,16 +74,13 @@ queue-place (suc (suc (suc zero))) l = refl
 queue-place (suc (suc (suc (suc k)))) l = absurd (omega arith)
 
 pub rows_few : (q n : ℕ) → n ≡ queue_rows q → n ≤ 4
-unfolding queue_rows when◌then◌else◌
-rows_few q n e = rw e (by_cases (ltb q 4) (λ t. rw t (omega (arith, ltb-true q 4 t))) (λ t. rw t (omega arith)))
+rows_few q n e = omega arith
 
 within-rows : (q k : ℕ) → k < queue_rows q → k < q
-unfolding queue_rows when◌then◌else◌
-within-rows q k h = by_cases (ltb q 4) (λ t. rw t at h) (λ t. let i : k < 4 = rw t at h in omega (arith, ltb-false q 4 t))
+within-rows q k h = omega arith
 
 rows-within : (q k : ℕ) → k < q → k < 4 → k < queue_rows q
-unfolding queue_rows when◌then◌else◌
-rows-within q k h l = by_cases (ltb q 4) (λ t. rw t h) (λ t. rw t l)
+rows-within q k h l = omega arith
 
 -- those below k are allowed, of n that have rows
 module _ (q : ℕ) (v : List ℕ) (n : ℕ) (e : n ≡ queue_rows q) where
@@ -115,7 +112,7 @@ module _ (q : ℕ) (v : List ℕ) (n : ℕ) (e : n ≡ queue_rows q) where
 
 -- ---- and as rows of the table ----
 
-queue-row : (k : ℕ) → k < 4 → row_at (queue_row k) ≡ row queue k queue_size
+queue-row : (k : ℕ) → k < 4 → row_at (queue_row k) ≡ row queue k queue_size (45 + 32 * k)
 unfolding table
 queue-row zero l = refl
 queue-row (suc zero) l = refl

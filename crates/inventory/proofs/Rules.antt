@@ -9,7 +9,8 @@ use lib.ListN.{length}
 use Rattle.theory.specs.Logic.{◌and◌, ◌or◌, indicator, when◌then◌else◌}
 use Rattle.theory.proofs.Table.{every, at}
 use Rattle.wire.specs.Le.{bytes}
-use Rattle.inventory.specs.Inventory.{Row, row, rows, row_at, row_count, features_row, device_features, features_size, present, offset_of, values_size, selector_of, is_row, seek, place_of}
+use Rattle.inventory.specs.declared.Row.{Row}
+use Rattle.inventory.specs.Inventory.{row, rows, row_at, row_count, features_row, device_features, features_size, present, offset_of, values_size, selector_of, is_row, seek, place_of}
 use Rattle.inventory.specs.Header.{header_of, header_size}
 
 -- what computes where a proof says `unfolding table`
@@ -26,7 +27,7 @@ row-count = refl
 -- a test of each row and its index holds at each
 pub every-row : (f : ℕ → Row → Bool) → every f 0 rows ≡ true → (i : ℕ) → i < row_count → f i (row_at i) ≡ true
 unfolding row_at
-every-row f t i h = at f (row 0 0 0) rows t i (rw row-count h)
+every-row f t i h = at f (row 0 0 0 0) rows t i (rw row-count h)
 
 -- and of each queue count
 abbrev counts : List ℕ
@@ -57,6 +58,10 @@ module _ (i : ℕ) (h : i < row_count) where
 
   -- ---- places of values: running sums ----
 
+  pub offset-own : (row_at i).offset ≡ offset_of i
+  unfolding table
+  offset-own = eqb-true _ _ (every-row (λ k r. eqb r.offset (offset_of k)) refl i h)
+
   pub offset-next : offset_of (i + 1) ≡ offset_of i + (row_at i).size
   unfolding table
   offset-next = eqb-true _ _ (every-row (λ k r. eqb (offset_of (k + 1)) (offset_of k + r.size)) refl i h)
@@ -81,7 +86,7 @@ module _ (i : ℕ) (h : i < row_count) where
       let t = every-row (λ k r. not (eqb r.part_type device_features) or eqb k 0) refl i h in
       eqb-true i 0 (rw (eq-eqb _ _ e) at t)
 
-pub row_zero : row_at features_row ≡ row device_features 0 features_size
+pub row_zero : row_at features_row ≡ row device_features 0 features_size 0
 unfolding table
 row_zero = refl
 

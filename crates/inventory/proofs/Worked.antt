@@ -22,18 +22,13 @@ turned k n h = ne_eqb k n (λ e. h (sym e))
 
 -- a number below 4 is that of a queue with rows if it is that of a queue; no other one is
 below_rows : (q n : ℕ) → n < 4 → ltb n (queue_rows q) ≡ ltb n q
-unfolding queue_rows when◌then◌else◌
 below_rows q n h =
-    by_cases (ltb q 4)
-    (λ e. rw e)
-    (λ e. rw (e, lt-ltb n 4 h, lt-ltb n q (omega (arith, ltb-false q 4 e))))
+    by_cases (ltb n q)
+    (λ e. rw e (lt-ltb n (queue_rows q) (omega (arith, ltb-true n q e))))
+    (λ e. rw e (le-ltb n (queue_rows q) (omega (arith, ltb-false n q e))))
 
 past-rows : (q n : ℕ) → 4 ≤ n → ltb n (queue_rows q) ≡ false
-unfolding queue_rows when◌then◌else◌
-past-rows q n h =
-    by_cases (ltb q 4)
-    (λ e. rw e (le-ltb n q (omega (arith, ltb-true q 4 e))))
-    (λ e. rw e (le-ltb n 4 h))
+past-rows q n h = le-ltb n (queue_rows q) (omega arith)
 
 -- the search among the four rows of such a type
 unfoldable among : ℕ → ℕ → ℕ → Option ℕ

@@ -2,7 +2,8 @@
 use Rattle.std.specs.Prelude.{List, ◌∷◌, ◌++◌, ℕ, eqb}
 use Rattle.theory.specs.Logic.{indicator}
 use Rattle.wire.specs.Le.{bytes}
-use Rattle.inventory.specs.Inventory.{Row, device_features}
+use Rattle.inventory.specs.declared.Row.{Row}
+use Rattle.inventory.specs.Inventory.{device_features}
 
 -- type 2 bytes, flags 1, reserved 1, selector 8, length 4
 abbrev pub flags_at : ℕ

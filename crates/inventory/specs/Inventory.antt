@@ -2,6 +2,8 @@
 use Rattle.std.specs.Prelude.{Bool, List, [], ◌∷◌, map, ℕ, ◌+◌, ◌*◌, ◌%◌, ◌^◌, ltb, eqb, get_or, take, Option, Some, None}
 use Rattle.theory.specs.Logic.{when◌then◌else◌, ◌and◌, ◌or◌}
 use Rattle.theory.specs.Bytes.{bytes_at}
+-- a part's type and selector, the length of its value, and where the code's table says that it starts
+use Rattle.inventory.specs.declared.Row.{Row}
 
 -- the types of parts
 abbrev pub device_features : ℕ
@@ -26,24 +28,18 @@ queue_notify = 0x105
 abbrev pub features_size : ℕ
 features_size = 16
 
--- a part's type and selector, and the length of its value
-pub record Row : Type 0 where
-  pub part_type : ℕ
-  pub selector : ℕ
-  pub size : ℕ
-
-abbrev pub row : ℕ → ℕ → ℕ → Row
-row t s n = record { part_type = t; selector = s; size = n }
+abbrev pub row : ℕ → ℕ → ℕ → ℕ → Row
+row t s n o = record { part_type = t; selector = s; size = n; offset = o }
 
 -- the table of a member with four queues, by type, then selector
 unfoldable pub rows : List Row
 rows =
-    row device_features 0 features_size
-    ∷ row driver_features 0 features_size
-    ∷ row pci_common 0 4 ∷ row pci_common 8 4 ∷ row pci_common 16 2 ∷ row pci_common 22 2  -- by offset
-    ∷ row device_status 0 1
-    ∷ row queue 0 32 ∷ row queue 1 32 ∷ row queue 2 32 ∷ row queue 3 32  -- by index
-    ∷ row queue_notify 0 8 ∷ row queue_notify 1 8 ∷ row queue_notify 2 8 ∷ row queue_notify 3 8  -- by index
+    row device_features 0 features_size 0
+    ∷ row driver_features 0 features_size 16
+    ∷ row pci_common 0 4 32 ∷ row pci_common 8 4 36 ∷ row pci_common 16 2 40 ∷ row pci_common 22 2 42  -- by offset
+    ∷ row device_status 0 1 44
+    ∷ row queue 0 32 45 ∷ row queue 1 32 77 ∷ row queue 2 32 109 ∷ row queue 3 32 141  -- by index
+    ∷ row queue_notify 0 8 173 ∷ row queue_notify 1 8 181 ∷ row queue_notify 2 8 189 ∷ row queue_notify 3 8 197  -- by index
     ∷ []
 
 abbrev pub row_count : ℕ
@@ -54,13 +50,14 @@ abbrev pub features_row : ℕ
 features_row = 0
 
 unfoldable pub row_at : ℕ → Row
-row_at i = get_or rows i (row 0 0 0)
+row_at i = get_or rows i (row 0 0 0 0)
 
 -- a member with so many queues has the part of a row: all but those of queues that it has not got
 unfoldable pub present : ℕ → Row → Bool
 present queues r = ltb r.part_type queue or ltb r.selector queues
 
--- a member's values stand one after the other, in the order of the table for four queues
+-- A member's values stand one after the other, in the order of the table for four queues. ../proofs/Rules.antt proves that
+-- the table's offsets are these sums.
 abbrev pub total : List ℕ → ℕ
 total [] = 0
 total (n ∷ ns) = n + total ns

@@ -1,6 +1,6 @@
 -- The row of a part worked out from its type and selector, and the quick test of queues, for the private functions that do
 -- so. No public contract cites this. Assumes nothing.
-use Rattle.std.specs.Prelude.{Bool, List, ℕ, ◌+◌, ◌-◌, ◌%◌, ◌^◌, ltb, eqb, Option, Some, None}
+use Rattle.std.specs.Prelude.{Bool, List, ℕ, ◌+◌, ◌%◌, ◌^◌, min, ltb, eqb, Option, Some, None}
 use Rattle.theory.specs.Logic.{when◌then◌else◌, ◌and◌, ◌or◌}
 use Rattle.wire.specs.Le.{number}
 use Rattle.inventory.specs.Inventory.{offset_of}
@@ -20,12 +20,8 @@ field_at offset =
     None
 
 -- the table has rows for four queues
-unfoldable pub queue_rows : ℕ → ℕ
-queue_rows queues = when ltb queues 4 then queues else 4
-
--- the number before n in eight bytes, where all bits stand before 0
-unfoldable pub number_before : ℕ → ℕ
-number_before n = when eqb n 0 then 2 ^ 64 - 1 else n - 1
+abbrev pub queue_rows : ℕ → ℕ
+queue_rows queues = min queues 4
 
 -- the first eight bytes of a queue's value, as a number: all are 0, or the size, which is the first two, is a power of two
 unfoldable pub plain_queue : ℕ → Bool

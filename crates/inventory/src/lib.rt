@@ -1,5 +1,4 @@
-// The inventory of a member's parts, SPEC 5.2: constant tables, and the place of a part in them. A loop over the rows
-// binds the tables first, since each read of a constant table builds it anew.
+// The inventory of a member's parts, SPEC 5.2: a constant table, and the place of a part in it.
 #![tactic(auto)]
 
 mod rings;
@@ -7,8 +6,8 @@ mod rings;
 ghost use Rattle.std.specs.Prelude.{◌≡◌, ◌+◌, ◌*◌, ◌^◌, ◌≤◌, ◌<◌, eqb, length};
 ghost use Rattle.theory.specs.Logic.{indicator};
 ghost use Rattle.theory.specs.Bytes.{put};
-ghost use Rattle.inventory.specs.Inventory.{row, row_at, row_count, device_features, offset_of, present, selector_of, place_of, part_count, parts_size, values_size};
-ghost use Rattle.inventory.specs.Worked.{nth_of, field_at, queue_rows};
+ghost use Rattle.inventory.specs.Inventory.{row_at, row_count, device_features, offset_of, present, selector_of, place_of, part_count, parts_size, values_size};
+ghost use Rattle.inventory.specs.Worked.{nth_of, field_at};
 ghost use Rattle.inventory.specs.Header.{header_of, header_size};
 ghost use Rattle.inventory.specs.Queue.{value_allowed, queues_allowed};
 
@@ -58,55 +57,57 @@ const FIRST_QUEUE: usize = 7;
 
 const FIRST_NOTIFY: usize = 11;
 
-pub const TYPES: [u16; ROWS] = [
-    DEVICE_FEATURES,
-    DRIVER_FEATURES,
-    PCI_COMMON,
-    PCI_COMMON,
-    PCI_COMMON,
-    PCI_COMMON,
-    DEVICE_STATUS,
-    QUEUE,
-    QUEUE,
-    QUEUE,
-    QUEUE,
-    QUEUE_NOTIFY,
-    QUEUE_NOTIFY,
-    QUEUE_NOTIFY,
-    QUEUE_NOTIFY,
-];
+// A part's type and selector, and where its value stands among a member's values: its size, and the sum of the sizes before it.
+#[derive(Clone, Copy)]
+pub struct Row {
+    pub part_type: u16,
+    pub size: u8,
+    pub offset: u8,
+    pub selector: u32,
+}
 
-pub const SELECTORS: [u8; ROWS] = [0, 0, 0, 8, 16, 22, 0, 0, 1, 2, 3, 0, 1, 2, 3];
+// A row, written as type, selector, size and offset.
+macro_rules! row {
+    ($part_type:expr, $selector:expr, $size:expr, $offset:expr) => {
+        Row {
+            part_type: $part_type,
+            size: $size,
+            offset: $offset,
+            selector: $selector,
+        }
+    };
+}
 
-pub const SIZES: [u8; ROWS] = [16, 16, 4, 4, 2, 2, 1, 32, 32, 32, 32, 8, 8, 8, 8];
-
-// Where a row's value starts among a member's values: the sum of the sizes before it.
-pub const OFFSETS: [u8; ROWS] = [
-    0, 16, 32, 36, 40, 42, 44, 45, 77, 109, 141, 173, 181, 189, 197,
+pub const INVENTORY: [Row; ROWS] = [
+    row!(DEVICE_FEATURES, 0, 16, 0),
+    row!(DRIVER_FEATURES, 0, 16, 16),
+    row!(PCI_COMMON, 0, 4, 32),
+    row!(PCI_COMMON, 8, 4, 36),
+    row!(PCI_COMMON, 16, 2, 40),
+    row!(PCI_COMMON, 22, 2, 42),
+    row!(DEVICE_STATUS, 0, 1, 44),
+    row!(QUEUE, 0, 32, 45),
+    row!(QUEUE, 1, 32, 77),
+    row!(QUEUE, 2, 32, 109),
+    row!(QUEUE, 3, 32, 141),
+    row!(QUEUE_NOTIFY, 0, 8, 173),
+    row!(QUEUE_NOTIFY, 1, 8, 181),
+    row!(QUEUE_NOTIFY, 2, 8, 189),
+    row!(QUEUE_NOTIFY, 3, 8, 197),
 ];
 
 pub fn size_of(i: usize) -> usize
     requires { i < row_count }
     ensures { result ≡ (row_at i).size }
 {
-    SIZES[i] as usize
+    INVENTORY[i].size as usize
 }
 
 pub fn offset_of(i: usize) -> usize
     requires { i < row_count }
     ensures { result ≡ offset_of i }
 {
-    OFFSETS[i] as usize
-}
-
-// Whether a member with so many queues has the part of a row.
-pub fn is_present(queues: u8, row_type: u16, row_selector: u8) -> bool
-    ensures { result ≡ present queues (row row_type row_selector 0) }
-{
-    if row_type < QUEUE {
-        return true;
-    }
-    row_selector < queues
+    INVENTORY[i].offset as usize
 }
 
 // Of the eight selector bytes those that the type names.
@@ -140,71 +141,58 @@ fn nth_of(first: usize, count: u8, n: u64) -> Option<usize>
 fn field_at(offset: u64) -> Option<usize>
     ensures { result ≡ field_at offset }
 {
-    if offset == 0 {
-        return Some(FIRST_FIELD);
+    match offset {
+        0 => Some(FIRST_FIELD),
+        8 => Some(FIRST_FIELD + 1),
+        16 => Some(FIRST_FIELD + 2),
+        22 => Some(FIRST_FIELD + 3),
+        _ => None,
     }
-    if offset == 8 {
-        return Some(FIRST_FIELD + 1);
-    }
-    if offset == 16 {
-        return Some(FIRST_FIELD + 2);
-    }
-    if offset == 22 {
-        return Some(FIRST_FIELD + 3);
-    }
-    None
-}
-
-// The queues that have rows, of a member with so many.
-fn queue_rows(queues: u8) -> u8
-    ensures { result ≡ queue_rows queues }
-{
-    if queues < MOST_QUEUES {
-        return queues;
-    }
-    MOST_QUEUES
 }
 
 // The row of a type and selector, if a member with so many queues has that part: worked out, with no search of the tables.
 pub fn place_of(queues: u8, t: u16, selector: u64) -> Option<usize>
     ensures { result ≡ place_of queues t selector }
 {
-    if t == QUEUE {
-        return nth_of(FIRST_QUEUE, queue_rows(queues), selector);
+    let count = queues.min(MOST_QUEUES);
+    match t {
+        QUEUE => nth_of(FIRST_QUEUE, count, selector),
+        QUEUE_NOTIFY => nth_of(FIRST_NOTIFY, count, selector),
+        PCI_COMMON => field_at(selector),
+        DEVICE_STATUS => nth_of(STATUS_ROW, 1, selector),
+        DRIVER_FEATURES => nth_of(DRIVER_ROW, 1, selector),
+        DEVICE_FEATURES => nth_of(FEATURES_ROW, 1, selector),
+        _ => None,
     }
-    if t == QUEUE_NOTIFY {
-        return nth_of(FIRST_NOTIFY, queue_rows(queues), selector);
-    }
-    if t == PCI_COMMON {
-        return field_at(selector);
-    }
-    if t == DEVICE_STATUS {
-        return nth_of(STATUS_ROW, 1, selector);
-    }
-    if t == DRIVER_FEATURES {
-        return nth_of(DRIVER_ROW, 1, selector);
-    }
-    if t == DEVICE_FEATURES {
-        return nth_of(FEATURES_ROW, 1, selector);
-    }
-    None
 }
 
-// The first eight bytes of a header, as a number: type, flags and selector, which takes no more than four of its bytes.
-fn first_word(row_type: u16, row_selector: u32) -> u64
-    ensures { result ≡ row_type + 2 ^ 16 * (indicator (eqb row_type device_features) + 2 ^ 16 * row_selector) }
-{
-    let flags = (row_type == DEVICE_FEATURES) as u64;
-    row_type as u64 + TWO_BYTES * (flags + TWO_BYTES * (row_selector as u64))
-}
+impl Row {
+    // Whether a member with so many queues has the part of this row.
+    pub fn is_present(self, queues: u8) -> bool
+        ensures { result ≡ present queues self }
+    {
+        if self.part_type < QUEUE {
+            return true;
+        }
+        self.selector < queues as u32
+    }
 
-// The header of a row's part, written at a place: two words, the second first, since the compiler then needs fewer stores.
-pub fn write_header(out: &mut [u8], at: usize, row_type: u16, row_selector: u32, size: u8)
-    requires { at + header_size ≤ length out.old }
-    ensures { out.new ≡ put at (header_of (row row_type row_selector size)) out.old }
-{
-    wire::write(out, at + 8, 8, FOUR_BYTES * (size as u64));
-    wire::write(out, at, 8, first_word(row_type, row_selector));
+    // The first eight bytes of its header, as a number: type, flags and selector, which takes no more than four of its bytes.
+    fn first_word(self) -> u64
+        ensures { result ≡ self.part_type + 2 ^ 16 * (indicator (eqb self.part_type device_features) + 2 ^ 16 * self.selector) }
+    {
+        let flags = (self.part_type == DEVICE_FEATURES) as u64;
+        self.part_type as u64 + TWO_BYTES * (flags + TWO_BYTES * (self.selector as u64))
+    }
+
+    // Its header, written at a place: two words, the second first, since the compiler then needs fewer stores.
+    pub fn write_header(self, out: &mut [u8], at: usize)
+        requires { at + header_size ≤ length out.old }
+        ensures { out.new ≡ put at (header_of self) out.old }
+    {
+        wire::write(out, at + 8, 8, FOUR_BYTES * (self.size as u64));
+        wire::write(out, at, 8, self.first_word());
+    }
 }
 
 // The number of parts that a member with so many queues has.

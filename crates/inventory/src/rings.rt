@@ -3,10 +3,10 @@ ghost use Rattle.std.specs.Prelude.{◌≡◌, ◌+◌, ◌*◌, ◌≤◌, ◌<
 ghost use Rattle.theory.specs.Bytes.{bytes_at};
 ghost use Rattle.wire.specs.Le.{number};
 ghost use Rattle.inventory.specs.Inventory.{values_size};
-ghost use Rattle.inventory.specs.Worked.{number_before, plain_queue, plain_queues};
+ghost use Rattle.inventory.specs.Worked.{plain_queue, plain_queues};
 ghost use Rattle.inventory.specs.Queue.{ring_size, queue_size, queue_allowed, queues_allowed};
 
-use super::{QUEUE_SIZE, TWO_BYTES};
+use super::{MOST_QUEUES, QUEUE_SIZE, TWO_BYTES};
 
 // In the value of a queue the size stands first, and the enabled field from byte 4 on, two bytes each.
 const ENABLED_AT: usize = 4;
@@ -41,25 +41,12 @@ pub fn is_each_allowed(queues: u8, values: &[u8]) -> bool
     requires { length values.now ≡ values_size }
     ensures { result ≡ queues_allowed queues values.now }
 {
-    let count = super::queue_rows(queues);
-    let mut k: u8 = 0;
-    while k < count {
+    for k in 0..queues.min(MOST_QUEUES) {
         if !is_queue_allowed(values, QUEUES_AT + QUEUE_SIZE * (k as usize)) {
             return false;
         }
-        k += 1;
     }
     true
-}
-
-// The number before one, that before 0 with all bits: one subtraction, since the compiler drops the test.
-fn before(n: u64) -> u64
-    ensures { result ≡ number_before n }
-{
-    if n == 0 {
-        return 0xffff_ffff_ffff_ffff;
-    }
-    n - 1
 }
 
 // The bits that cast doubt on the queue at a place: its first eight bytes, and the number before its size. None, if the size
@@ -69,7 +56,7 @@ fn doubt(values: &[u8], at: usize) -> u64
     ensures { eqb result 0 ≡ plain_queue (number at 8 values.now) }
 {
     let first = wire::read_u64(values, at);
-    first & before(first % TWO_BYTES)
+    first & (first % TWO_BYTES).wrapping_sub(1)
 }
 
 // Those of all queues, whose values start where OFFSETS says.

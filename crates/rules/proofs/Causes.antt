@@ -12,7 +12,6 @@ use Rattle.theory.proofs.Tests.{by_cases, true-or, false-or}
 use Rattle.theory.specs.Bytes.{same}
 use Rattle.inventory.specs.Inventory.{row_at, device_features, selector_of, place_of}
 use Rattle.inventory.specs.Queue.{value_allowed}
-use Rattle.inventory.proofs.Columns.{sizes, size-at}
 use Rattle.inventory.proofs.Rules.{table}
 use Rattle.parts.specs.List.{Part, PartList, end, cut, part, part_with, whole}
 use Rattle.rules.specs.declared.Cause.{Cause}
@@ -86,8 +85,6 @@ module _ (q : ℕ) (features : List ℕ) (d : Bool) (found : Result (Unit {0}) C
     cause-absent m y p h =
         e ∙ rw (first, cause-part, absent-is q t s f v features seen p (other-type q t s m y p), p, ← h)
 
-    pub cause-row : (i : ℕ) → place_of q t s ≡ Some i → k ≡ row_checked (get_or sizes i 0) (get_or seen i false) t v features
+    pub cause-row : (i : ℕ) → place_of q t s ≡ Some i → k ≡ row_checked (row_at i).size (get_or seen i false) t v features
         → x ≡ cause_left q features d (first_of found k) (set seen i true) qs
-    cause-row i p h =
-        let m : k ≡ row_checked (row_at i).size (get_or seen i false) t v features = h ∙ rw (size-at i) in
-        e ∙ rw (first, cause-part, row-is q t s f v features seen i p, p, ← m)
+    cause-row i p h = e ∙ rw (first, cause-part, row-is q t s f v features seen i p, p, ← h)

@@ -9,7 +9,7 @@ ghost use Rattle.parts.specs.List.{parts_of};
 ghost use Rattle.rules.specs.Rules.{known, asks_known, every, repeated, cause_of, asked_of};
 ghost use Rattle.rules.specs.PartCauses.{absent_checked, row_checked, first_of, decided};
 
-use inventory::{DEVICE_FEATURES, ROWS, SIZES};
+use inventory::{DEVICE_FEATURES, INVENTORY, ROWS};
 use parts::ListForm;
 
 // A part of this type or above is never skipped.
@@ -164,7 +164,7 @@ fn decide(first: Result<(), Cause>, list: &[u8], queues: u8) -> Result<(), Cause
 pub fn check_list(queues: u8, features: &[u8], list: &[u8]) -> Result<(), Cause>
     ensures { result ≡ cause_of queues features.now list.now }
 {
-    let sizes = SIZES;
+    let rows = INVENTORY;
     let mut seen = [false; ROWS];
     let mut first = Ok(());
     for part in parts::read(ListForm::Parts, list) {
@@ -176,7 +176,7 @@ pub fn check_list(queues: u8, features: &[u8], list: &[u8]) -> Result<(), Cause>
             first = first_of(first, check_absent(t, part.flags));
             continue;
         };
-        first = first_of(first, check_row(sizes[i], seen[i], t, part.value, features));
+        first = first_of(first, check_row(rows[i].size, seen[i], t, part.value, features));
         seen[i] = true;
     }
     decide(first, list, queues)

@@ -12,7 +12,8 @@ use Rattle.theory.specs.Bytes.{put, same}
 use Rattle.theory.specs.Items.{items_from}
 use Rattle.theory.proofs.Table.{every}
 use Rattle.wire.specs.Le.{le, bytes, number}
-use Rattle.inventory.specs.Inventory.{Row, rows, row_at, present, offset_of, selector_of, is_row, seek, place_of}
+use Rattle.inventory.specs.declared.Row.{Row}
+use Rattle.inventory.specs.Inventory.{rows, row_at, present, offset_of, selector_of, is_row, seek, place_of}
 use Rattle.inventory.specs.Queue.{power_below, ring_size, queue_allowed, value_allowed}
 use Rattle.inventory.specs.Header.{header_of}
 use Rattle.inventory.proofs.Rules.{every-row}

@@ -15,8 +15,7 @@ use Rattle.theory.proofs.Tests.{bool-byte}
 use Rattle.theory.proofs.Bytes.{put_one}
 use Rattle.theory.proofs.Sums.{sum_from, length-items}
 use Rattle.theory.proofs.Items.{Written, written_start, written-room, written_next, written-skip}
-use Rattle.inventory.specs.Inventory.{row, row_at, row_count, present, part_count}
-use Rattle.inventory.proofs.Columns.{types, selectors, present-at}
+use Rattle.inventory.specs.Inventory.{row_at, row_count, present, part_count}
 use Rattle.inventory.proofs.Rules.{table, every-count}
 use Rattle.salvage.specs.Walk.{flag_item, KeptFits}
 
@@ -44,13 +43,10 @@ flags-start q kept out h =
 -- ---- a turn of the loop ----
 
 module _ (q : ℕ) (kept out₀ out : List ℕ) (at i : ℕ) (w : Written (flag_item q kept) row_count 0 out₀ out at i) (h : i < row_count)
-    (b : Bool) (told : b ≡ present q (row (get_or types i 0) (get_or selectors i 0) 0)) where
-  there : b ≡ present q (row_at i)
-  there = told ∙ present-at q i
-
+    (b : Bool) (told : b ≡ present q (row_at i)) where
   item-there : b ≡ true → flag_item q kept i ≡ indicator (not (eqb (get_or kept i 0) 0)) ∷ []
   unfolding flag_item when◌then◌else◌
-  item-there y = rw (← there, y)
+  item-there y = rw (← told, y)
 
   pub flags-room : b ≡ true → at < length out
   flags-room y = let r = written-room _ _ _ _ _ _ _ w 1 h (ap length (item-there y)) in omega arith
@@ -65,4 +61,4 @@ module _ (q : ℕ) (kept out₀ out : List ℕ) (at i : ℕ) (w : Written (flag_
 
   pub flags-skip : b ≡ false → Written (flag_item q kept) row_count 0 out₀ out at (i + 1)
   unfolding flag_item when◌then◌else◌
-  flags-skip n = written-skip _ _ _ _ _ _ _ w h (rw (← there, n))
+  flags-skip n = written-skip _ _ _ _ _ _ _ w h (rw (← told, n))

@@ -8,7 +8,7 @@ ghost use Rattle.setups.specs.Member.{member_setup};
 ghost use Rattle.salvage.specs.Salvage.{value_right, salvage, salvaged, is_taken, salvage_of, salvage_under};
 ghost use Rattle.salvage.specs.Walk.{counted, state, taken, Sized, Countable, Walked, Begins, flags_of, KeptFits, Fits};
 
-use inventory::{DEVICE_FEATURES, HEADER_SIZE, ROWS, SELECTORS, TYPES};
+use inventory::{DEVICE_FEATURES, HEADER_SIZE, INVENTORY, ROWS};
 use member::{FEATURES_SIZE, VALUES_SIZE};
 use parts::{LONGEST_LIST, ListForm};
 
@@ -115,18 +115,12 @@ fn write_kept(out: &mut [u8], rows: &[u8], queues: u8)
     requires { KeptFits queues rows.now out.old }
     ensures { out.new ≡ put 0 (flags_of queues rows.now) out.old }
 {
-    let types = TYPES;
-    let selectors = SELECTORS;
     let mut at = 0;
-    let mut i = 0;
-    while i < ROWS {
-        if inventory::is_present(queues, types[i], selectors[i]) {
+    for i in 0..ROWS {
+        if INVENTORY[i].is_present(queues) {
             out[at] = (rows[i] != 0) as u8;
             at += 1;
-            i += 1;
-            continue;
         }
-        i += 1;
     }
 }
 

@@ -1,7 +1,7 @@
 // What is said on standard error: the report of a list that is written, or why none is.
 use cause::Cause;
 use inventory::{
-    DEVICE_FEATURES, DEVICE_STATUS, DRIVER_FEATURES, PCI_COMMON, QUEUE, ROWS, SELECTORS, TYPES,
+    DEVICE_FEATURES, DEVICE_STATUS, DRIVER_FEATURES, INVENTORY, PCI_COMMON, QUEUE, ROWS, Row,
 };
 use std::{fmt, io};
 
@@ -15,14 +15,14 @@ const CAUSES: [&str; 4] = [
 
 // ---- the report ----
 
-// A part by its type and selector.
+// The part of a row, by its type and selector.
 #[derive(Clone, Copy)]
-struct Name(u16, u8);
+struct Name(Row);
 
 impl fmt::Display for Name {
     fn fmt<W: fmt::Write>(&self, f: &mut fmt::Formatter<W>) -> fmt::Result {
-        let Name(part_type, selector) = *self;
-        match part_type {
+        let selector = self.0.selector;
+        match self.0.part_type {
             DEVICE_FEATURES => write!(f, "device features"),
             DRIVER_FEATURES => write!(f, "driver features"),
             PCI_COMMON => write!(f, "PCI common field at {selector}"),
@@ -45,14 +45,10 @@ pub struct Report {
 
 impl fmt::Display for Report {
     fn fmt<W: fmt::Write>(&self, f: &mut fmt::Formatter<W>) -> fmt::Result {
-        let present = TYPES.iter().zip(&SELECTORS).filter(|(kind, selector)| inventory::is_present(
-            self.queues,
-            **kind,
-            **selector,
-        ));
-        for ((part_type, selector), flag) in present.zip(&self.kept) {
+        let present = INVENTORY.iter().filter(|row| row.is_present(self.queues));
+        for (row, flag) in present.zip(&self.kept) {
             let fate = if *flag == 1 { "kept" } else { "filled" };
-            writeln!(f, "{}: {fate}", Name(*part_type, *selector))?;
+            writeln!(f, "{}: {fate}", Name(*row))?;
         }
         for (cause, count) in CAUSES.iter().zip(&self.dropped) {
             writeln!(f, "dropped, {cause}: {count}")?;

@@ -7,9 +7,6 @@ use Rattle.theory.proofs.Sums.{sum_from}
 use Rattle.capture.proofs.Sizes.{item_size}
 use Rattle.capture.proofs.asked_bytes.Given as goal
 
-abbrev pub invariant-loop-i : goal.invariant-loop-i
-invariant-loop-i l = (l.i ≤ row_count) × (l.n ≤ 272 * l.i)
-    × (l.n + sum_from (item_size Asked l.queues l.asked) (row_count - l.i) l.i ≡ sum_from (item_size Asked l.queues l.asked) row_count 0)
-
-abbrev pub decreases-loop-i : goal.decreases-loop-i
-decreases-loop-i l = row_count - l.i
+abbrev pub invariant-loop-row : goal.invariant-loop-row
+invariant-loop-row l = (l.n ≤ 272 * l.row-index)
+    × (l.n + sum_from (item_size Asked l.queues l.asked) (row_count - l.row-index) l.row-index ≡ sum_from (item_size Asked l.queues l.asked) row_count 0)

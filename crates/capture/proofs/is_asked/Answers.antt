@@ -1,20 +1,11 @@
-use borrow.Author.Rules.{rules}
 use Rattle.theory.proofs.Ladder.{ladder}
 use Rattle.capture.specs.Capture.{asks}
 use Rattle.capture.proofs.is_asked.Goals as goal
 
-pub is_present-requires : goal.is_present-requires
+pub returns-then-is_present : goal.returns-then-is_present
 unfolding asks
-is_present-requires c = search rules
+returns-then-is_present c = search ladder
 
-pub returns-then-not-is_present : goal.returns-then-not-is_present
+pub returns-else-is_present : goal.returns-else-is_present
 unfolding asks
-returns-then-not-is_present c = search ladder
-
-pub contains-requires : goal.contains-requires
-unfolding asks
-contains-requires c = search rules
-
-pub returns : goal.returns
-unfolding asks
-returns c = search ladder
+returns-else-is_present c = search ladder

@@ -1,23 +1,23 @@
 -- A run for each type and size, each where the one before it ends.
-use Rattle.inventory.specs.Inventory.{rows}
+use Rattle.inventory.specs.Inventory.{row_at, rows}
 use Rattle.capture.proofs.Runs.{upto-none, run-asks, upto_next, upto_all}
 use Rattle.capture.proofs.write_all.Goals as goal
 
 pub write_run-at-requires : goal.write_run-at-requires
-unfolding rows
+unfolding row_at rows
 write_run-at-requires c =
     let w0 = upto-none c.requires in
     run-asks w0 tt
 
 pub write_run-at-requires-2 : goal.write_run-at-requires-2
-unfolding rows
+unfolding row_at rows
 write_run-at-requires-2 c =
     let w0 = upto-none c.requires in
     let w1 = upto_next w0 tt c.write_run-at.ensures in
     run-asks w1 tt
 
 pub write_run-at-requires-3 : goal.write_run-at-requires-3
-unfolding rows
+unfolding row_at rows
 write_run-at-requires-3 c =
     let w0 = upto-none c.requires in
     let w1 = upto_next w0 tt c.write_run-at.ensures in
@@ -25,7 +25,7 @@ write_run-at-requires-3 c =
     run-asks w2 tt
 
 pub write_run-at-requires-4 : goal.write_run-at-requires-4
-unfolding rows
+unfolding row_at rows
 write_run-at-requires-4 c =
     let w0 = upto-none c.requires in
     let w1 = upto_next w0 tt c.write_run-at.ensures in
@@ -34,7 +34,7 @@ write_run-at-requires-4 c =
     run-asks w3 tt
 
 pub write_run-at-requires-5 : goal.write_run-at-requires-5
-unfolding rows
+unfolding row_at rows
 write_run-at-requires-5 c =
     let w0 = upto-none c.requires in
     let w1 = upto_next w0 tt c.write_run-at.ensures in
@@ -44,7 +44,7 @@ write_run-at-requires-5 c =
     run-asks w4 tt
 
 pub write_run-at-requires-6 : goal.write_run-at-requires-6
-unfolding rows
+unfolding row_at rows
 write_run-at-requires-6 c =
     let w0 = upto-none c.requires in
     let w1 = upto_next w0 tt c.write_run-at.ensures in
@@ -55,7 +55,7 @@ write_run-at-requires-6 c =
     run-asks w5 tt
 
 pub write_run-requires : goal.write_run-requires
-unfolding rows
+unfolding row_at rows
 write_run-requires c =
     let w0 = upto-none c.requires in
     let w1 = upto_next w0 tt c.write_run-at.ensures in

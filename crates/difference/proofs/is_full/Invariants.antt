@@ -7,8 +7,6 @@ use Rattle.parts.specs.List.{parts_of}
 use Rattle.difference.specs.Difference.{has_rows}
 use Rattle.difference.proofs.is_full.Given as goal
 
-abbrev pub invariant-loop-i : goal.invariant-loop-i
-invariant-loop-i l = has_rows l.queues (parts_of Parts l.list) row_count 0 ≡ has_rows l.queues (parts_of Parts l.list) (row_count - l.i) l.i
-
-abbrev pub decreases-loop-i : goal.decreases-loop-i
-decreases-loop-i l = row_count - l.i
+abbrev pub invariant-loop-row : goal.invariant-loop-row
+invariant-loop-row l = has_rows l.queues (parts_of Parts l.list) row_count 0
+    ≡ has_rows l.queues (parts_of Parts l.list) (row_count - l.row-index) l.row-index

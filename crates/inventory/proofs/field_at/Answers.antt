@@ -1,37 +1,25 @@
--- Its tests are those of the definition, in the same order.
-use borrow.Author.Rules.{rules}
+-- Each case is one of the definition's.
+use Rattle.theory.specs.Logic.{when◌then◌else◌}
 use Rattle.theory.proofs.Ladder.{ladder}
 use Rattle.inventory.specs.Worked.{field_at}
 use Rattle.inventory.proofs.field_at.Goals as goal
 
-pub returns-then-offset-eq0 : goal.returns-then-offset-eq0
-unfolding field_at
-returns-then-offset-eq0 c = search ladder
+pub returns-in-0 : goal.returns-in-0
+unfolding field_at when◌then◌else◌
+returns-in-0 c = rw c.in-0.is
 
-pub overflow_add-result : goal.overflow_add-result
-unfolding field_at
-overflow_add-result c = search rules
+pub returns-in-8 : goal.returns-in-8
+unfolding field_at when◌then◌else◌
+returns-in-8 c = rw c.in-8.is
 
-pub returns-then-offset-eq8 : goal.returns-then-offset-eq8
-unfolding field_at
-returns-then-offset-eq8 c = search ladder
+pub returns-in-16 : goal.returns-in-16
+unfolding field_at when◌then◌else◌
+returns-in-16 c = rw c.in-16.is
 
-pub overflow_add-result-then-offset-eq16 : goal.overflow_add-result-then-offset-eq16
-unfolding field_at
-overflow_add-result-then-offset-eq16 c = search rules
+pub returns-in-22 : goal.returns-in-22
+unfolding field_at when◌then◌else◌
+returns-in-22 c = rw c.in-22.is
 
-pub returns-then-offset-eq16 : goal.returns-then-offset-eq16
+pub returns-in_default : goal.returns-in_default
 unfolding field_at
-returns-then-offset-eq16 c = search ladder
-
-pub overflow_add-result-then-offset-eq22 : goal.overflow_add-result-then-offset-eq22
-unfolding field_at
-overflow_add-result-then-offset-eq22 c = search rules
-
-pub returns-then-offset-eq22 : goal.returns-then-offset-eq22
-unfolding field_at
-returns-then-offset-eq22 c = search ladder depth 9
-
-pub returns : goal.returns
-unfolding field_at
-returns c = search ladder depth 9
+returns-in_default c = search ladder

@@ -1,5 +1,6 @@
 use Rattle.std.proofs.Common.{rules, sym, ◌∙◌}
-use Rattle.inventory.specs.Inventory.{rows}
+use native.Mathlib.Omega.{arith}
+use Rattle.inventory.specs.Inventory.{row_at, rows}
 use Rattle.inventory.proofs.Places.{row_in}
 use Rattle.parts.proofs.Reader.{part_given, cut_given, selector_given}
 use Rattle.rules.proofs.Seen.{none}
@@ -20,8 +21,13 @@ loop-part-preserved-in_default-place_of c =
     (cause-absent _ _ _ _ _ c.loop-part.invariant _ _ _ _ (part_given c.in-Some.ensures.steps c.in-Ok.is) _
     n.0 n.1 (sym c.in_default-place_of.ensures) c.check_absent.ensures)
 
-pub bounds-sizes-i : goal.bounds-sizes-i
-bounds-sizes-i c = search (rules, row_in)
+pub offset_bounds-rows-i : goal.offset_bounds-rows-i
+offset_bounds-rows-i c =
+    let l = row_in _ _ _ _ c.place_of.ensures _ c.in-Some-place_of.is in
+    omega arith
+
+pub bounds-rows-i : goal.bounds-rows-i
+bounds-rows-i c = search (rules, row_in)
 
 pub bounds-seen-i : goal.bounds-seen-i
 bounds-seen-i c = search (rules, row_in)
@@ -30,7 +36,7 @@ pub bounds-seen-i-in-loop-part : goal.bounds-seen-i-in-loop-part
 bounds-seen-i-in-loop-part c = search (rules, row_in)
 
 pub loop-part-preserved : goal.loop-part-preserved
-unfolding rows
+unfolding row_at rows
 loop-part-preserved c =
     rw c.first_of-first-in-loop-part.ensures
     (cause-row _ _ _ _ _ c.loop-part.invariant _ _ _ _ (part_given c.in-Some.ensures.steps c.in-Ok.is) _
