@@ -41,14 +41,12 @@ fn is_each_sound(card: &[u8], most: &[u8]) -> bool
     requires { (length card.now ≡ card_size (setup_of card.now).members) × IsMost (setup_of card.now) most.now }
     ensures { result ≡ sound_up_to (setup_of card.now) card.now (setup_of card.now).members }
 {
-    let mut m = super::wide(card[MEMBERS_AT]);
     let mut at = card.len();
-    while 0 < m {
+    for _member in (0..card[MEMBERS_AT]).rev() {
         at -= RECORD_SIZE;
         if !is_sound_at(card, at, most) {
             return false;
         }
-        m -= 1;
     }
     true
 }

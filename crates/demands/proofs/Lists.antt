@@ -2,11 +2,13 @@
 use mathlib.Core.Path.{◌≡◌, refl, ap, sym, ◌∙◌}
 use mathlib.Core.Bool.{true}
 use mathlib.Core.List.{List, ◌++◌}
+use Rattle.std.specs.Prelude.{IfSome}
+use Rattle.std.proofs.Common.{Some, Ok}
 use Prim.Native.Nat.{ℕ, ◌+◌, ◌-◌, ◌≤◌, ◌<◌}
 use native.Mathlib.Omega.{arith}
 use lib.ListN.{length, get_or, drop}
 use Rattle.theory.specs.Logic.{unless◌answer◌then◌, within}
-use Rattle.theory.proofs.Tests.{by_cases, never, inside, within_low, within-high}
+use Rattle.theory.proofs.Tests.{unless-cases, inside, within_low, within-high}
 use Rattle.protocol.specs.declared.ObjectKind.TheVariants.{Get}
 use Rattle.protocol.specs.Opcodes.{bit}
 use Rattle.inventory.specs.Inventory.{parts_size}
@@ -21,8 +23,9 @@ use Rattle.member.specs.Member.{features_in, with_values}
 use Rattle.setups.specs.declared.Setup.{Setup}
 use Rattle.setups.specs.declared.MemberSetup.{MemberSetup}
 use Rattle.setups.specs.Reading.{read_setup}
-use Rattle.setups.specs.Member.{no_member, member_of, member_read, member_setup}
+use Rattle.setups.specs.Member.{member_of, member_read, member_setup}
 use Rattle.setups.proofs.InRange.{read-cases}
+use Rattle.setups.specs.Claims.{MemberInRange}
 use Rattle.setups.proofs.Member.{member-in-range}
 use Rattle.card.specs.Layout.{in_use_of, member_in, with_member}
 use Rattle.reply.specs.Reply.{head_of}
@@ -41,31 +44,23 @@ use Rattle.demands.proofs.Setting.{member, capture-is, settable, member_set, car
 
 -- ---- what a setup says of a member ----
 
-known-within : (s : Setup) (m : ℕ) → (member_of s m).known ≡ true → within 1 s.members m ≡ true
-unfolding member_of no_member unless◌answer◌then◌
-known-within s m e = by_cases (within 1 s.members m) (λ y. y) (λ n. never (rw n at e))
+has-member : (s : Setup) (m : ℕ) → IfSome (member_of s m) (λ x. HasMember (Ok s) m)
+unfolding member_of
+has-member s m =
+    unless-cases (λ o. IfSome o (λ x. HasMember (Ok s) m)) (within 1 s.members m) _ _ (λ t. tt) λ t.
+    record { setup = s; read = refl; low = within_low 1 s.members m t; high = within-high 1 s.members m t }
 
-known_member : (setup : List ℕ) (m : ℕ) → (member_setup setup m).known ≡ true → HasMember (read_setup setup) m
-unfolding member_setup no_member
-known_member setup m =
-    read-cases (λ o. (member_read o m).known ≡ true → HasMember o m) setup (λ k. never k)
-    (λ s r k.
-    let t = known-within s m k in
-    record { setup = s; read = refl; low = within_low 1 s.members m t; high = within-high 1 s.members m t })
+only-members : (setup : List ℕ) (m : ℕ) → IfSome (member_setup setup m) (λ x. HasMember (read_setup setup) m)
+unfolding member_setup
+only-members setup m = read-cases (λ o. IfSome (member_read o m) (λ x. HasMember o m)) setup tt (λ s r. has-member s m)
 
 member-said : (setup : List ℕ) (m : ℕ) (h : HasMember (read_setup setup) m)
-    → member_setup setup m ≡ record { known = true; queues = get_or h.setup.queues (m - 1) 0; features = h.setup.features }
+    → member_setup setup m ≡ Some (record { queues = get_or h.setup.queues (m - 1) 0; features = h.setup.features })
 unfolding member_setup member_of unless◌answer◌then◌
 member-said setup m h = rw (h.read, inside 1 h.setup.members m h.low h.high)
 
 pub members-known : MembersKnown
-members-known setup m =
-    record {
-      known = λ h. ap (λ (y : MemberSetup). y.known) (member-said setup m h);
-      only = known_member setup m;
-      queues = λ h. ap (λ (y : MemberSetup). y.queues) (member-said setup m h);
-      features = λ h. ap (λ (y : MemberSetup). y.features) (member-said setup m h);
-    }
+members-known setup m = record { known = member-said setup m; only = only-members setup m }
 
 -- ---- two lists set one after the other, and the list made of them ----
 
@@ -154,10 +149,10 @@ module _ (c : List ℕ) (m j : ℕ) (x : Settable c m j) (full later : List ℕ)
 
 module _ (c : List ℕ) (m j : ℕ) (setup : List ℕ) (k : ℕ) (x : Settable c m j) (y : Alike c m (member_setup setup k)) where
   abbrev s : MemberSetup
-  s = member_setup setup k
+  s = y.said
 
   in-setup : InSetup s.queues s.features
-  in-setup = let r = member-in-range setup k y.known in record { count = r.count; long = r.features }
+  in-setup = let r : MemberInRange s = rw y.known at (member-in-range setup k) in record { count = r.count; long = r.features }
 
   few-queues : s.queues < 5
   few-queues = omega (arith, within-high 1 4 s.queues in-setup.count)
@@ -170,25 +165,26 @@ module _ (c : List ℕ) (m j : ℕ) (setup : List ℕ) (k : ℕ) (x : Settable c
 
 pub merged-sets : MergedSets
 merged-sets c m j setup k x y full later out e f l r room =
-    let s = member_setup setup k in
-    let p = merged-made s y.known (few-queues c m j setup k x y) full later out e in
-    rw (p.bytes, ← y.queues) (set-alike c m j x full later (own_pair c m j setup k x y full later p.pair) r room f l)
+    let s = y.said in
+    let p = merged-made s (few-queues c m j setup k x y) full later out (rw y.known at e) in
+    rw (y.known, p.bytes, ← y.queues) (set-alike c m j x full later (own_pair c m j setup k x y full later p.pair) r room f l)
 
 pub found-captured : FoundCaptured
 found-captured c m j setup k x y i get in_use full later t selector e f l r room =
-    let s = member_setup setup k in
+    let s = y.said in
     let few = few-queues c m j setup k x y in
-    let p = found-pair s y.known few full later t selector e in
+    let p = found-pair s few full later t selector (rw y.known at e) in
     let own = own_pair c m j setup k x y full later p in
-    rw (captured-made c m j x full later own r (omega arith) f l i get in_use room, y.queues) (found-made s y.known few full later t selector p)
+    rw (captured-made c m j x full later own r (omega arith) f l i get in_use room, y.known, y.queues) (found-made s few full later t selector p)
 
 pub salvaged-accepted : SalvagedAccepted
 salvaged-accepted c m j setup k x y damaged b some r room =
-    let s = member_setup setup k in
+    let s = y.said in
     let g = in-setup c m j setup k x y in
     let few = few-queues c m j setup k x y in
     let n = repaired-long s.queues s.features damaged g in
     let a = (salvage.claims).passes s.queues s.features damaged g in
-    rw (salvage-written s y.known g damaged b some)
+    let written = rw y.known at some in
+    rw (y.known, salvage-written s g damaged b written)
     (ap (λ (u : List ℕ × List ℕ). u.1)
     (set_is c m j x (repaired s.queues s.features damaged) (rw (y.queues, own-features c m j setup k x y) a) r room (omega arith)))

@@ -4,6 +4,7 @@ use Rattle.std.specs.Prelude.{Ok}
 use mathlib.Core.Path.{◌≡◌, refl, ap}
 use mathlib.Core.Bool.{true}
 use mathlib.Core.List.{List, [], ◌∷◌}
+use Rattle.std.proofs.Common.{Option, Some}
 use Prim.Native.Nat.{ℕ, ◌≤◌}
 use native.Mathlib.Omega.{arith}
 use lib.ListN.{length, replicate, take, drop}
@@ -40,8 +41,8 @@ settable =
 abbrev bench : List ℕ
 bench = 0x11 ∷ 0x04 ∷ 0x40 ∷ replicate 16 0
 
-abbrev says : MemberSetup
-says = record { known = true; queues = 1; features = replicate 16 0 }
+abbrev says : Option MemberSetup
+says = Some (record { queues = 1; features = replicate 16 0 })
 
 bench-says : member_setup bench 1 ≡ says
 unfolding model bit bits_at no_counts sixteen counts_from setup_at head_right is_version1 take_version1 read_setup member_of member_setup
@@ -53,7 +54,7 @@ member-said = record { setup = setup_with 2 (1 ∷ 1 ∷ []) 1 1 (replicate 16 0
 
 alike : Alike target 1 (member_setup bench 1)
 alike =
-    rw bench-says (record { known = refl; features = ap (λ (y : Setup). y.features) setup-target; queues = target-queues })
+    rw bench-says (record { said = record { queues = 1; features = replicate 16 0 }; known = refl; features = ap (λ (y : Setup). y.features) setup-target; queues = target-queues })
 
 abbrev full : List ℕ
 full = capture_of 1 (replicate 205 0)

@@ -1,6 +1,6 @@
 -- REQUESTS 7 AND 8: what a packed setup says of a member; and, on commands as bytes, lists that were made or salvaged under it are
 -- set in a member of a card. Assumes nothing.
-use Rattle.std.specs.Prelude.{◌≡◌, Result, Ok, true, List, [], ℕ, ◌+◌, ◌-◌, ◌≤◌, length, get_or, take, drop, Some}
+use Rattle.std.specs.Prelude.{◌≡◌, Result, Ok, true, List, [], ℕ, ◌+◌, ◌-◌, ◌≤◌, length, get_or, take, drop, Some, Option, IfSome}
 use Rattle.protocol.specs.declared.Mode.TheVariants.{Stopped}
 use Rattle.protocol.specs.declared.ObjectKind.TheVariants.{Get, Set}
 use Rattle.protocol.specs.Opcodes.{bit}
@@ -32,10 +32,9 @@ pub record HasMember (o : Result Setup ReadRefusal) (m : ℕ) : Type 0 where
 -- What the setup says of m, by which requests 7 and 8 go: m is known exactly if it is a member; its queue count and the device
 -- features are those that were read. Example: ../proofs/ListsExample.antt
 pub record SaysOf (setup : List ℕ) (m : ℕ) : Type 0 where
-  pub known : HasMember (read_setup setup) m → (member_setup setup m).known ≡ true
-  pub only : (member_setup setup m).known ≡ true → HasMember (read_setup setup) m
-  pub queues : (h : HasMember (read_setup setup) m) → (member_setup setup m).queues ≡ get_or h.setup.queues (m - 1) 0
-  pub features : (h : HasMember (read_setup setup) m) → (member_setup setup m).features ≡ h.setup.features
+  pub known : (h : HasMember (read_setup setup) m)
+      → member_setup setup m ≡ Some (record { queues = get_or h.setup.queues (m - 1) 0; features = h.setup.features })
+  pub only : IfSome (member_setup setup m) (λ s. HasMember (read_setup setup) m)
 
 abbrev pub MembersKnown : Type 0
 MembersKnown = (setup : List ℕ) (m : ℕ) → SaysOf setup m
@@ -49,10 +48,11 @@ pub record Settable (c : List ℕ) (m j : ℕ) : Type 0 where
   pub set_in_use : bit (in_use_of c) 0x10 ≡ true
 
 -- It has the device features and the queue count that a setup says of a member, "a member with that setup and queue count".
-pub record Alike (c : List ℕ) (m : ℕ) (s : MemberSetup) : Type 0 where
-  pub known : s.known ≡ true
-  pub features : (setup_of c).features ≡ s.features
-  pub queues : (member_in c m).queues ≡ s.queues
+pub record Alike (c : List ℕ) (m : ℕ) (o : Option MemberSetup) : Type 0 where
+  pub said : MemberSetup
+  pub known : o ≡ Some said
+  pub features : (setup_of c).features ≡ said.features
+  pub queues : (member_in c m).queues ≡ said.queues
 
 -- a list is set, with room for r bytes of reply: the card after it, and the reply
 abbrev pub set_list : List ℕ → ℕ → ℕ → List ℕ → ℕ → List ℕ × List ℕ
@@ -70,7 +70,7 @@ pub record SetAlike (c : List ℕ) (m j : ℕ) (full later merged : List ℕ) (r
   pub same : (set_list c m j merged r).0 ≡ after_both c m j full later r
 
 -- the bytes that a merge wrote at the front of its buffer
-abbrev pub merged_list : MemberSetup → List ℕ → List ℕ → List ℕ → List ℕ
+abbrev pub merged_list : Option MemberSetup → List ℕ → List ℕ → List ℕ → List ℕ
 merged_list s full later out = take (merge_under s full later out).1.0 (merge_under s full later out).1.1
 
 -- Request 7: a merge that is not refused, of two lists that fit a request. Example: ../proofs/ListsExample.antt, for all three
@@ -82,7 +82,7 @@ MergedSets =
     → (r : ℕ) → 8 ≤ r → SetAlike c m j full later (merged_list (member_setup setup k) full later out) r
 
 -- the value that a lookup hands back
-abbrev pub value_under : MemberSetup → List ℕ → List ℕ → ℕ → ℕ → List ℕ
+abbrev pub value_under : Option MemberSetup → List ℕ → List ℕ → ℕ → ℕ → List ℕ
 value_under s full later t selector = value_at full later (lookup_under s full later t selector)
 
 -- Whatever part is found, its value is the one that a full capture after both sets, through a live get object i, has for it.
@@ -97,7 +97,7 @@ FoundCaptured =
     ≡ value_under (member_setup setup k) (drop 8 (capture (after_both c m j full later r) m i r)) [] t selector
 
 -- the bytes that a salvage wrote at the front of its buffer; b is what was lent to it
-abbrev pub salvaged_list : MemberSetup → List ℕ → Salvage → List ℕ
+abbrev pub salvaged_list : Option MemberSetup → List ℕ → Salvage → List ℕ
 salvaged_list s damaged b = take (salvage_under s damaged b).written (salvage_under s damaged b).list
 
 -- Request 8: what is written, of a call that is not refused, is accepted.

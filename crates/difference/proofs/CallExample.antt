@@ -15,7 +15,7 @@ use Rattle.difference.proofs.Example.{model, features, full, later}
 
 -- what a setup says of a member with one queue; and the part that is asked, row 6 of the table
 abbrev member : MemberSetup
-member = record { known = true; queues = 1; features = features }
+member = record { queues = 1; features = features }
 
 abbrev has_part : Row → Bool
 has_part r = when present 1 r then among r.part_type r.selector (parts_of Parts full) else true
@@ -30,7 +30,7 @@ full-each i h y = rw y at (every-row (λ k r. has_part r) has_parts i h)
 
 asks-met : Asks member full later
 unfolding model
-asks-met = record { known = refl; full_accepted = refl; later_accepted = refl; lacks_none = full-each }
+asks-met = record { full_accepted = refl; later_accepted = refl; lacks_none = full-each }
 
 asked-met : Asked 1 0x103 0xff
 unfolding model

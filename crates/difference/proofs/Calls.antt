@@ -3,6 +3,8 @@
 use mathlib.Core.Path.{◌≡◌, refl, ap, sym, ◌∙◌}
 use mathlib.Core.Bool.{Bool, true, false}
 use mathlib.Core.List.{List, [], ◌∷◌, ◌++◌}
+use Rattle.std.specs.Prelude.{IfSome}
+use Rattle.std.proofs.Common.{Option, Some, None}
 use Prim.Native.Nat.{ℕ, ◌<◌, ◌≤◌}
 use native.Mathlib.Omega.{arith}
 use borrow.Author.Tests.{eqb-true, eqb-false, leb-true, le-leb, lt-leb}
@@ -20,6 +22,7 @@ use Rattle.rules.specs.Rules.{known, cause_of, is_accepted}
 use Rattle.restore.proofs.PartValues.{value_none, value_there}
 use Rattle.setups.specs.declared.MemberSetup.{MemberSetup}
 use Rattle.setups.specs.Member.{member_setup}
+use Rattle.setups.specs.Claims.{MemberInRange}
 use Rattle.setups.proofs.Member.{member-in-range}
 use Rattle.difference.specs.declared.Span.{Span}
 use Rattle.difference.specs.declared.Span.TheVariants.{Value, Nowhere}
@@ -29,7 +32,7 @@ use Rattle.difference.specs.declared.Lookup.TheVariants.{InLater, InFull, Refuse
 use Rattle.difference.specs.Difference.{span_of, on_span, place_in, is_full, verdict_of, code_of, lookup_of, lookup_told, made, merge_of}
 use Rattle.difference.specs.Under.{lookup_under, merge_under}
 use Rattle.difference.specs.Claims.{Pair}
-use Rattle.difference.specs.Calls.{HasEach, Asks, Refuses, Asked, Stands, Tells, Finds, Merges, CallClaims}
+use Rattle.difference.specs.Calls.{HasEach, Asks, Refuses, Asked, Stands, Tells, Finds, FindsUnder, Merges, MergesUnder, CallClaims}
 use Rattle.difference.proofs.Full.{full-there, there-full}
 use Rattle.difference.proofs.Handed.{verdict-refused, verdict-passed}
 use Rattle.difference.proofs.Places.{span_value, span-inside}
@@ -139,10 +142,9 @@ module _ (s : MemberSetup) (full later : List ℕ) where
         lacks_none = there-full q (parts_of Parts full) a.lacks_none row_count 0 refl;
       }
 
-  pub pair-asks : s.known ≡ true → Pair q features full later → Asks s full later
-  pair-asks k p =
+  pub pair-asks : Pair q features full later → Asks s full later
+  pair-asks p =
       record {
-        known = k;
         full_accepted = p.full_accepted;
         later_accepted = p.later_accepted;
         lacks_none = full-there q (parts_of Parts full) p.lacks_none;
@@ -150,16 +152,14 @@ module _ (s : MemberSetup) (full later : List ℕ) where
 
   -- a call that gives `refusal` with the number of the verdict
   refuses : {A : Type 0} (result : A) (refusal : ℕ → A) (asked room : Bool)
-      → (s.known ≡ false → result ≡ refusal 1)
-      → (s.known ≡ true → (v : Verdict) → verdict_of q features full later asked room ≡ v → (code_of v ≡ 0 → ⊥)
+      → ((v : Verdict) → verdict_of q features full later asked room ≡ v → (code_of v ≡ 0 → ⊥)
       → result ≡ refusal (code_of v))
       → Refuses s full later result refusal
-  refuses result refusal asked room unknown told =
+  refuses result refusal asked room told =
       record {
-        bad_setup = unknown;
-        bad_full = λ k a. told k BadFull (bad-full q features full later asked room a) (λ z. omega arith);
-        bad_later = λ k a b. told k BadLater (bad-later q features full later asked room a b) (λ z. omega arith);
-        lacks_part = λ k a b n. told k LacksPart (lacking q features full later asked room a b n) (λ z. omega arith);
+        bad_full = λ a. told BadFull (bad-full q features full later asked room a) (λ z. omega arith);
+        bad_later = λ a b. told BadLater (bad-later q features full later asked room a b) (λ z. omega arith);
+        lacks_part = λ a b n. told LacksPart (lacking q features full later asked room a b n) (λ z. omega arith);
       }
 
   -- ---- a lookup ----
@@ -169,39 +169,29 @@ module _ (s : MemberSetup) (full later : List ℕ) where
     named = selector_of t selector
 
     abbrev told : ℕ × (ℕ × (ℕ × ℕ))
-    told = lookup_told (lookup_under s full later t selector)
+    told = lookup_told (lookup_under (Some s) full later t selector)
 
-    find-known : s.known ≡ true → lookup_under s full later t selector ≡ lookup_of q features full later t selector
-    unfolding lookup_under unless◌answer◌then◌
-    find-known k = rw k
+    find-known : lookup_under (Some s) full later t selector ≡ lookup_of q features full later t selector
+    unfolding lookup_under
+    find-known = refl
 
-    find-unknown : s.known ≡ false → told ≡ (1, (0, (0, 0)))
-    unfolding lookup_under lookup_told unless◌answer◌then◌
-    find-unknown k = rw k
-
-    find-refused : s.known ≡ true → (v : Verdict) → verdict_of q features full later (known q t named) true ≡ v
+    find-refused : (v : Verdict) → verdict_of q features full later (known q t named) true ≡ v
         → (code_of v ≡ 0 → ⊥) → told ≡ (code_of v, (0, (0, 0)))
     unfolding lookup_of lookup_told
-    find-refused k v e n =
+    find-refused v e n =
         let l : lookup_of q features full later t selector ≡ Refused v =
         rw e (verdict-refused v Refused (place_in full later t named) n) in
-        ap lookup_told (find-known k ∙ l)
+        ap lookup_told (find-known ∙ l)
 
-    find-knows : told.0 ≡ 0 → s.known ≡ true
-    find-knows e =
-        by_cases s.known
-        (λ k. k)
-        (λ k. let z : ◌≡◌ {A = ℕ} 1 0 = sym (ap (λ (x : ℕ × (ℕ × (ℕ × ℕ))). x.0) (find-unknown k)) ∙ e in absurd (omega arith))
-
-    pub find-passes : s.known ≡ true → q < 5 → told.0 ≡ 0
+    pub find-passes : q < 5 → told.0 ≡ 0
         → Passes q features full later (known q t named) true
-    find-passes k few e = found-passes q features full later t selector few (rw (find-known k) at e)
+    find-passes few e = found-passes q features full later t selector few (rw find-known at e)
 
     find-done : q < 5 → Asks s full later → Asked q t selector → Tells full later t named told
     find-done few a k =
         let there = a.lacks_none k.row k.below k.there in
         let pair = asks-pair few a in
-        rw (find-known a.known, found-there q features full later pair t selector (asked-known q t selector few k))
+        rw (find-known, found-there q features full later pair t selector (asked-known q t selector few k))
         (place-tells full later t named (rw (k.type-is, k.selector-is) at there))
 
     find-outside : q < 5 → Asks s full later → (Asked q t selector → ⊥) → told ≡ (5, (0, (0, 0)))
@@ -209,7 +199,7 @@ module _ (s : MemberSetup) (full later : List ℕ) where
     find-outside few a n =
         let none : known q t named ≡ false =
         by_cases (known q t named) (λ y. absurd (n (known-asked q t selector y))) (λ z. z) in
-        ap lookup_told (find-known a.known ∙ found-outside q features full later (asks-pair few a) t selector none)
+        ap lookup_told (find-known ∙ found-outside q features full later (asks-pair few a) t selector none)
 
   -- ---- a merge ----
 
@@ -218,31 +208,21 @@ module _ (s : MemberSetup) (full later : List ℕ) where
     fits = leb (parts_size q) (length out)
 
     abbrev merged : ℕ × (ℕ × List ℕ)
-    merged = merge_under s full later out
+    merged = merge_under (Some s) full later out
 
-    merge-unknown : s.known ≡ false → merged ≡ (1, (0, out))
-    unfolding merge_under unless◌answer◌then◌
-    merge-unknown k = rw k
-
-    merge-refused : s.known ≡ true → (v : Verdict) → verdict_of q features full later true fits ≡ v → (code_of v ≡ 0 → ⊥)
+    merge-refused : (v : Verdict) → verdict_of q features full later true fits ≡ v → (code_of v ≡ 0 → ⊥)
         → merged ≡ (code_of v, (0, out))
     unfolding merge_under merge_of unless◌answer◌then◌
-    merge-refused k v e n = rw (k, e) (verdict-refused v (λ w. (code_of w, (0, out))) _ n)
+    merge-refused v e n = rw e (verdict-refused v (λ w. (code_of w, (0, out))) _ n)
 
-    merge-knows : merged.0 ≡ 0 → s.known ≡ true
-    merge-knows e =
-        by_cases s.known
-        (λ k. k)
-        (λ k. let z : ◌≡◌ {A = ℕ} 1 0 = sym (ap (λ (x : ℕ × (ℕ × List ℕ)). x.0) (merge-unknown k)) ∙ e in absurd (omega arith))
-
-    pub merge-passes : s.known ≡ true → q < 5 → merged.0 ≡ 0 → Passes q features full later true fits
-    merge-passes k few e =
+    pub merge-passes : q < 5 → merged.0 ≡ 0 → Passes q features full later true fits
+    merge-passes few e =
         let v = verdict_of q features full later true fits in
         by_cases (eqb (code_of v) 0)
         (λ z. passes q features full later true fits few (eqb-true _ _ z))
         (λ z.
         let n = eqb-false (code_of v) 0 z in
-        absurd (n (sym (ap (λ (x : ℕ × (ℕ × List ℕ)). x.0) (merge-refused k v refl n)) ∙ e)))
+        absurd (n (sym (ap (λ (x : ℕ × (ℕ × List ℕ)). x.0) (merge-refused v refl n)) ∙ e)))
 
     pair-verdict : q < 5 → Asks s full later → (room : Bool) → fits ≡ room
         → verdict_of q features full later true fits ≡ (unless room answer ShortBuffer then Passed)
@@ -258,58 +238,59 @@ module _ (s : MemberSetup) (full later : List ℕ) where
         let long = pair-long q features full later (asks-pair few a) in
         let front : put 0 x out ≡ x ++ drop (parts_size q) out = put_front x out (omega arith) ∙ ap (λ n. x ++ drop n out) long in
         let none = ap code_of (pair-verdict few a true (le-leb _ _ h)) in
-        rw (a.known, ← front) (verdict-passed v (λ w. (code_of w, (0, out))) (0, (parts_size q, put 0 x out)) none)
+        rw (← front) (verdict-passed v (λ w. (code_of w, (0, out))) (0, (parts_size q, put 0 x out)) none)
 
     merge-short : q < 5 → Asks s full later → length out < parts_size q → merged ≡ (6, (0, out))
     unfolding unless◌answer◌then◌
-    merge-short few a h = merge-refused a.known ShortBuffer (pair-verdict few a false (lt-leb _ _ h)) (λ z. omega arith)
+    merge-short few a h = merge-refused ShortBuffer (pair-verdict few a false (lt-leb _ _ h)) (λ z. omega arith)
+
+  -- ---- both ----
+
+  module _ (r : MemberInRange s) where
+    few : q < 5
+    few = omega (arith, within-high 1 4 q r.count)
+
+    pub finds-in : (t selector : ℕ) → Finds s full later t selector (lookup_told (lookup_under (Some s) full later t selector))
+    finds-in t selector =
+        record {
+          done = λ a k. find-done t selector few a k;
+          asks = λ e. pair-asks (find-passes t selector few e).pair;
+          asked = λ e. known-asked q t selector (find-passes t selector few e).inside;
+          refuses = refuses _ (λ n. (n, (0, (0, 0)))) (known q t (selector_of t selector)) true (find-refused t selector);
+          outside = λ a n. find-outside t selector few a n;
+        }
+
+    pub merges-in : (out : List ℕ) → Merges s full later out (merge_under (Some s) full later out)
+    merges-in out =
+        record {
+          done = λ a h. merge-done out few a h;
+          asks = λ e. pair-asks (merge-passes out few e).pair;
+          room = λ e. leb-true _ _ (merge-passes out few e).fits;
+          refuses = refuses _ (λ n. (n, (0, out))) true (leb (parts_size q) (length out)) (merge-refused out);
+          short = λ a h. merge-short out few a h;
+        }
 
 -- ---- under a packed setup ----
 
-module _ (setup : List ℕ) (m : ℕ) (full later : List ℕ) where
-  abbrev s : MemberSetup
-  s = member_setup setup m
+finds-under : (o : Option MemberSetup) (full later : List ℕ) (t selector : ℕ) → IfSome o MemberInRange
+    → FindsUnder o full later t selector (lookup_told (lookup_under o full later t selector))
+unfolding lookup_under lookup_told
+finds-under None full later t selector r = refl
+finds-under (Some s) full later t selector r = finds-in s full later r t selector
 
-  few : s.known ≡ true → s.queues < 5
-  few k = omega (arith, within-high 1 4 s.queues (member-in-range setup m k).count)
-
-  pub finds : (t selector : ℕ) → Finds s full later t selector (lookup_told (lookup_under s full later t selector))
-  finds t selector =
-      record {
-        done = λ a k. find-done s full later t selector (few a.known) a k;
-        asks = λ e.
-            let k = find-knows s full later t selector e in
-            pair-asks s full later k (find-passes s full later t selector k (few k) e).pair;
-        asked = λ e.
-            let k = find-knows s full later t selector e in
-            known-asked s.queues t selector (find-passes s full later t selector k (few k) e).inside;
-        refuses = refuses s full later _ (λ n. (n, (0, (0, 0)))) (known s.queues t (selector_of t selector)) true
-            (find-unknown s full later t selector) (find-refused s full later t selector);
-        outside = λ a n. find-outside s full later t selector (few a.known) a n;
-      }
-
-  pub merges : (out : List ℕ) → Merges s full later out (merge_under s full later out)
-  merges out =
-      record {
-        done = λ a h. merge-done s full later out (few a.known) a h;
-        asks = λ e.
-            let k = merge-knows s full later out e in
-            pair-asks s full later k (merge-passes s full later out k (few k) e).pair;
-        room = λ e.
-            let k = merge-knows s full later out e in
-            leb-true _ _ (merge-passes s full later out k (few k) e).fits;
-        refuses = refuses s full later _ (λ n. (n, (0, out))) true (leb (parts_size s.queues) (length out))
-            (merge-unknown s full later out) (merge-refused s full later out);
-        short = λ a h. merge-short s full later out (few a.known) a h;
-      }
+merges-under : (o : Option MemberSetup) (full later out : List ℕ) → IfSome o MemberInRange
+    → MergesUnder o full later out (merge_under o full later out)
+unfolding merge_under
+merges-under None full later out r = refl
+merges-under (Some s) full later out r = merges-in s full later r out
 
 -- ---- all of them ----
 
 pub call_claims : CallClaims
 call_claims =
     record {
-      finds = finds;
-      merges = merges;
+      finds = λ setup m full later t selector. finds-under (member_setup setup m) full later t selector (member-in-range setup m);
+      merges = λ setup m full later out. merges-under (member_setup setup m) full later out (member-in-range setup m);
       size = λ q features full later pair. pair-long q features full later pair;
       captures_both = λ q full later values long pair.
           record {

@@ -16,7 +16,7 @@ use Rattle.inventory.specs.Header.{header_of}
 use Rattle.parts.specs.List.{header_at, step_at, at_most, parts_from, whole, among}
 use Rattle.rules.specs.Rules.{known, known_or_skipped, length_right, size_right, features_same, every, repeated, cause_in}
 use Rattle.capture.specs.Capture.{part_at, asks, part_item, parts_written, capture_of}
-use Rattle.setups.specs.Member.{no_member}
+use Rattle.std.proofs.Common.{None}
 use Rattle.difference.specs.Difference.{span_from, place_in, has_row, has_rows, verdict_of, on_verdict, lookup_of, lookup_told, made_part, made_item, made, merge_of}
 use Rattle.difference.specs.Under.{lookup_under}
 use Rattle.difference.specs.Claims.{Pair}
@@ -64,8 +64,8 @@ made_bytes = refl
 
 -- 1 to 6, each where the ones after it apply too: no such member, a full capture that is cut, a later list that is, a full capture that lacks a
 -- part, a part of a second queue, and a buffer that is a byte too short
-setup-bad : lookup_told (lookup_under no_member (take 228 full) (take 16 later) 0x105 1) ≡ (1, (0, (0, 0)))
-unfolding no_member lookup_under model
+setup-bad : lookup_told (lookup_under None (take 228 full) (take 16 later) 0x105 1) ≡ (1, (0, (0, 0)))
+unfolding lookup_under model
 setup-bad = refl
 
 full-bad : lookup_told (lookup_of 1 features (take 228 full) (take 16 later) 0x105 1) ≡ (2, (0, (0, 0)))

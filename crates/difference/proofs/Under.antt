@@ -2,6 +2,7 @@
 use mathlib.Core.Path.{◌≡◌, sym}
 use mathlib.Core.Bool.{true, false, not}
 use mathlib.Core.List.{List, []}
+use Rattle.std.proofs.Common.{Option, Some, None}
 use Prim.Native.Nat.{ℕ, ◌≤◌, ◌<◌}
 use native.Mathlib.Omega.{arith}
 use borrow.Author.Tests.{eqb-true, eqb-false, leb-true, not-true, not-false}
@@ -14,6 +15,7 @@ use Rattle.theory.proofs.Bytes.{put_front}
 use Rattle.inventory.specs.Inventory.{parts_size}
 use Rattle.setups.specs.declared.MemberSetup.{MemberSetup}
 use Rattle.setups.specs.Member.{member_setup}
+use Rattle.setups.specs.Claims.{MemberInRange}
 use Rattle.setups.proofs.Member.{member-in-range}
 use Rattle.difference.specs.declared.Verdict.{Verdict}
 use Rattle.difference.specs.declared.Verdict.TheVariants.{BadSetup}
@@ -28,48 +30,26 @@ use Rattle.difference.proofs.Made.{pair-long}
 use Rattle.difference.proofs.Verdicts.{passes}
 use Rattle.difference.proofs.Claims.{lookup-pair, claims}
 
--- m is what was read of the setup, s what it says
-module _ (m s : MemberSetup) (e : m ≡ s) (full later : List ℕ) where
-  module _ (t selector : ℕ) where
-    pub look-unknown : not m.known ≡ true → Refused BadSetup ≡ lookup_under s full later t selector
-    unfolding lookup_under unless◌answer◌then◌
-    look-unknown h = rw (← e, not-true m.known h)
+pub member-few : (l : List ℕ) (k : ℕ) (s : MemberSetup) → Some s ≡ member_setup l k → s.queues < 5
+member-few l k s e =
+    let r : MemberInRange s = rw (← e) at (member-in-range l k) in
+    omega (arith, within-high 1 4 s.queues r.count)
 
-    pub look_known : (l : Lookup) → not m.known ≡ false → l ≡ lookup_of m.queues m.features full later t selector
-        → l ≡ lookup_under s full later t selector
-    unfolding lookup_under unless◌answer◌then◌
-    look_known l h f = rw (← e, not-false m.known h) f
-
-  module _ (out : List ℕ) where
-    pub merge-unknown : (n : ℕ) → not m.known ≡ true → n ≡ code_of BadSetup → (n, (0, out)) ≡ merge_under s full later out
-    unfolding merge_under unless◌answer◌then◌
-    merge-unknown n h f = rw (← e, not-true m.known h, f)
-
-    pub merge-known : (n w : ℕ) (x : List ℕ) → not m.known ≡ false → (n, (w, x)) ≡ merge_of m.queues m.features full later out
-        → (n, (w, x)) ≡ merge_under s full later out
-    unfolding merge_under unless◌answer◌then◌
-    merge-known n w x h f = rw (← e, not-false m.known h) f
-
-pub member-few : (l : List ℕ) (k : ℕ) (m : MemberSetup) → m ≡ member_setup l k → not m.known ≡ false → m.queues < 5
-member-few l k m e h =
-    let r = member-in-range l k (rw e at (not-false m.known h)) in
-    rw e (omega (arith, within-high 1 4 (member_setup l k).queues r.count))
-
-pub under-inside : (s : MemberSetup) (full later : List ℕ) (t selector : ℕ) (l : Lookup) → l ≡ lookup_under s full later t selector
+pub under-inside : (o : Option MemberSetup) (full later : List ℕ) (t selector : ℕ) (l : Lookup) → l ≡ lookup_under o full later t selector
     → Inside full later l
-unfolding lookup_under unless◌answer◌then◌ Inside
-under-inside s full later t selector l e =
-    by_cases s.known (λ k. lookup-inside s.queues s.features full later t selector l (rw k at e)) (λ k. let f = rw k at e in rw f tt)
+unfolding lookup_under Inside
+under-inside None full later t selector l e = rw e tt
+under-inside (Some s) full later t selector l e = lookup-inside s.queues s.features full later t selector l e
 
 -- ---- what is not refused ----
 
-module _ (s : MemberSetup) (known : s.known ≡ true) (few : s.queues < 5) (full later : List ℕ) where
+module _ (s : MemberSetup) (few : s.queues < 5) (full later : List ℕ) where
   -- a merge that is not refused: the pair, and what the bytes written are
   pub record Merged (out : List ℕ) : Type 0 where
     pub pair : Pair s.queues s.features full later
-    pub bytes : take (merge_under s full later out).1.0 (merge_under s full later out).1.1 ≡ made s.queues full later
+    pub bytes : take (merge_under (Some s) full later out).1.0 (merge_under (Some s) full later out).1.1 ≡ made s.queues full later
 
-  pub merged-made : (out : List ℕ) → (merge_under s full later out).0 ≡ 0 → Merged out
+  pub merged-made : (out : List ℕ) → (merge_under (Some s) full later out).0 ≡ 0 → Merged out
   unfolding merge_under merge_of unless◌answer◌then◌
   merged-made out e =
       let q = s.queues in
@@ -82,18 +62,18 @@ module _ (s : MemberSetup) (known : s.known ≡ true) (few : s.queues < 5) (full
       let room : parts_size q ≤ length out = leb-true _ _ p.fits in
       record {
         pair = p.pair;
-        bytes = rw (known, verdict-passed v refused _ (eqb-true _ _ z), put_front (made q full later) out (omega arith)) (take_at (made q full later) _ (parts_size q) long);
+        bytes = rw (verdict-passed v refused _ (eqb-true _ _ z), put_front (made q full later) out (omega arith)) (take_at (made q full later) _ (parts_size q) long);
       })
-      (λ z. let h = eqb-false (code_of v) 0 z in absurd (h (rw (known, verdict-refused v refused _ h) at e)))
+      (λ z. let h = eqb-false (code_of v) 0 z in absurd (h (rw (verdict-refused v refused _ h) at e)))
 
   module _ (t selector : ℕ) where
-    pub found-pair : (lookup_told (lookup_under s full later t selector)).0 ≡ 0 → Pair s.queues s.features full later
+    pub found-pair : (lookup_told (lookup_under (Some s) full later t selector)).0 ≡ 0 → Pair s.queues s.features full later
     unfolding lookup_under unless◌answer◌then◌
-    found-pair e = lookup-pair s.queues s.features full later t selector few (rw known at e)
+    found-pair e = lookup-pair s.queues s.features full later t selector few e
 
     -- the made list has the same value
     pub found-made : Pair s.queues s.features full later
-        → value_at full later (lookup_under s full later t selector)
-        ≡ value_at (made s.queues full later) [] (lookup_under s (made s.queues full later) [] t selector)
+        → value_at full later (lookup_under (Some s) full later t selector)
+        ≡ value_at (made s.queues full later) [] (lookup_under (Some s) (made s.queues full later) [] t selector)
     unfolding lookup_under unless◌answer◌then◌
-    found-made pair = rw known (sym ((claims.made_is_full s.queues s.features full later pair).same_value t selector))
+    found-made pair = sym ((claims.made_is_full s.queues s.features full later pair).same_value t selector)

@@ -2,7 +2,7 @@
 -- refused; and of the made list. The sizes and numbers stand here as plain digits, apart from the definitions. The record
 -- CallClaims at the end lists it, ../proofs/Calls.antt proves it, and ../proofs/CallExample.antt has lists that meet the
 -- hypotheses. Assumes nothing.
-use Rattle.std.specs.Prelude.{◌≡◌, true, false, List, [], ◌++◌, ℕ, ◌+◌, ◌*◌, ◌<◌, ◌≤◌, length, drop, Some}
+use Rattle.std.specs.Prelude.{◌≡◌, true, false, List, [], ◌++◌, ℕ, ◌+◌, ◌*◌, ◌<◌, ◌≤◌, length, drop, Some, Option, None}
 use Rattle.theory.specs.Bytes.{bytes_at}
 use Rattle.inventory.specs.Inventory.{row_at, present, selector_of, place_of, value_of}
 use Rattle.parts.specs.declared.ListForm.TheVariants.{Parts}
@@ -23,21 +23,19 @@ abbrev pub HasEach : ℕ → List ℕ → Type 0
 HasEach queues l =
     (i : ℕ) → i < 15 → present queues (row_at i) ≡ true → among (row_at i).part_type (row_at i).selector (parts_of Parts l) ≡ true
 
--- what both calls ask: a setup that has this member, two lists that the member accepts, and a full capture that lacks no part; s is
--- what the setup says of the member
+-- what both calls ask beside a setup that has this member: two lists that the member accepts, and a full capture that lacks no
+-- part; s is what the setup says of the member
 pub record Asks (s : MemberSetup) (full later : List ℕ) : Type 0 where
-  pub known : s.known ≡ true
   pub full_accepted : is_accepted (cause_of s.queues s.features full) ≡ true
   pub later_accepted : is_accepted (cause_of s.queues s.features later) ≡ true
   pub lacks_none : HasEach s.queues full
 
 -- where it is not so, the number of the first that applies; `refusal` is what is given with it
 pub record Refuses {A : Type 0} (s : MemberSetup) (full later : List ℕ) (result : A) (refusal : ℕ → A) : Type 0 where
-  pub bad_setup : s.known ≡ false → result ≡ refusal 1
-  pub bad_full : s.known ≡ true → is_accepted (cause_of s.queues s.features full) ≡ false → result ≡ refusal 2
-  pub bad_later : s.known ≡ true → is_accepted (cause_of s.queues s.features full) ≡ true
+  pub bad_full : is_accepted (cause_of s.queues s.features full) ≡ false → result ≡ refusal 2
+  pub bad_later : is_accepted (cause_of s.queues s.features full) ≡ true
       → is_accepted (cause_of s.queues s.features later) ≡ false → result ≡ refusal 3
-  pub lacks_part : s.known ≡ true → is_accepted (cause_of s.queues s.features full) ≡ true
+  pub lacks_part : is_accepted (cause_of s.queues s.features full) ≡ true
       → is_accepted (cause_of s.queues s.features later) ≡ true → (HasEach s.queues full → ⊥) → result ≡ refusal 4
 
 -- the part asked is that of a row that the member has; of the selector's bytes those that the type names count
@@ -78,6 +76,15 @@ pub record Merges (s : MemberSetup) (full later out : List ℕ) (result : ℕ ×
   pub refuses : Refuses s full later result (λ n. (n, (0, out)))
   pub short : Asks s full later → length out < 157 + 72 * s.queues → result ≡ (6, (0, out))
 
+-- a setup that has not this member is the first refusal, 1
+abbrev pub FindsUnder : Option MemberSetup → List ℕ → List ℕ → ℕ → ℕ → ℕ × (ℕ × (ℕ × ℕ)) → Type 0
+FindsUnder None full later t selector told = told ≡ (1, (0, (0, 0)))
+FindsUnder (Some s) full later t selector told = Finds s full later t selector told
+
+abbrev pub MergesUnder : Option MemberSetup → List ℕ → List ℕ → List ℕ → ℕ × (ℕ × List ℕ) → Type 0
+MergesUnder None full later out result = result ≡ (1, (0, out))
+MergesUnder (Some s) full later out result = Merges s full later out result
+
 -- ---- the made list ----
 
 -- In a member whose values, 205 bytes, begin with the device features: setting the made list leaves the values that setting the
@@ -91,9 +98,9 @@ pub record CapturesBoth (queues : ℕ) (full later values : List ℕ) : Type 0 w
 
 pub record CallClaims : Type 0 where
   pub finds : (setup : List ℕ) (m : ℕ) (full later : List ℕ) (t selector : ℕ)
-      → Finds (member_setup setup m) full later t selector (lookup_told (lookup_under (member_setup setup m) full later t selector))
+      → FindsUnder (member_setup setup m) full later t selector (lookup_told (lookup_under (member_setup setup m) full later t selector))
   pub merges : (setup : List ℕ) (m : ℕ) (full later out : List ℕ)
-      → Merges (member_setup setup m) full later out (merge_under (member_setup setup m) full later out)
+      → MergesUnder (member_setup setup m) full later out (merge_under (member_setup setup m) full later out)
   pub size : (queues : ℕ) (features full later : List ℕ) → Pair queues features full later
       → length (made queues full later) ≡ 157 + 72 * queues
   pub captures_both : (queues : ℕ) (full later values : List ℕ) → length values ≡ 205

@@ -201,12 +201,13 @@ pub fn look_up(
 ) -> Lookup
     ensures { result ≡ lookup_under (member_setup setup.now member) full.now later.now part_type selector }
 {
-    let m = setups::member_setup(setup, member);
-    if !m.known {
-        return Lookup::Refused(Verdict::BadSetup);
+    match setups::member_setup(setup, member) {
+        Some(m) => {
+            let features = m.features;
+            look_up_in(m.queues, &features, full, later, part_type, selector)
+        }
+        None => Lookup::Refused(Verdict::BadSetup),
     }
-    let features = m.features;
-    look_up_in(m.queues, &features, full, later, part_type, selector)
 }
 
 // The value itself, a part of one of the two lists; an empty part where the call is refused.
@@ -330,11 +331,14 @@ pub fn merge<'a>(
 ) -> u8
     ensures { (result, (written.new, merged.new)) ≡ merge_under (member_setup setup.now member) full.now later.now merged.old }
 {
-    let m = setups::member_setup(setup, member);
-    if !m.known {
-        *written = 0;
-        return code(Verdict::BadSetup);
+    match setups::member_setup(setup, member) {
+        Some(m) => {
+            let features = m.features;
+            merge_in(m.queues, &features, full, later, merged, written)
+        }
+        None => {
+            *written = 0;
+            code(Verdict::BadSetup)
+        }
     }
-    let features = m.features;
-    merge_in(m.queues, &features, full, later, merged, written)
 }

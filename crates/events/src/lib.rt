@@ -31,11 +31,8 @@ fn write_members(card: &mut [u8], queues: &[u8], features: [u8; FEATURES_SIZE])
     requires { length card.old ≡ card_size (length queues.now) }
     ensures { card.new ≡ put card_header_size (fresh_records features 0 queues.now) card.old }
 {
-    let mut m = 0;
-    while m < queues.len() {
-        let x = Member::fresh(queues[m], features);
-        m += 1;
-        card::write_record(card, m as u64, x, 0);
+    for (m, count) in queues.iter().enumerate() {
+        card::write_record(card, m as u64 + 1, Member::fresh(*count, features), 0);
     }
 }
 
@@ -188,10 +185,8 @@ fn reset_members(card: &mut [u8], n: u64, features: [u8; FEATURES_SIZE], generat
     requires { length card.old ≡ card_size n }
     ensures { card.new ≡ put card_header_size (fresh_records features generation (counts_from card.old 1 n)) card.old }
 {
-    let mut m: u64 = 0;
-    while m < n {
-        m += 1;
-        card::reset_record(card, m, features, generation);
+    for m in 0..n {
+        card::reset_record(card, m + 1, features, generation);
     }
 }
 

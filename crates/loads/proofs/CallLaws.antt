@@ -22,7 +22,7 @@ use Rattle.card.proofs.RecordBytesLaws.{bytes-long}
 use Rattle.card.proofs.ConfigurationLaws.{configuration-long}
 use Rattle.events.specs.Events.{member_answer, if_done}
 use Rattle.loads.specs.declared.Summary.{Summary}
-use Rattle.loads.specs.Loads.{part_of, load_in, lent, summary_of, Numbers, numbers_of, member_told, configuration_for, configuration_told}
+use Rattle.loads.specs.Loads.{part_of, load_in, lent, summary_of, Numbers, numbers_of, state_number, member_told, configuration_for, configuration_told}
 
 -- an event for the member is refused, as r says, or passed
 module _ (c : List ℕ) (m : ℕ) (a : EventAnswer) (e : a ≡ member_answer c m) where
@@ -65,9 +65,10 @@ load-by c m k s z b v x f g h = h ∙ rw (f, g)
 -- ---- a member, and its configuration ----
 
 module _ (c : List ℕ) (m : ℕ) (a : EventAnswer) (e : a ≡ member_answer c m) (v : ⊤) (d : a ≡ Ok v) where
-  pub member-told : (x : Member) (s : Summary) (l : Numbers) → x ≡ member_in c m → s ≡ summary_of x → (Ok tt, numbers_of s) ≡ member_told c m l
+  pub member-told : (x : Member) (s : Summary) (n : ℕ) (l : Numbers) → x ≡ member_in c m → s ≡ summary_of x → n ≡ state_number s.state
+      → (Ok tt, (n, (s.queues, (s.gets, (s.sets, s.held))))) ≡ member_told c m l
   unfolding member_told
-  member-told x s l f g = call-passed c m a e v d Numbers (Ok tt, numbers_of s) _ l (rw (g, f))
+  member-told x s n l f g h = rw h (call-passed c m a e v d Numbers (Ok tt, numbers_of s) _ l (rw (g, f)))
 
   pub configuration-unfit : (b : List ℕ) (g : ℕ) → length b ≢ configuration_size → (Err WrongLength, (b, g)) ≡ configuration_told c m (b, g)
   unfolding configuration_told configuration_for

@@ -1,20 +1,22 @@
 -- What the card's own firmware reads of it, SPEC 14: a part, a member, its configuration, the setup. Each gives the first answer
 -- that applies, as a card store does, and what is then in the numbers and buffers lent to it; refused, they are as they were.
 -- The card is lent, and no call here changes it. Assumes nothing.
-use Rattle.std.specs.Prelude.{Bool, List, [], map, ℕ, eqb, length, Ok, Err, is_ok, Some}
+use Rattle.std.specs.Prelude.{Bool, true, false, List, [], map, ℕ, eqb, length, Ok, Err, is_ok, Some}
 use Rattle.theory.specs.Logic.{when◌then◌else◌, unless◌answer◌then◌}
 use Rattle.protocol.specs.declared.EventRefusal.TheVariants.{NoPart, WrongLength}
 use Rattle.protocol.specs.declared.Mode.{Mode}
+use Rattle.protocol.specs.declared.Mode.TheVariants as modes
 use Rattle.protocol.specs.Answers.{EventAnswer, event_number}
 use Rattle.inventory.specs.Inventory.{row_at, value_of, selector_of, place_of, on_place}
 use Rattle.protocol.specs.declared.ObjectKind.TheVariants.{Get, Set}
 use Rattle.objects.specs.Objects.{slot_byte, object_byte, count}
 use Rattle.member.specs.declared.Member.{Member}
-use Rattle.member.specs.Record.{mode_byte}
 use Rattle.setups.specs.Writing.{written}
 use Rattle.card.specs.Layout.{configuration_size, setup_of, member_in, counts_of, configuration_in, generation_in}
 use Rattle.card.specs.Sound.{is_sound}
 use Rattle.events.specs.Events.{member_answer, if_done}
+use Rattle.loads.specs.declared.State.{State}
+use Rattle.loads.specs.declared.State.TheVariants as states
 use Rattle.loads.specs.declared.Summary.{Summary}
 
 -- the answer as its number
@@ -46,9 +48,17 @@ lent c m t s = unless is_ok (member_answer c m) answer [] then part_of (member_i
 
 -- ---- a member ----
 
--- 0 running, 1 stopped, 2 marked
-unfoldable pub state_of : Mode → Bool → ℕ
-state_of mode marked = when marked then 2 else mode_byte mode
+-- one that is marked is stopped too
+unfoldable pub state_of : Mode → Bool → State
+state_of mode true = states.Marked
+state_of modes.Running false = states.Running
+state_of modes.Stopped false = states.Stopped
+
+-- a state as its number
+abbrev pub state_number : State → ℕ
+state_number states.Running = 0
+state_number states.Stopped = 1
+state_number states.Marked = 2
 
 -- how many of a member's objects are live, of the kind whose byte this is
 unfoldable pub live_of : ℕ → Member → ℕ
@@ -70,7 +80,7 @@ abbrev pub Numbers : Type 0
 Numbers = ℕ × (ℕ × (ℕ × (ℕ × ℕ)))
 
 abbrev pub numbers_of : Summary → Numbers
-numbers_of s = (s.state, (s.queues, (s.gets, (s.sets, s.held))))
+numbers_of s = (state_number s.state, (s.queues, (s.gets, (s.sets, s.held))))
 
 unfoldable pub member_told : List ℕ → ℕ → Numbers → EventAnswer × Numbers
 member_told c m numbers = if_done (member_answer c m) (Ok tt, numbers_of (summary_of (member_in c m))) numbers

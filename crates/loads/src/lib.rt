@@ -6,18 +6,26 @@ ghost use Rattle.std.specs.Prelude.{◌≡◌, true, map, ◌≤◌, length};
 ghost use Rattle.member.specs.Record.{member_size, member_of};
 ghost use Rattle.setups.specs.Setup.{most_members, sixteen};
 ghost use Rattle.card.specs.Layout.{card_size, counts_from};
-ghost use Rattle.loads.specs.Loads.{part_of, load_in, load, lent, state_of, summary_of, member_told, configuration_told, setup_of_card};
+ghost use Rattle.loads.specs.Loads.{part_of, load_in, load, lent, state_of, state_number, summary_of, member_told, configuration_told, setup_of_card};
 
 use card::CONFIGURATION_SIZE;
 use member::Member;
 use protocol::{EventRefusal, Mode};
 use setups::MOST_MEMBERS;
 
-// A member in numbers: its state, 0 running, 1 stopped, 2 marked; its queue count; its live get and set objects; 0, or one
-// more than the bytes in its open holding place.
+// A member runs, or is stopped; one that was handed back is marked too.
+#[derive(Clone, Copy, Debug, PartialEq, Eq)]
+pub enum State {
+    Running,
+    Stopped,
+    Marked,
+}
+
+// A member in short: its state; its queue count; its live get and set objects; 0, or one more than the bytes in its open holding
+// place.
 #[derive(Clone, Copy)]
 pub struct Summary {
-    pub state: u8,
+    pub state: State,
     pub queues: u8,
     pub gets: u8,
     pub sets: u8,
@@ -90,15 +98,26 @@ pub fn lend<'a>(card: &'a [u8], m: u64, t: u16, selector: u64) -> &'a [u8]
 
 // ---- a member ----
 
-fn state_of(mode: Mode, marked: bool) -> u8
+fn state_of(mode: Mode, marked: bool) -> State
     ensures { result ≡ state_of mode marked }
 {
     if marked {
-        return 2;
+        return State::Marked;
     }
     match mode {
-        Mode::Running => 0,
-        Mode::Stopped => 1,
+        Mode::Running => State::Running,
+        Mode::Stopped => State::Stopped,
+    }
+}
+
+// A state as its number.
+fn state_number(state: State) -> u8
+    ensures { result ≡ state_number state }
+{
+    match state {
+        State::Running => 0,
+        State::Stopped => 1,
+        State::Marked => 2,
     }
 }
 
@@ -129,7 +148,7 @@ pub fn member(
 {
     events::member_answer(card, m)?;
     let s = summary_of(card::load_member(card, m));
-    *state = s.state;
+    *state = state_number(s.state);
     *queues = s.queues;
     *gets = s.gets;
     *sets = s.sets;
@@ -165,10 +184,8 @@ fn counts_of(card: &[u8], n: u64) -> [u8; MOST_MEMBERS]
     ensures { result ≡ sixteen (counts_from card.now 1 n) }
 {
     let mut counts = [0u8; MOST_MEMBERS];
-    let mut i: u64 = 0;
-    while i < n {
+    for i in 0..n {
         counts[i as usize] = member::queues_of(card::member_bytes(card, i + 1));
-        i += 1;
     }
     counts
 }

@@ -2,6 +2,8 @@
 use mathlib.Core.Path.{◌≡◌, refl, ap, sym, ◌∙◌}
 use mathlib.Core.Bool.{Bool, true}
 use mathlib.Core.List.{List, ◌++◌}
+use Rattle.std.specs.Prelude.{IfSome}
+use Rattle.std.proofs.Common.{Option, Some, None}
 use Prim.Native.Nat.{ℕ, ◌<◌, ◌≤◌}
 use native.Mathlib.Omega.{arith}
 use borrow.Author.Tests.{eq-eqb, le-leb}
@@ -13,10 +15,11 @@ use Rattle.theory.proofs.Bytes.{put_front}
 use Rattle.inventory.specs.Inventory.{row_at, present, parts_size, part_count}
 use Rattle.setups.specs.declared.MemberSetup.{MemberSetup}
 use Rattle.setups.specs.Member.{member_setup}
+use Rattle.setups.specs.Claims.{MemberInRange}
 use Rattle.setups.proofs.Member.{member-in-range}
 use Rattle.salvage.specs.Salvage.{repaired, kept_item, kept_report, dropped_report, Salvage, is_taken, salvaged, refused, salvage_of, salvage_under}
 use Rattle.salvage.specs.Claims.{InSetup}
-use Rattle.salvage.specs.Exact.{Asks, Writes, DoneExactly}
+use Rattle.salvage.specs.Exact.{Asks, Writes, DoneUnder, DoneExactly}
 use Rattle.salvage.proofs.Flags.{length-one, length-byte}
 use Rattle.salvage.proofs.Refusals.{taken-fits}
 use Rattle.salvage.proofs.Values.{repaired-long}
@@ -51,29 +54,27 @@ module _ (s : MemberSetup) (damaged : List ℕ) (b : Salvage) where
       (le-leb _ _ a.kept))
       (le-leb _ _ a.dropped)
 
-  taken-asks : s.known ≡ true → test ≡ true → Asks s damaged b
-  taken-asks k t =
+  taken-asks : test ≡ true → Asks s damaged b
+  taken-asks t =
       let f = taken-fits s.queues s.features damaged b.list b.kept b.dropped true (sym t) refl in
-      record { known = k; short = f.short; list = f.list-room; kept = f.kept-room; dropped = f.dropped-room }
+      record { short = f.short; list = f.list-room; kept = f.kept-room; dropped = f.dropped-room }
 
-  done-is : s.known ≡ true → test ≡ true → salvage_under s damaged b ≡ salvaged s.queues s.features damaged b
+  done-is : test ≡ true → salvage_under (Some s) damaged b ≡ salvaged s.queues s.features damaged b
   unfolding salvage_under salvage_of unless◌answer◌then◌ when◌then◌else◌
-  done-is k t = rw (k, t)
+  done-is t = rw t
 
-  refused-is : (Asks s damaged b → ⊥) → salvage_under s damaged b ≡ refused b
+  refused-is : (Asks s damaged b → ⊥) → salvage_under (Some s) damaged b ≡ refused b
   unfolding salvage_under salvage_of unless◌answer◌then◌ when◌then◌else◌
   refused-is n =
-      by_cases s.known
-      (λ k. by_cases test (λ t. absurd (n (taken-asks k t))) (λ t. rw (k, t)))
-      (λ k. rw k)
+      by_cases test (λ t. absurd (n (taken-asks t))) (λ t. rw t)
 
-  done-writes : InSetup s.queues s.features → Asks s damaged b → Writes s damaged b (salvage_under s damaged b)
+  done-writes : InSetup s.queues s.features → Asks s damaged b → Writes s damaged b (salvage_under (Some s) damaged b)
   unfolding salvaged
   done-writes g a =
       let q = s.queues in
       let f = s.features in
       let few : q < 5 = omega (arith, within-high 1 4 q g.count) in
-      rw (done-is a.known (asks-taken g a))
+      rw (done-is (asks-taken g a))
       (record {
         written = refl;
         list = front (parts_size q) (repaired q f damaged) b.list (repaired-long q f damaged g) a.list;
@@ -82,12 +83,12 @@ module _ (s : MemberSetup) (damaged : List ℕ) (b : Salvage) where
         left = refl;
       })
 
+done-under : (o : Option MemberSetup) (damaged : List ℕ) (b : Salvage) → IfSome o MemberInRange
+    → DoneUnder o damaged b (salvage_under o damaged b)
+unfolding salvage_under
+done-under None damaged b r = refl
+done-under (Some s) damaged b r =
+    record { done = done-writes s damaged b (record { count = r.count; long = r.features }); refused = refused-is s damaged b }
+
 pub done-exactly : DoneExactly
-done-exactly setup m damaged b =
-    let s = member_setup setup m in
-    record {
-      done = λ a.
-          let r = member-in-range setup m a.known in
-          done-writes s damaged b (record { count = r.count; long = r.features }) a;
-      refused = refused-is s damaged b;
-    }
+done-exactly setup m damaged b = done-under (member_setup setup m) damaged b (member-in-range setup m)

@@ -113,8 +113,8 @@ unfolding model
 in-setup = record { count = refl; long = refl }
 
 -- what is asked, with buffers of just the length
-asked : Asks (record { known = true; queues = 1; features = features }) parts (salvage 0 (zeros 229) (zeros 9) (zeros 4) 0)
-asked = record { known = refl; short = omega arith; list = omega arith; kept = omega arith; dropped = omega arith }
+asked : Asks (record { queues = 1; features = features }) parts (salvage 0 (zeros 229) (zeros 9) (zeros 4) 0)
+asked = record { short = omega arith; list = omega arith; kept = omega arith; dropped = omega arith }
 
 -- of two allowed copies of the device status, row 6, the first
 first : FirstCopy features 6 (15 ∷ []) (parts_of Parts (piece 3 1 (15 ∷ []) ++ piece 3 1 (7 ∷ [])))

@@ -2,6 +2,7 @@
 use mathlib.Core.Path.{◌≡◌, refl, sym}
 use mathlib.Core.Bool.{true, false, not}
 use mathlib.Core.List.{List}
+use Rattle.std.proofs.Common.{Some}
 use Prim.Native.Nat.{ℕ, ◌≤◌}
 use native.Mathlib.Omega.{arith}
 use borrow.Author.Tests.{not-true, not-false}
@@ -17,22 +18,12 @@ use Rattle.salvage.specs.Claims.{InSetup}
 use Rattle.salvage.proofs.Refusals.{taken-fits}
 use Rattle.salvage.proofs.Values.{repaired-long}
 
--- m is what was read of the setup, s what it says
-module _ (m s : MemberSetup) (e : m ≡ s) (damaged : List ℕ) (x b : Salvage) where
-  pub salvage-unknown : not m.known ≡ true → x ≡ refused b → x ≡ salvage_under s damaged b
-  unfolding salvage_under unless◌answer◌then◌
-  salvage-unknown h f = rw (← e, not-true m.known h) f
-
-  pub salvage-known : not m.known ≡ false → x ≡ salvage_of m.queues m.features damaged b → x ≡ salvage_under s damaged b
-  unfolding salvage_under unless◌answer◌then◌
-  salvage-known h f = rw (← e, not-false m.known h) f
-
 -- ---- what is not refused ----
 
-module _ (s : MemberSetup) (known : s.known ≡ true) (g : InSetup s.queues s.features) (damaged : List ℕ) (b : Salvage) where
+module _ (s : MemberSetup) (g : InSetup s.queues s.features) (damaged : List ℕ) (b : Salvage) where
   -- what is written is the repaired list
-  pub salvage-written : ((salvage_under s damaged b).written ≡ 0 → ⊥)
-      → take (salvage_under s damaged b).written (salvage_under s damaged b).list ≡ repaired s.queues s.features damaged
+  pub salvage-written : ((salvage_under (Some s) damaged b).written ≡ 0 → ⊥)
+      → take (salvage_under (Some s) damaged b).written (salvage_under (Some s) damaged b).list ≡ repaired s.queues s.features damaged
   unfolding salvage_under salvage_of salvaged unless◌answer◌then◌ when◌then◌else◌
   salvage-written some =
       let q = s.queues in
@@ -42,5 +33,5 @@ module _ (s : MemberSetup) (known : s.known ≡ true) (g : InSetup s.queues s.fe
       (λ t.
       let room : parts_size q ≤ length b.list = (taken-fits q f damaged b.list b.kept b.dropped true (sym t) refl).list-room in
       let long = repaired-long q f damaged g in
-      rw (known, t, put_front l b.list (omega arith)) (take_at l _ (parts_size q) long))
-      (λ t. absurd (some (rw (known, t))))
+      rw (t, put_front l b.list (omega arith)) (take_at l _ (parts_size q) long))
+      (λ t. absurd (some (rw t)))

@@ -1,7 +1,7 @@
 -- WHAT IS CLAIMED of a salvage beside Claims.antt: exactly when it is done, byte for byte what it writes and reports, and which
 -- lists come back. The record ExactClaims at the end lists it, ../proofs/Exact.antt proves it, and ../proofs/ExactExample.antt has
 -- lists that meet the hypotheses. The sizes and numbers stand here as plain digits, apart from the definitions. Assumes nothing.
-use Rattle.std.specs.Prelude.{◌≡◌, true, List, [], ◌∷◌, ◌++◌, ℕ, ◌+◌, ◌*◌, ◌-◌, ◌≤◌, ◌<◌, eqb, length, take, drop, replicate}
+use Rattle.std.specs.Prelude.{◌≡◌, true, List, [], ◌∷◌, ◌++◌, ℕ, ◌+◌, ◌*◌, ◌-◌, ◌≤◌, ◌<◌, eqb, length, take, drop, replicate, Option, Some, None}
 use Rattle.theory.specs.Logic.{when◌then◌else◌}
 use Rattle.theory.specs.Items.{items_from}
 use Rattle.wire.specs.Le.{number}
@@ -18,10 +18,9 @@ use Rattle.salvage.specs.Claims.{InSetup, HasRow, value_at, parts_read, Undamage
 
 -- ---- when it is done ----
 
--- what it asks: a setup that has this member, at most 4,064 bytes, and room for the list, for a byte for each part and for four
--- counts; s is what the setup says of the member
+-- what it asks beside a setup that has this member: at most 4,064 bytes, and room for the list, for a byte for each part and for
+-- four counts; s is what the setup says of the member
 pub record Asks (s : MemberSetup) (damaged : List ℕ) (b : Salvage) : Type 0 where
-  pub known : s.known ≡ true
   pub short : length damaged ≤ 4064
   pub list : 157 + 72 * s.queues ≤ length b.list
   pub kept : 7 + 2 * s.queues ≤ length b.kept
@@ -36,12 +35,19 @@ pub record Writes (s : MemberSetup) (damaged : List ℕ) (b after : Salvage) : T
   pub left : after.left ≡ left_over damaged
 
 -- it is done exactly if it is given what it asks, and else nothing is written
-pub record DoneOrRefused (s : MemberSetup) (damaged : List ℕ) (b : Salvage) : Type 0 where
-  pub done : Asks s damaged b → Writes s damaged b (salvage_under s damaged b)
-  pub refused : (Asks s damaged b → ⊥) → salvage_under s damaged b ≡ salvage 0 b.list b.kept b.dropped b.left
+pub record DoneOrRefused (s : MemberSetup) (damaged : List ℕ) (b after : Salvage) : Type 0 where
+  pub done : Asks s damaged b → Writes s damaged b after
+  pub refused : (Asks s damaged b → ⊥) → after ≡ salvage 0 b.list b.kept b.dropped b.left
+
+-- nor is anything where the setup has not this member
+abbrev pub DoneUnder : Option MemberSetup → List ℕ → Salvage → Salvage → Type 0
+DoneUnder None damaged b after = after ≡ salvage 0 b.list b.kept b.dropped b.left
+DoneUnder (Some s) damaged b after = DoneOrRefused s damaged b after
 
 abbrev pub DoneExactly : Type 0
-DoneExactly = (setup : List ℕ) (m : ℕ) (damaged : List ℕ) (b : Salvage) → DoneOrRefused (member_setup setup m) damaged b
+DoneExactly =
+    (setup : List ℕ) (m : ℕ) (damaged : List ℕ) (b : Salvage)
+    → DoneUnder (member_setup setup m) damaged b (salvage_under (member_setup setup m) damaged b)
 
 -- ---- what is written ----
 

@@ -1,5 +1,5 @@
 -- A list that step 10 passes, made of a damaged one, and the report of it: 02, request 8. Assumes nothing.
-use Rattle.std.specs.Prelude.{Bool, false, not, List, [], ◌∷◌, ◌++◌, ℕ, ◌+◌, ◌-◌, leb, eqb, length}
+use Rattle.std.specs.Prelude.{Bool, false, not, List, [], ◌∷◌, ◌++◌, ℕ, ◌+◌, ◌-◌, leb, eqb, length, Option, Some, None}
 use Rattle.theory.specs.Logic.{when◌then◌else◌, unless◌answer◌then◌, ◌and◌, ◌or◌, within, indicator}
 use Rattle.theory.specs.Bytes.{put}
 use Rattle.theory.specs.Items.{items_from}
@@ -169,5 +169,6 @@ salvage_of queues features damaged b =
     else refused b
 
 -- s is what the setup says of the member; a bad setup, or a number that is no member's, is refused by the same name
-unfoldable pub salvage_under : MemberSetup → List ℕ → Salvage → Salvage
-salvage_under s damaged b = unless s.known answer refused b then salvage_of s.queues s.features damaged b
+unfoldable pub salvage_under : Option MemberSetup → List ℕ → Salvage → Salvage
+salvage_under None damaged b = refused b
+salvage_under (Some s) damaged b = salvage_of s.queues s.features damaged b

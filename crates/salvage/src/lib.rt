@@ -227,10 +227,11 @@ pub fn salvage(
 ) -> usize
     ensures { salvage result list.new kept.new dropped.new left.new ≡ salvage_under (member_setup setup.now member) damaged.now (salvage 0 list.old kept.old dropped.old left.old) }
 {
-    let m = setups::member_setup(setup, member);
-    if !m.known {
-        return 0;
+    match setups::member_setup(setup, member) {
+        Some(m) => {
+            let features = m.features;
+            salvage_in(m.queues, &features, damaged, list, kept, dropped, left)
+        }
+        None => 0,
     }
-    let features = m.features;
-    salvage_in(m.queues, &features, damaged, list, kept, dropped, left)
 }

@@ -55,10 +55,9 @@ fn find_member<'a>(
     let Some(member) = input::argument(rt, 2, &mut room).and_then(input::number) else {
         return Err(Failure::NoMember(read.members));
     };
-    let m = setups::member_setup(setup, member);
-    if !m.known {
+    let Some(m) = setups::member_setup(setup, member) else {
         return Err(Failure::NoMember(read.members));
-    }
+    };
     Ok((member, m.queues))
 }
 

@@ -2,45 +2,39 @@
 use mathlib.Core.Path.{◌≡◌, sym}
 use mathlib.Core.Bool.{true}
 use mathlib.Core.List.{List}
+use Rattle.std.specs.Prelude.{IfSome}
 use Rattle.std.proofs.Common.{Ok}
 use Prim.Native.Nat.{ℕ, ◌-◌, ◌≤◌, ◌<◌}
 use native.Mathlib.Omega.{arith}
 use lib.ListN.{length, get_or, take}
 use lib.Seq.{get_or-take}
-use Rattle.theory.specs.Logic.{unless◌answer◌then◌, within}
-use Rattle.theory.proofs.Tests.{by_cases, within_low, within-high, never}
+use Rattle.theory.specs.Logic.{within}
+use Rattle.theory.proofs.Tests.{unless-cases, within_low, within-high}
 use Rattle.setups.specs.declared.Setup.{Setup}
 use Rattle.setups.specs.Setup.{features_size, is_count}
 use Rattle.setups.specs.Reading.{read_setup}
-use Rattle.setups.specs.Member.{no_member, member_of, member_read, member_setup}
+use Rattle.setups.specs.Member.{member_of, member_read, member_setup}
 use Rattle.setups.specs.Claims.{InRange, MemberInRange}
 use Rattle.setups.proofs.Ranges.{numbers-in, all-at}
 use Rattle.setups.proofs.InRange.{read-cases, in-range}
 
--- of a member that it knows
-known-said : (s : Setup) (m : ℕ) → (1 ≤ m → m ≤ s.members → is_count (get_or s.queues (m - 1) 0) ≡ true)
-    → length s.features ≡ features_size → (member_of s m).known ≡ true → MemberInRange (member_of s m)
-unfolding member_of no_member unless◌answer◌then◌
-known-said s m f h e =
-    by_cases (within 1 s.members m)
-    (λ t. rw t (record { count = f (within_low 1 s.members m t) (within-high 1 s.members m t); features = h }))
-    (λ t. never (rw t at e))
-
-member-known : (s : Setup) (m : ℕ) → InRange s → (member_of s m).known ≡ true → MemberInRange (member_of s m)
+member-known : (s : Setup) (m : ℕ) → InRange s → IfSome (member_of s m) MemberInRange
+unfolding member_of
 member-known s m r =
+    unless-cases (λ o. IfSome o MemberInRange) (within 1 s.members m) _ _ (λ t. tt) λ t.
     let n = numbers-in _ _ _ _ r.numbers in
-    known-said s m
-    (λ low high.
     let each = n.each in
+    let low = within_low 1 s.members m t in
+    let high = within-high 1 s.members m t in
     let k : m - 1 < s.members = omega arith in
-    rw (← get_or-take s.members s.queues (m - 1) 0 k)
-    (all-at is_count (take s.members s.queues) (m - 1) n.counts (omega arith)))
-    r.features
+    record {
+      count = rw (← get_or-take s.members s.queues (m - 1) 0 k) (all-at is_count (take s.members s.queues) (m - 1) n.counts (omega arith));
+      features = r.features;
+    }
 
-pub member-in-range : (l : List ℕ) (m : ℕ) → (member_setup l m).known ≡ true → MemberInRange (member_setup l m)
-unfolding member_setup no_member
-member-in-range l m =
-    read-cases (λ o. (member_read o m).known ≡ true → MemberInRange (member_read o m)) l (λ e. never e) (λ s r. member-known s m r)
+pub member-in-range : (l : List ℕ) (m : ℕ) → IfSome (member_setup l m) MemberInRange
+unfolding member_setup
+member-in-range l m = read-cases (λ o. IfSome (member_read o m) MemberInRange) l tt (λ s r. member-known s m r)
 
 -- ---- the function ----
 

@@ -1,5 +1,5 @@
 -- WHAT IS CLAIMED of packed setups: 02, request 9. Assumes nothing.
-use Rattle.std.specs.Prelude.{◌≡◌, true, Ok, Err, List, ◌++◌, ℕ, ◌≤◌, ◌<◌, length, get_or, take, drop}
+use Rattle.std.specs.Prelude.{◌≡◌, true, IfSome, Ok, Err, List, ◌++◌, ℕ, ◌≤◌, ◌<◌, length, get_or, take, drop}
 use Rattle.theory.specs.Logic.{when◌then◌else◌}
 use Rattle.setups.specs.declared.Setup.{Setup}
 use Rattle.setups.specs.declared.MemberSetup.{MemberSetup}
@@ -49,7 +49,7 @@ pub record Claims : Type 0 where
   -- the reader of both never refuses version 2 by name
   pub never_named : (l : List ℕ) → read_setup l ≡ Err Version2 → ⊥
   pub in_range : (l : List ℕ) (s : Setup) → read_setup l ≡ Ok s → InRange s
-  pub member_in_range : (l : List ℕ) (m : ℕ) → (member_setup l m).known ≡ true → MemberInRange (member_setup l m)
+  pub member_in_range : (l : List ℕ) (m : ℕ) → IfSome (member_setup l m) MemberInRange
   -- what is read as version 1, or as version 2 with counts that differ, is written back to the same bytes
   pub written_back : (l buffer : List ℕ) → ((i : ℕ) → get_or l i 0 < 256) → length l ≤ length buffer
       → (s : Setup) → read_setup l ≡ Ok s

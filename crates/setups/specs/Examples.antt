@@ -1,12 +1,12 @@
 -- WORKED EXAMPLES of packed setups: the setup of 01, one of version 2, and each refusal. Assumes nothing.
-use Rattle.std.specs.Prelude.{◌≡◌, true, Result, Ok, Err, List, [], ◌∷◌, ◌++◌, map, ℕ, replicate}
+use Rattle.std.specs.Prelude.{◌≡◌, true, Option, Some, None, Result, Ok, Err, List, [], ◌∷◌, ◌++◌, map, ℕ, replicate}
 use Rattle.setups.specs.declared.Setup.{Setup}
 use Rattle.setups.specs.declared.ReadRefusal.{ReadRefusal}
 use Rattle.setups.specs.declared.ReadRefusal.TheVariants.{Version2, Malformed}
 use Rattle.setups.specs.declared.MemberSetup.{MemberSetup}
 use Rattle.setups.specs.Setup.{setup_with}
 use Rattle.setups.specs.Reading.{read_version1, read_setup}
-use Rattle.setups.specs.Member.{no_member, member_setup}
+use Rattle.setups.specs.Member.{member_setup}
 use Rattle.setups.specs.Writing.{written}
 
 abbrev pub zeros : List ℕ
@@ -120,20 +120,20 @@ SetupsRead =
 pub record Asked : Type 0 where
   pub bytes : List ℕ
   pub member : ℕ
-  pub says : MemberSetup
+  pub says : Option MemberSetup
 
-abbrev pub asks : List ℕ → ℕ → MemberSetup → Asked
+abbrev pub asks : List ℕ → ℕ → Option MemberSetup → Asked
 asks l m s = record { bytes = l; member = m; says = s }
 
 unfoldable pub members_asked : List Asked
 members_asked =
-    asks bench 2 (record { known = true; queues = 1; features = zeros })
-    ∷ asks five 3 (record { known = true; queues = 3; features = features })
+    asks bench 2 (Some (record { queues = 1; features = zeros }))
+    ∷ asks five 3 (Some (record { queues = 3; features = features }))
     -- no member 0 or 6, and 2³² + 1 is not 1; a bad setup has none
-    ∷ asks five 0 no_member
-    ∷ asks five 6 no_member
-    ∷ asks five 4294967297 no_member
-    ∷ asks (bench ++ (0 ∷ [])) 1 no_member
+    ∷ asks five 0 None
+    ∷ asks five 6 None
+    ∷ asks five 4294967297 None
+    ∷ asks (bench ++ (0 ∷ [])) 1 None
     ∷ []
 
 abbrev pub MembersAsked : Type 0

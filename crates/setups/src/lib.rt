@@ -8,7 +8,7 @@ ghost use Rattle.std.specs.Prelude.{◌≡◌, ◌≤◌};
 ghost use Rattle.theory.specs.Logic.{within};
 ghost use Rattle.setups.specs.Setup.{in_ranges, all, in_numbers};
 ghost use Rattle.setups.specs.Reading.{read_number, read_version1, read_setup};
-ghost use Rattle.setups.specs.Member.{no_member, member_of, member_setup};
+ghost use Rattle.setups.specs.Member.{member_of, member_setup};
 ghost use Rattle.setups.specs.Writing.{written};
 
 pub const MOST_MEMBERS: usize = 16;
@@ -35,10 +35,9 @@ pub enum ReadRefusal {
     Malformed,
 }
 
-// What a setup says of one member. Where it says nothing, `known` is false, the queue count 0 and the features zeros.
+// What a setup says of one member.
 #[derive(Clone, Copy)]
 pub struct MemberSetup {
-    pub known: bool,
     pub queues: u8,
     pub features: [u8; FEATURES_SIZE],
 }
@@ -124,43 +123,32 @@ pub fn read(s: &[u8]) -> Result<Setup, ReadRefusal>
 
 // ---- one member ----
 
-fn no_member() -> MemberSetup
-    ensures { result ≡ no_member }
-{
-    MemberSetup {
-        known: false,
-        queues: 0,
-        features: [0u8; FEATURES_SIZE],
-    }
-}
-
-// What a setup says of a member.
-fn member_of(s: Setup, member: u64) -> MemberSetup
+// What a setup says of a member that it has.
+fn member_of(s: Setup, member: u64) -> Option<MemberSetup>
     requires { s.members ≤ 16 }
     ensures { result ≡ member_of s member }
 {
     if member < 1 {
-        return no_member();
+        return None;
     }
     if (s.members as u64) < member {
-        return no_member();
+        return None;
     }
     let queues = s.queues;
     let features = s.features;
-    MemberSetup {
-        known: true,
+    Some(MemberSetup {
         queues: queues[(member - 1) as usize],
         features,
-    }
+    })
 }
 
 // What a packed setup of either version says of a member.
-pub fn member_setup(s: &[u8], member: u64) -> MemberSetup
+pub fn member_setup(s: &[u8], member: u64) -> Option<MemberSetup>
     ensures { result ≡ member_setup s.now member }
 {
     match read(s) {
         Ok(setup) => member_of(setup, member),
-        Err(_) => no_member(),
+        Err(_) => None,
     }
 }
 

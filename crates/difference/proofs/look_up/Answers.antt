@@ -1,8 +1,11 @@
-use Rattle.difference.proofs.Under.{look-unknown, look_known}
+use borrow.Author.Rules.{rules}
+use Rattle.difference.specs.Under.{lookup_under}
 use Rattle.difference.proofs.look_up.Goals as goal
 
-pub returns-then-not-m : goal.returns-then-not-m
-returns-then-not-m c = search look-unknown
+pub returns-in-Some : goal.returns-in-Some
+unfolding lookup_under
+returns-in-Some c = let said = c.in-Some.ensures in search rules
 
-pub returns : goal.returns
-returns c = search look_known
+pub returns-in-None : goal.returns-in-None
+unfolding lookup_under
+returns-in-None c = search rules

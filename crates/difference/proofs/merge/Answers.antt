@@ -1,12 +1,15 @@
 use borrow.Author.Rules.{rules}
-use Rattle.difference.proofs.Under.{member-few, merge-unknown, merge-known}
+use Rattle.difference.specs.Under.{merge_under}
+use Rattle.difference.proofs.Under.{member-few}
 use Rattle.difference.proofs.merge.Goals as goal
 
-pub returns-then-not-m : goal.returns-then-not-m
-returns-then-not-m c = search (rules, merge-unknown)
-
 pub merge_in-requires : goal.merge_in-requires
-merge_in-requires c = search (rules, member-few)
+merge_in-requires c = let said = c.in-Some.ensures in search (rules, member-few)
 
-pub returns : goal.returns
-returns c = search (rules, merge-known)
+pub returns-in-Some : goal.returns-in-Some
+unfolding merge_under
+returns-in-Some c = let said = c.in-Some.ensures in search rules
+
+pub returns-in-None : goal.returns-in-None
+unfolding merge_under
+returns-in-None c = search rules

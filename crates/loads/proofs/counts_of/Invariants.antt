@@ -8,7 +8,4 @@ use Rattle.card.specs.Layout.{counts_from}
 use Rattle.loads.proofs.counts_of.Given as goal
 
 abbrev pub invariant-loop-i : goal.invariant-loop-i
-invariant-loop-i l = (l.i ≤ l.n) × (length l.counts ≡ 16) × (sixteen (counts_from l.card 1 l.n) ≡ put l.i (counts_from l.card (l.i + 1) (l.n - l.i)) l.counts)
-
-abbrev pub decreases-loop-i : goal.decreases-loop-i
-decreases-loop-i l = l.n - l.i
+invariant-loop-i l = (length l.counts ≡ 16) × (sixteen (counts_from l.card 1 l.n) ≡ put l.i (counts_from l.card (l.i + 1) (l.n - l.i)) l.counts)

@@ -1,8 +1,11 @@
-use Rattle.salvage.proofs.Under.{salvage-unknown, salvage-known}
+use borrow.Author.Rules.{rules}
+use Rattle.salvage.specs.Salvage.{salvage_under}
 use Rattle.salvage.proofs.salvage.Goals as goal
 
-pub returns-then-not-m : goal.returns-then-not-m
-returns-then-not-m c = search salvage-unknown
+pub returns-in-Some : goal.returns-in-Some
+unfolding salvage_under
+returns-in-Some c = let said = c.in-Some.ensures in search rules
 
-pub returns : goal.returns
-returns c = search salvage-known
+pub returns-in-None : goal.returns-in-None
+unfolding salvage_under
+returns-in-None c = search rules
