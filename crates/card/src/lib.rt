@@ -123,12 +123,11 @@ fn record_at(m: u64) -> usize
 }
 
 // The bytes of member m, where they stand.
-pub fn member_bytes(card: &[u8], m: u64) -> &[u8]
+pub fn member_bytes(card: &[u8], m: u64) -> &[u8; MEMBER_SIZE]
     requires { HasRecord card.now m }
     ensures { result.now ≡ member_bytes_in card.now m }
 {
-    let at = record_at(m);
-    &card[at..at + MEMBER_SIZE]
+    wire::part(card, record_at(m))
 }
 
 // Member m by value, and the card with another member m.
@@ -144,7 +143,7 @@ pub fn save_member(card: &mut [u8], m: u64, x: Member)
     ensures { card.new ≡ with_member card.old m x }
 {
     let at = record_at(m);
-    member::save(x, &mut card[at..at + MEMBER_SIZE]);
+    member::save(x, card[at..at + MEMBER_SIZE].as_mut_array().unwrap());
 }
 
 // Whether m is a member that is marked: handed back and not yet wiped.

@@ -2,10 +2,11 @@
 // in the card.
 #![tactic(auto)]
 
-ghost use Rattle.std.specs.Prelude.{◌≡◌, length};
-ghost use Rattle.member.specs.Record.{member_size, member_of};
+ghost use Rattle.std.specs.Prelude.{◌≡◌};
+ghost use Rattle.member.specs.Record.{member_of};
 ghost use Rattle.reads.specs.Reads.{refuse_read, succeed_read, query_of, metadata_of, through_get, selected_of, read_of};
 
+use member::MEMBER_SIZE;
 use protocol::{Answer, Body, Metadata, ObjectKind, ReadOp};
 
 // The outcome of an operation that has a result and changes nothing.
@@ -33,8 +34,7 @@ fn succeed_read(body: Body) -> Reading
     }
 }
 
-fn query(bytes: &[u8], id: usize) -> Reading
-    requires { length bytes.now ≡ member_size }
+fn query(bytes: &[u8; MEMBER_SIZE], id: usize) -> Reading
     ensures { result ≡ query_of id (member_of bytes.now) }
 {
     let Some(kind) = member::lookup_in(bytes, id) else {
@@ -53,8 +53,7 @@ fn metadata(what: Metadata, queues: u8) -> Body
     }
 }
 
-fn get_metadata(bytes: &[u8], id: usize, what: Metadata, queues: u8) -> Reading
-    requires { length bytes.now ≡ member_size }
+fn get_metadata(bytes: &[u8; MEMBER_SIZE], id: usize, what: Metadata, queues: u8) -> Reading
     ensures { result ≡ through_get id (member_of bytes.now) (succeed_read (metadata_of queues what)) }
 {
     let Some(kind) = member::lookup_in(bytes, id) else {
@@ -67,8 +66,7 @@ fn get_metadata(bytes: &[u8], id: usize, what: Metadata, queues: u8) -> Reading
     succeed_read(body)
 }
 
-fn get_selected(bytes: &[u8], id: usize, queues: u8, list: &[u8]) -> Reading
-    requires { length bytes.now ≡ member_size }
+fn get_selected(bytes: &[u8; MEMBER_SIZE], id: usize, queues: u8, list: &[u8]) -> Reading
     ensures { result ≡ through_get id (member_of bytes.now) (selected_of queues list.now) }
 {
     let Some(kind) = member::lookup_in(bytes, id) else {
@@ -83,8 +81,7 @@ fn get_selected(bytes: &[u8], id: usize, queues: u8, list: &[u8]) -> Reading
     succeed_read(Body::Selected)
 }
 
-fn get_all(bytes: &[u8], id: usize) -> Reading
-    requires { length bytes.now ≡ member_size }
+fn get_all(bytes: &[u8; MEMBER_SIZE], id: usize) -> Reading
     ensures { result ≡ through_get id (member_of bytes.now) (succeed_read Body.All) }
 {
     let Some(kind) = member::lookup_in(bytes, id) else {
@@ -97,8 +94,7 @@ fn get_all(bytes: &[u8], id: usize) -> Reading
 }
 
 // A command that reads; list holds the headers asked for. The parts are those of the member's own queue count.
-pub fn read(bytes: &[u8], op: ReadOp, list: &[u8]) -> Reading
-    requires { length bytes.now ≡ member_size }
+pub fn read(bytes: &[u8; MEMBER_SIZE], op: ReadOp, list: &[u8]) -> Reading
     ensures { result ≡ read_of list.now op (member_of bytes.now) }
 {
     let queues = member::queues_of(bytes);
