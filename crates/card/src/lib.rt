@@ -143,7 +143,7 @@ pub fn save_member(card: &mut [u8], m: u64, x: Member)
     ensures { card.new ≡ with_member card.old m x }
 {
     let at = record_at(m);
-    member::save(x, card[at..at + MEMBER_SIZE].as_mut_array().unwrap());
+    member::save(x, &mut card[at..at + MEMBER_SIZE]);
 }
 
 // Whether m is a member that is marked: handed back and not yet wiped.

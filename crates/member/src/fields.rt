@@ -51,14 +51,16 @@ pub fn object_bytes_of(bytes: &[u8; MEMBER_SIZE]) -> &[u8; IDS]
     wire::part(bytes, OBJECTS_AT)
 }
 
-pub fn save_front(mode: Mode, marked: bool, queues: u8, bytes: &mut [u8; MEMBER_SIZE])
+pub fn save_front(mode: Mode, marked: bool, queues: u8, bytes: &mut [u8])
+    requires { queues_at + 1 ≤ length bytes.old }
     ensures { bytes.new ≡ put mode_at (mode_byte mode ∷ indicator marked ∷ queues ∷ []) bytes.old }
 {
     let front = [mode as u8, marked as u8, queues];
     wire::copy(bytes, MODE_AT, &front);
 }
 
-pub fn save_objects(objects: [ObjectRecord; IDS], bytes: &mut [u8; MEMBER_SIZE])
+pub fn save_objects(objects: [ObjectRecord; IDS], bytes: &mut [u8])
+    requires { objects_at + objects_size ≤ length bytes.old }
     ensures { bytes.new ≡ put objects_at (map object_byte objects) bytes.old }
 {
     let own = objects::object_bytes(objects);

@@ -232,7 +232,13 @@ pub fn queues_of(bytes: &[u8; MEMBER_SIZE]) -> u8
 
 // Most holds what each object byte may be at most: see objects. Features and objects are two vectors with one test, and
 // the tests stand in the order that takes the least time.
-pub fn is_sound_record(bytes: &[u8; MEMBER_SIZE], gets: u8, sets: u8, most: &[u8; IDS], features: &[u8]) -> bool
+pub fn is_sound_record(
+    bytes: &[u8; MEMBER_SIZE],
+    gets: u8,
+    sets: u8,
+    most: &[u8; IDS],
+    features: &[u8],
+) -> bool
     requires { (gets + sets ≤ objects_size) × (most.now ≡ most_of (gets + sets)) }
     ensures { result ≡ sound_record gets sets features.now bytes.now }
 {
@@ -275,7 +281,9 @@ pub fn load(bytes: &[u8; MEMBER_SIZE]) -> Member
     }
 }
 
-pub fn save(m: Member, bytes: &mut [u8; MEMBER_SIZE])
+// A slice: that the card has an array's bytes after a loan as `as_mut_array` is not proved.
+pub fn save(m: Member, bytes: &mut [u8])
+    requires { length bytes.old ≡ member_size }
     ensures { bytes.new ≡ member_bytes m }
 {
     let mode = m.mode;

@@ -1,4 +1,3 @@
-use mathlib.Core.Path.{refl}
 use borrow.Author.Rules.{rules}
 use Rattle.member.specs.Record.{member_of}
 use Rattle.member.proofs.Sound.{bad-vectors, all-low, bad-front, bad-queues, bad-held, limits-last}

@@ -3,10 +3,6 @@ use Rattle.reads.specs.Reads.{through_get}
 use Rattle.reads.proofs.Steps.{steps}
 use Rattle.reads.proofs.get_all.Goals as goal
 
-pub lookup_in-requires : goal.lookup_in-requires
-unfolding through_get
-lookup_in-requires c = search rules
-
 pub enum_known-kind : goal.enum_known-kind
 unfolding through_get
 enum_known-kind c = search rules

@@ -3,10 +3,6 @@ use Rattle.reads.proofs.Steps.{steps}
 use Rattle.reads.specs.Reads.{query_of}
 use Rattle.reads.proofs.query.Goals as goal
 
-pub lookup_in-requires : goal.lookup_in-requires
-unfolding query_of
-lookup_in-requires c = search rules
-
 pub enum_known-kind : goal.enum_known-kind
 unfolding query_of
 enum_known-kind c = search rules

@@ -1,5 +1,4 @@
 -- Each return is a step of the test.
-use borrow.Author.Rules.{rules}
 use Rattle.theory.proofs.Ladder.{ladder}
 use Rattle.member.specs.Sound.{sound_end}
 use Rattle.member.proofs.fields.is_end_sound.Goals as goal
