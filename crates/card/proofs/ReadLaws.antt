@@ -60,9 +60,9 @@ numbers-tested c n g s t a b d f = f ∙ rw (a, b, d, members-read c, gets-read 
 -- ---- a member's bytes, from the place of its record ----
 
 module _ (c : List ℕ) (m : ℕ) where
-  pub member-lent : (at : ℕ) → at ≡ record_at m → bytes_at at (at + member_size - at) c ≡ member_bytes_in c m
+  pub member-lent : (at : ℕ) (r : List ℕ) → at ≡ record_at m → r ≡ bytes_at at member_size c → r ≡ member_bytes_in c m
   unfolding record_bytes
-  member-lent at e = rw (e, add-sub_cancel_left (record_at m) member_size, add-zero)
+  member-lent at r e q = q ∙ rw (e, add-zero)
 
   module _ (r : List ℕ) (e : r ≡ member_bytes_in c m) where
     pub lent-long : HasRecord c m → length r ≡ member_size
@@ -74,12 +74,9 @@ module _ (c : List ℕ) (m : ℕ) where
 
 -- from any place
 module _ (c : List ℕ) (at : ℕ) where
-  pub place-long : at + member_size ≤ length c → length (bytes_at at (at + member_size - at) c) ≡ member_size
-  place-long h = rw add-sub_cancel_left (length-bytes_at at member_size c h)
-
-  pub place-tested : (t : Bool) → card_header_size ≤ length c
-      → t ≡ sound_record (get_or c 1 0) (get_or c 2 0) (bytes_at features_at features_size c) (bytes_at at (at + member_size - at) c) → t ≡ sound_for (setup_of c) (bytes_at at member_size c)
-  place-tested t h q = q ∙ rw (add-sub_cancel_left at member_size, gets-read c, sets-read c, features-read c (omega arith))
+  pub place-tested : (t : Bool) (r : List ℕ) → card_header_size ≤ length c → r ≡ bytes_at at member_size c
+      → t ≡ sound_record (get_or c 1 0) (get_or c 2 0) (bytes_at features_at features_size c) r → t ≡ sound_for (setup_of c) (bytes_at at member_size c)
+  place-tested t r h e q = q ∙ rw (e, gets-read c, sets-read c, features-read c (omega arith))
 
 -- ---- what the object bytes may be at most ----
 
@@ -88,10 +85,9 @@ module _ (c : List ℕ) where
     pub few-ids : g + s ≤ objects_size
     few-ids = let n = numbers-of _ h in rw (eg, es, gets-read c, sets-read c) (omega (arith, n.few_gets, n.few_sets))
 
-    pub window-most : (at : ℕ) → at ≡ objects_size - (g + s)
-        → IsMost (setup_of c) (bytes_at at (at + objects_size - at) (replicate objects_size 2 ++ replicate objects_size 0))
-    window-most at e =
-        rw (← gets-read c, ← sets-read c, ← eg, ← es, add-sub_cancel_left at objects_size) (few-ids, most-window (g + s) at few-ids e)
+    pub window-most : (at : ℕ) (most : List ℕ) → at ≡ objects_size - (g + s)
+        → most ≡ bytes_at at objects_size (replicate objects_size 2 ++ replicate objects_size 0) → IsMost (setup_of c) most
+    window-most at most e i = rw (← gets-read c, ← sets-read c, ← eg, ← es) (few-ids, i ∙ most-window (g + s) at few-ids e)
 
   module _ (most : List ℕ) (i : IsMost (setup_of c) most) where
     pub place-ids : get_or c 1 0 + get_or c 2 0 ≤ objects_size

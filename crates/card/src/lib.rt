@@ -123,12 +123,11 @@ fn record_at(m: u64) -> usize
 }
 
 // The bytes of member m, where they stand.
-pub fn member_bytes(card: &[u8], m: u64) -> &[u8]
+pub fn member_bytes(card: &[u8], m: u64) -> &[u8; MEMBER_SIZE]
     requires { HasRecord card.now m }
     ensures { result.now ≡ member_bytes_in card.now m }
 {
-    let at = record_at(m);
-    &card[at..at + MEMBER_SIZE]
+    wire::part(card, record_at(m))
 }
 
 // Member m by value, and the card with another member m.

@@ -7,7 +7,6 @@ ghost use Rattle.card.specs.Layout.{card_header_size, card_size, setup_of, in_us
 ghost use Rattle.card.specs.Sound.{sound_setup, IsMost, sound_for, sound_up_to};
 
 use super::{CARD_HEADER_SIZE, FEATURES_AT, GETS_AT, IN_USE_AT, MEMBERS_AT, RECORD_SIZE, SETS_AT};
-use member::MEMBER_SIZE;
 use objects::IDS;
 
 pub fn is_setup_sound(card: &[u8]) -> bool
@@ -22,12 +21,12 @@ pub fn is_setup_sound(card: &[u8]) -> bool
 }
 
 // Whether the member whose bytes stand at a place is sound. Most holds what each object byte may be at most.
-fn is_sound_at(card: &[u8], at: usize, most: &[u8]) -> bool
+fn is_sound_at(card: &[u8], at: usize, most: &[u8; IDS]) -> bool
     requires { (card_header_size ≤ length card.now) × (at + member_size ≤ length card.now) × IsMost (setup_of card.now) most.now }
     ensures { result ≡ sound_for (setup_of card.now) (bytes_at at member_size card.now) }
 {
     member::is_sound_record(
-        &card[at..at + MEMBER_SIZE],
+        wire::part(card, at),
         card[GETS_AT],
         card[SETS_AT],
         most,
@@ -37,7 +36,7 @@ fn is_sound_at(card: &[u8], at: usize, most: &[u8]) -> bool
 
 // One pass over the members, the last one first: it steps from record to record, which is cheaper than to work out the
 // place of each.
-fn is_each_sound(card: &[u8], most: &[u8]) -> bool
+fn is_each_sound(card: &[u8], most: &[u8; IDS]) -> bool
     requires { (length card.now ≡ card_size (setup_of card.now).members) × IsMost (setup_of card.now) most.now }
     ensures { result ≡ sound_up_to (setup_of card.now) card.now (setup_of card.now).members }
 {
@@ -59,7 +58,7 @@ pub fn are_members_sound(card: &[u8]) -> bool
     let table = objects::MOST;
     let ids = super::wide(card[GETS_AT]) + super::wide(card[SETS_AT]);
     let other = IDS - ids as usize;
-    is_each_sound(card, &table[other..other + IDS])
+    is_each_sound(card, wire::part(&table, other))
 }
 
 pub fn is_length_right(card: &[u8]) -> bool

@@ -3,13 +3,13 @@
 #![tactic(auto)]
 
 ghost use Rattle.std.specs.Prelude.{◌≡◌, true, map, ◌≤◌, length};
-ghost use Rattle.member.specs.Record.{member_size, member_of};
+ghost use Rattle.member.specs.Record.{member_of};
 ghost use Rattle.setups.specs.Setup.{most_members, sixteen};
 ghost use Rattle.card.specs.Layout.{card_size, counts_from};
 ghost use Rattle.loads.specs.Loads.{part_of, load_in, load, lent, state_of, state_number, summary_of, member_told, configuration_told, setup_of_card};
 
 use card::CONFIGURATION_SIZE;
-use member::Member;
+use member::{MEMBER_SIZE, Member};
 use protocol::{EventRefusal, Mode};
 use setups::MOST_MEMBERS;
 
@@ -35,8 +35,7 @@ pub struct Summary {
 // ---- a part ----
 
 // The value of a part, among a member's bytes; an empty slice where the member has not got the part.
-fn part_in<'a>(bytes: &'a [u8], t: u16, selector: u64) -> &'a [u8]
-    requires { length bytes.now ≡ member_size }
+fn part_in<'a>(bytes: &'a [u8; MEMBER_SIZE], t: u16, selector: u64) -> &'a [u8]
     ensures { result.now ≡ part_of (member_of bytes.now) t selector }
 {
     let Some(i) = inventory::place_of(member::queues_of(bytes), t, selector) else {
@@ -48,8 +47,7 @@ fn part_in<'a>(bytes: &'a [u8], t: u16, selector: u64) -> &'a [u8]
 }
 
 // It is copied out where the buffer is as long. No part's value is empty.
-fn load_in(bytes: &[u8], t: u16, selector: u64, value: &mut [u8]) -> Result<(), EventRefusal>
-    requires { length bytes.now ≡ member_size }
+fn load_in(bytes: &[u8; MEMBER_SIZE], t: u16, selector: u64, value: &mut [u8]) -> Result<(), EventRefusal>
     ensures { (result, value.new) ≡ load_in (member_of bytes.now) t selector value.old }
 {
     let own = part_in(bytes, t, selector);

@@ -14,8 +14,7 @@ use objects::{IDS, ObjectRecord};
 use protocol::Mode;
 
 // The mark of a member that is stopped with no holding place and no live object.
-fn is_end_sound(bytes: &[u8]) -> bool
-    requires { length bytes.now ≡ member_size }
+fn is_end_sound(bytes: &[u8; MEMBER_SIZE]) -> bool
     ensures { result ≡ sound_end bytes.now }
 {
     if bytes[MARK_AT] != 1 {
@@ -27,12 +26,11 @@ fn is_end_sound(bytes: &[u8]) -> bool
     if wire::read_u16(bytes, HELD_AT) != 0 {
         return false;
     }
-    objects::are_up_to(0, &bytes[OBJECTS_AT..HELD_AT])
+    objects::are_up_to(0, object_bytes_of(bytes))
 }
 
 // The mode, the queue count and the mark. Mode and mark are one number, at most 1 if there is no mark.
-pub fn is_front_sound(bytes: &[u8]) -> bool
-    requires { length bytes.now ≡ member_size }
+pub fn is_front_sound(bytes: &[u8; MEMBER_SIZE]) -> bool
     ensures { result ≡ sound_front bytes.now }
 {
     if bytes[QUEUES_AT] < 1 {
@@ -47,38 +45,17 @@ pub fn is_front_sound(bytes: &[u8]) -> bool
     is_end_sound(bytes)
 }
 
-pub fn object_bytes_in(bytes: &[u8]) -> [u8; IDS]
-    requires { length bytes.now ≡ member_size }
-    ensures { result ≡ object_bytes bytes.now }
+pub fn object_bytes_of(bytes: &[u8; MEMBER_SIZE]) -> &[u8; IDS]
+    ensures { result.now ≡ object_bytes bytes.now }
 {
-    let mut own = [0u8; IDS];
-    wire::copy(&mut own, 0, &bytes[OBJECTS_AT..HELD_AT]);
-    own
-}
-
-pub fn values_in(bytes: &[u8]) -> [u8; VALUES_SIZE]
-    requires { length bytes.now ≡ member_size }
-    ensures { result ≡ bytes_at values_at values_size bytes.now }
-{
-    let mut own = [0u8; VALUES_SIZE];
-    wire::copy(&mut own, 0, &bytes[VALUES_AT..MEMBER_SIZE]);
-    own
-}
-
-fn mode_byte(mode: Mode) -> u8
-    ensures { result ≡ mode_byte mode }
-{
-    match mode {
-        Mode::Running => 0,
-        Mode::Stopped => 1,
-    }
+    wire::part(bytes, OBJECTS_AT)
 }
 
 pub fn save_front(mode: Mode, marked: bool, queues: u8, bytes: &mut [u8])
     requires { queues_at + 1 ≤ length bytes.old }
     ensures { bytes.new ≡ put mode_at (mode_byte mode ∷ indicator marked ∷ queues ∷ []) bytes.old }
 {
-    let front = [mode_byte(mode), marked as u8, queues];
+    let front = [mode as u8, marked as u8, queues];
     wire::copy(bytes, MODE_AT, &front);
 }
 

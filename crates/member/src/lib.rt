@@ -203,8 +203,7 @@ impl Member {
 // ---- a member's bytes, read where they stand ----
 
 // The live object of an id. A command that reads has no need of the member by value.
-pub fn lookup_in(bytes: &[u8], id: usize) -> Option<ObjectKind>
-    requires { length bytes.now ≡ member_size }
+pub fn lookup_in(bytes: &[u8; MEMBER_SIZE], id: usize) -> Option<ObjectKind>
     ensures { result ≡ lookup_of (member_of bytes.now) id }
 {
     if IDS <= id {
@@ -213,22 +212,19 @@ pub fn lookup_in(bytes: &[u8], id: usize) -> Option<ObjectKind>
     objects::slot_in(bytes[OBJECTS_AT + id])
 }
 
-pub fn values_of(bytes: &[u8]) -> &[u8]
-    requires { length bytes.now ≡ member_size }
+pub fn values_of(bytes: &[u8; MEMBER_SIZE]) -> &[u8; VALUES_SIZE]
     ensures { result.now ≡ (member_of bytes.now).values }
 {
-    &bytes[VALUES_AT..MEMBER_SIZE]
+    wire::part(bytes, VALUES_AT)
 }
 
-pub fn is_marked(bytes: &[u8]) -> bool
-    requires { length bytes.now ≡ member_size }
+pub fn is_marked(bytes: &[u8; MEMBER_SIZE]) -> bool
     ensures { result ≡ (member_of bytes.now).marked }
 {
     bytes[MARK_AT] == 1
 }
 
-pub fn queues_of(bytes: &[u8]) -> u8
-    requires { length bytes.now ≡ member_size }
+pub fn queues_of(bytes: &[u8; MEMBER_SIZE]) -> u8
     ensures { result ≡ (member_of bytes.now).queues }
 {
     bytes[QUEUES_AT]
@@ -236,39 +232,45 @@ pub fn queues_of(bytes: &[u8]) -> u8
 
 // Most holds what each object byte may be at most: see objects. Features and objects are two vectors with one test, and
 // the tests stand in the order that takes the least time.
-pub fn is_sound_record(bytes: &[u8], gets: u8, sets: u8, most: &[u8], features: &[u8]) -> bool
-    requires { (length bytes.now ≡ member_size) × (gets + sets ≤ objects_size) × (most.now ≡ most_of (gets + sets)) }
+pub fn is_sound_record(
+    bytes: &[u8; MEMBER_SIZE],
+    gets: u8,
+    sets: u8,
+    most: &[u8; IDS],
+    features: &[u8],
+) -> bool
+    requires { (gets + sets ≤ objects_size) × (most.now ≡ most_of (gets + sets)) }
     ensures { result ≡ sound_record gets sets features.now bytes.now }
 {
     let kept = wire::equal(&bytes[VALUES_AT..FEATURES_END], features);
-    let low = objects::are_within(most, &bytes[OBJECTS_AT..HELD_AT]);
+    let objects = fields::object_bytes_of(bytes);
+    let low = objects::are_within(most, objects);
     if !(kept & low) {
         return false;
     }
     if HELD_MOST < wire::read_u16(bytes, HELD_AT) {
         return false;
     }
-    if !inventory::are_queues_allowed(bytes[QUEUES_AT], &bytes[VALUES_AT..MEMBER_SIZE]) {
+    if !inventory::are_queues_allowed(bytes[QUEUES_AT], values_of(bytes)) {
         return false;
     }
     if !fields::is_front_sound(bytes) {
         return false;
     }
-    objects::is_within_limits(&bytes[OBJECTS_AT..HELD_AT], gets, sets)
+    objects::is_within_limits(objects, gets, sets)
 }
 
 // ---- from a member's bytes to the member, and back ----
 
-pub fn load(bytes: &[u8]) -> Member
-    requires { length bytes.now ≡ member_size }
+pub fn load(bytes: &[u8; MEMBER_SIZE]) -> Member
     ensures { result ≡ member_of bytes.now }
 {
     let mode = protocol::mode_of(bytes[MODE_AT]);
     let marked = is_marked(bytes);
     let queues = queues_of(bytes);
-    let objects = objects::objects_in(fields::object_bytes_in(bytes));
+    let objects = objects::objects_in(fields::object_bytes_of(bytes));
     let held = wire::read_u16(bytes, HELD_AT);
-    let values = fields::values_in(bytes);
+    let values = *values_of(bytes);
     Member {
         mode,
         marked,
@@ -279,6 +281,7 @@ pub fn load(bytes: &[u8]) -> Member
     }
 }
 
+// A slice: that the card has an array's bytes after a loan as `as_mut_array` is not proved.
 pub fn save(m: Member, bytes: &mut [u8])
     requires { length bytes.old ≡ member_size }
     ensures { bytes.new ≡ member_bytes m }

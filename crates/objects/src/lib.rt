@@ -52,8 +52,8 @@ fn object_byte(o: ObjectRecord) -> u8
     }
 }
 
-pub fn objects_in(bytes: [u8; IDS]) -> [ObjectRecord; IDS]
-    ensures { result ≡ map object_of bytes }
+pub fn objects_in(bytes: &[u8; IDS]) -> [ObjectRecord; IDS]
+    ensures { result ≡ map object_of bytes.now }
 {
     array::from_fn(|i| object_in(bytes[i]))
 }
@@ -76,8 +76,8 @@ fn indicator_of(b: u8, v: u8) -> u8
 }
 
 // How many of the sixteen object bytes are v.
-pub fn count_of(v: u8, bytes: &[u8]) -> u8
-    requires { (length bytes.now ≡ objects_size) × (all_up_to 2 bytes.now ≡ true) × (1 ≤ v) × (v ≤ 2) }
+pub fn count_of(v: u8, bytes: &[u8; IDS]) -> u8
+    requires { (all_up_to 2 bytes.now ≡ true) × (1 ≤ v) × (v ≤ 2) }
     ensures { result ≡ count v bytes.now }
 {
     let mut n = 0;
@@ -87,8 +87,8 @@ pub fn count_of(v: u8, bytes: &[u8]) -> u8
     n
 }
 
-pub fn is_within_limits(bytes: &[u8], gets: u8, sets: u8) -> bool
-    requires { (length bytes.now ≡ objects_size) × (all_up_to 2 bytes.now ≡ true) }
+pub fn is_within_limits(bytes: &[u8; IDS], gets: u8, sets: u8) -> bool
+    requires { all_up_to 2 bytes.now ≡ true }
     ensures { result ≡ within_limits gets sets bytes.now }
 {
     if gets < count_of(1, bytes) {
@@ -105,8 +105,7 @@ pub fn are_up_to(n: u8, bytes: &[u8]) -> bool
 }
 
 // Whether each byte is at most the number beside it: of a part of MOST, which is the same for all members.
-pub fn are_within(most: &[u8], bytes: &[u8]) -> bool
-    requires { (length most.now ≡ objects_size) × (length bytes.now ≡ objects_size) }
+pub fn are_within(most: &[u8; IDS], bytes: &[u8; IDS]) -> bool
     ensures { result ≡ all_within most.now bytes.now }
 {
     bytes

@@ -2,14 +2,14 @@
 // in the card.
 #![tactic(auto)]
 
-ghost use Rattle.std.specs.Prelude.{◌≡◌, length};
-ghost use Rattle.member.specs.Record.{member_size, member_of};
+ghost use Rattle.std.specs.Prelude.{◌≡◌};
+ghost use Rattle.member.specs.Record.{member_of};
 ghost use Rattle.reads.specs.Reads.{query_of, metadata_of, through_get, selected_of, read_of};
 
+use member::MEMBER_SIZE;
 use protocol::{Body, Metadata, ObjectKind, ReadOp, Refusal};
 
-fn query(bytes: &[u8], id: usize) -> Result<Body, Refusal>
-    requires { length bytes.now ≡ member_size }
+fn query(bytes: &[u8; MEMBER_SIZE], id: usize) -> Result<Body, Refusal>
     ensures { result ≡ query_of id (member_of bytes.now) }
 {
     let Some(kind) = member::lookup_in(bytes, id) else {
@@ -19,8 +19,7 @@ fn query(bytes: &[u8], id: usize) -> Result<Body, Refusal>
 }
 
 // Metadata and parts get need a live get object.
-fn through_get(bytes: &[u8], id: usize) -> Result<(), Refusal>
-    requires { length bytes.now ≡ member_size }
+fn through_get(bytes: &[u8; MEMBER_SIZE], id: usize) -> Result<(), Refusal>
     ensures { result ≡ through_get id (member_of bytes.now) (Ok tt) }
 {
     let Some(kind) = member::lookup_in(bytes, id) else {
@@ -42,16 +41,14 @@ fn metadata(what: Metadata, queues: u8) -> Body
     }
 }
 
-fn get_metadata(bytes: &[u8], id: usize, what: Metadata, queues: u8) -> Result<Body, Refusal>
-    requires { length bytes.now ≡ member_size }
+fn get_metadata(bytes: &[u8; MEMBER_SIZE], id: usize, what: Metadata, queues: u8) -> Result<Body, Refusal>
     ensures { result ≡ through_get id (member_of bytes.now) (Ok (metadata_of queues what)) }
 {
     through_get(bytes, id)?;
     Ok(metadata(what, queues))
 }
 
-fn get_selected(bytes: &[u8], id: usize, queues: u8, list: &[u8]) -> Result<Body, Refusal>
-    requires { length bytes.now ≡ member_size }
+fn get_selected(bytes: &[u8; MEMBER_SIZE], id: usize, queues: u8, list: &[u8]) -> Result<Body, Refusal>
     ensures { result ≡ through_get id (member_of bytes.now) (selected_of queues list.now) }
 {
     through_get(bytes, id)?;
@@ -61,8 +58,7 @@ fn get_selected(bytes: &[u8], id: usize, queues: u8, list: &[u8]) -> Result<Body
     Ok(Body::Selected)
 }
 
-fn get_all(bytes: &[u8], id: usize) -> Result<Body, Refusal>
-    requires { length bytes.now ≡ member_size }
+fn get_all(bytes: &[u8; MEMBER_SIZE], id: usize) -> Result<Body, Refusal>
     ensures { result ≡ through_get id (member_of bytes.now) (Ok Body.All) }
 {
     through_get(bytes, id)?;
@@ -70,8 +66,7 @@ fn get_all(bytes: &[u8], id: usize) -> Result<Body, Refusal>
 }
 
 // A command that reads; list holds the headers asked for. The parts are those of the member's own queue count.
-pub fn read(bytes: &[u8], op: ReadOp, list: &[u8]) -> Result<Body, Refusal>
-    requires { length bytes.now ≡ member_size }
+pub fn read(bytes: &[u8; MEMBER_SIZE], op: ReadOp, list: &[u8]) -> Result<Body, Refusal>
     ensures { result ≡ read_of list.now op (member_of bytes.now) }
 {
     let queues = member::queues_of(bytes);

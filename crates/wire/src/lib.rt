@@ -6,7 +6,7 @@ ghost use Rattle.theory.specs.Bytes.{bytes_at, put, same};
 ghost use Rattle.wire.specs.Le.{bytes, number};
 
 // N bytes, from a place on.
-fn part<const N: usize>(s: &[u8], at: usize) -> &[u8; N]
+pub fn part<const N: usize>(s: &[u8], at: usize) -> &[u8; N]
     requires { at + N ≤ length s.now }
     ensures { result.now ≡ bytes_at at N s.now }
 {

@@ -6,15 +6,6 @@ use Rattle.admin.proofs.read_member.Goals as goal
 pub member_bytes-bytes-requires : goal.member_bytes-bytes-requires
 member_bytes-bytes-requires c = search (rules, record-there)
 
-pub read-reading-requires : goal.read-reading-requires
-read-reading-requires c = search (rules, bytes-sized)
-
-pub queues_of-queues-requires : goal.queues_of-queues-requires
-queues_of-queues-requires c = search (rules, bytes-sized)
-
-pub values_of-values-requires : goal.values_of-values-requires
-values_of-values-requires c = search (rules, bytes-sized)
-
 pub write_reading-requires : goal.write_reading-requires
 write_reading-requires c = let pre = c.requires in (
   queues-few _ pre.0 _ pre.1 _ c.member_bytes-bytes.ensures _ c.queues_of-queues.ensures,

@@ -13,8 +13,5 @@ returns-then-not-is_member c = search (rules, no-mark)
 pub member_bytes-requires : goal.member_bytes-requires
 member_bytes-requires c = search (rules, mark-record)
 
-pub is_marked-requires : goal.is_marked-requires
-is_marked-requires c = search (rules, lent-long, mark-record)
-
 pub returns : goal.returns
 returns c = search (rules, mark-read)

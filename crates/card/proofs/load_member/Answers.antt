@@ -2,8 +2,5 @@ use borrow.Author.Rules.{rules}
 use Rattle.card.proofs.ReadLaws.{lent-long, member-loaded}
 use Rattle.card.proofs.load_member.Goals as goal
 
-pub load-requires : goal.load-requires
-load-requires c = search (rules, lent-long)
-
 pub returns : goal.returns
 returns c = search (rules, member-loaded)

@@ -9,9 +9,6 @@ loop-i-init c = search (rules, counts_start)
 pub member_bytes-requires : goal.member_bytes-requires
 member_bytes-requires c = search (rules, counts-has)
 
-pub queues_of-requires : goal.queues_of-requires
-queues_of-requires c = search (rules, bytes-lent, counts-has)
-
 pub loop-i-preserved : goal.loop-i-preserved
 loop-i-preserved c = search (rules, counts-on)
 

@@ -5,8 +5,5 @@ use Rattle.loads.proofs.lend.Goals as goal
 pub returns-then-is_err : goal.returns-then-is_err
 returns-then-is_err c = search (rules, lent_none)
 
-pub part_in-requires : goal.part_in-requires
-part_in-requires c = search (rules, bytes-lent)
-
 pub returns : goal.returns
 returns c = search (rules, lent-part)

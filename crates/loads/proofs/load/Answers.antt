@@ -7,9 +7,6 @@ pub returns-in_err-member_answer : goal.returns-in_err-member_answer
 unfolding load
 returns-in_err-member_answer c = search (rules, call-refused)
 
-pub load_in-requires : goal.load_in-requires
-load_in-requires c = search (rules, bytes-lent)
-
 pub returns : goal.returns
 unfolding load
 returns c = search (rules, call-passed, load-by)

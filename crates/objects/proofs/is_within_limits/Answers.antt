@@ -5,14 +5,14 @@ use Rattle.objects.specs.Objects.{within_limits}
 use Rattle.objects.proofs.is_within_limits.Goals as goal
 
 pub count_of-requires : goal.count_of-requires
-count_of-requires c = (search rules, search rules, omega arith, omega arith)
+count_of-requires c = (search rules, omega arith, omega arith)
 
 pub returns-then-gets-count_of : goal.returns-then-gets-count_of
 unfolding within_limits
 returns-then-gets-count_of c = search ladder
 
 pub count_of-requires-2 : goal.count_of-requires-2
-count_of-requires-2 c = (search rules, search rules, omega arith, omega arith)
+count_of-requires-2 c = (search rules, omega arith, omega arith)
 
 pub returns : goal.returns
 unfolding within_limits

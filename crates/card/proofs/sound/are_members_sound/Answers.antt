@@ -9,4 +9,4 @@ overflow_sub-other c = search (rules, few-ids)
 pub is_each_sound-requires : goal.is_each_sound-requires
 is_each_sound-requires c = let gets = c.wide.result in
     let sets = c.wide-2.result in
-    (search rules, window-most _ gets sets (search rules) (search rules) (search rules) _ refl)
+    (search rules, window-most _ gets sets (search rules) (search rules) (search rules) _ c.part.result.now refl c.part.ensures)
