@@ -41,14 +41,24 @@ fn metadata(what: Metadata, queues: u8) -> Body
     }
 }
 
-fn get_metadata(bytes: &[u8; MEMBER_SIZE], id: usize, what: Metadata, queues: u8) -> Result<Body, Refusal>
+fn get_metadata(
+    bytes: &[u8; MEMBER_SIZE],
+    id: usize,
+    what: Metadata,
+    queues: u8,
+) -> Result<Body, Refusal>
     ensures { result ≡ through_get id (member_of bytes.now) (Ok (metadata_of queues what)) }
 {
     through_get(bytes, id)?;
     Ok(metadata(what, queues))
 }
 
-fn get_selected(bytes: &[u8; MEMBER_SIZE], id: usize, queues: u8, list: &[u8]) -> Result<Body, Refusal>
+fn get_selected(
+    bytes: &[u8; MEMBER_SIZE],
+    id: usize,
+    queues: u8,
+    list: &[u8],
+) -> Result<Body, Refusal>
     ensures { result ≡ through_get id (member_of bytes.now) (selected_of queues list.now) }
 {
     through_get(bytes, id)?;
