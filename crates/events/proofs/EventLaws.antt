@@ -1,21 +1,22 @@
 -- Setup, hand back, wipe, card reset and card store: what the code does, at each return. Assumes nothing.
 use mathlib.Core.Path.{◌≡◌, refl, ap, sym, ◌∙◌}
+use mathlib.Core.Logic.{◌≢◌}
 use mathlib.Core.Bool.{Bool, true, false, not}
 use mathlib.Core.List.{List}
 use Prim.Native.Nat.{ℕ, ◌-◌, ◌≤◌}
 use native.Mathlib.Nat.{sub-zero}
 use borrow.Author.Rules.{rules}
-use borrow.Author.Tests.{not-true, not-false, eqb-true}
+use borrow.Author.Tests.{not-true, not-false, eqb-true, eq-eqb, ne_eqb}
 use lib.Dec.{eqb}
-use lib.ListN.{length, take, drop, replicate}
+use lib.ListN.{length, take, drop}
 use Rattle.std.specs.Prelude.{⊤, Ok, Err}
 use Rattle.theory.specs.Logic.{when◌then◌else◌, unless◌answer◌then◌, ◌and◌}
 use Rattle.theory.specs.Bytes.{put}
-use Rattle.theory.proofs.Tests.{both}
+use Rattle.theory.proofs.Tests.{both, and_i, false-and, and-false}
 use Rattle.theory.proofs.Bytes.{put_all}
 use Rattle.theory.proofs.Ladder.{stop, pass}
 use Rattle.protocol.specs.declared.EventRefusal.{EventRefusal}
-use Rattle.protocol.specs.declared.EventRefusal.TheVariants.{BadSetup, WrongMark}
+use Rattle.protocol.specs.declared.EventRefusal.TheVariants.{WrongMark}
 use Rattle.protocol.specs.Answers.{EventAnswer}
 use Rattle.inventory.specs.Inventory.{selector_of}
 use Rattle.values.specs.Apply.{storable}
@@ -73,30 +74,45 @@ bytes-tested n q g s b r t h e f =
 pub setup-made : (n g s : ℕ) (f l own : List ℕ) → length f ≡ features_size → length l ≡ features_size → own ≡ put 0 f l → setup_with n g s own ≡ setup_with n g s f
 setup-made n g s f l own h k e = rw (e, put_all f l (h ∙ sym k))
 
-module _ (n : ℕ) (q : List ℕ) (g s : ℕ) (f c : List ℕ) (t : Bool) (e : t ≡ in_numbers n q g s and eqb (length f) features_size and eqb (length c) (card_size n)) where
-  pub setup-refused : not t ≡ true → (d : List ℕ) → d ≡ replicate (length c) 0 → (Err BadSetup, d) ≡ set_up c n q g s f
-  unfolding set_up refused_setup
-  setup-refused h d r = stop _ _ _ _ (sym e ∙ not-true t h) (ap (λ l. (Err BadSetup, l)) r)
+-- each test of a setup, and what it is once they are passed: t tested the numbers, r is the card's length
+module _ (n : ℕ) (q : List ℕ) (g s : ℕ) (f c : List ℕ) (t : Bool) (e : t ≡ in_numbers n q g s) where
+  abbrev good : Bool
+  good = in_numbers n q g s and eqb (length f) features_size and eqb (length c) (card_size n)
+
+  refused-as : good ≡ false → (x : EventAnswer × List ℕ) → x ≡ refused_setup c → x ≡ set_up c n q g s f
+  unfolding set_up
+  refused-as h x p = stop _ _ _ _ h p
+
+  pub refused-numbers : not t ≡ true → (x : EventAnswer × List ℕ) → x ≡ refused_setup c → x ≡ set_up c n q g s f
+  refused-numbers h = refused-as (rw (sym e ∙ not-true t h, false-and, false-and))
 
   module _ (h : not t ≡ false) where
-    passed : in_numbers n q g s and eqb (length f) features_size and eqb (length c) (card_size n) ≡ true
-    passed = sym e ∙ not-false t h
+    there : in_numbers n q g s ≡ true
+    there = sym e ∙ not-false t h
 
     numbers : InNumbers n q g s
-    numbers = numbers-in n q g s (both _ _ (both _ _ passed).0).0
+    numbers = numbers-in n q g s there
 
     pub setup-bounds : InBounds n g s
     setup-bounds = record { few_members = numbers.few; few_gets = numbers.few_gets; few_sets = numbers.few_sets }
 
-    pub setup-sixteen : length f ≡ features_size
-    setup-sixteen = eqb-true _ _ (both _ _ (both _ _ passed).0).1
+    pub refused-features : length f ≢ features_size → (x : EventAnswer × List ℕ) → x ≡ refused_setup c → x ≡ set_up c n q g s f
+    refused-features k = refused-as (rw (ne_eqb _ _ k, and-false, false-and))
 
-    pub setup-long : length c ≡ card_size (length q)
-    setup-long = eqb-true _ _ (both _ _ passed).1 ∙ ap card_size (sym numbers.each)
+    module _ (k : length f ≡ features_size) (r : ℕ) (b : r ≡ card_bytes n) where
+      pub refused-length : length c ≢ r → (x : EventAnswer × List ℕ) → x ≡ refused_setup c → x ≡ set_up c n q g s f
+      refused-length l = refused-as (rw (sym (bytes-tested n q g s (length c) r t h e b) ∙ ne_eqb _ _ l, and-false))
 
-    pub setup-done : (x : Setup) (d : List ℕ) → x ≡ setup_with n g s f → d ≡ fresh_card x q 0 → (Ok tt, d) ≡ set_up c n q g s f
-    unfolding set_up
-    setup-done x d r p = pass _ _ _ _ passed (ap (λ l. (Ok tt, l)) (p ∙ rw r))
+      module _ (l : length c ≡ r) where
+        long : eqb (length c) (card_size n) ≡ true
+        long = sym (bytes-tested n q g s (length c) r t h e b) ∙ eq-eqb _ _ l
+
+        pub setup-long : length c ≡ card_size (length q)
+        setup-long = eqb-true _ _ long ∙ ap card_size (sym numbers.each)
+
+        pub setup-done : (x : Setup) (d : List ℕ) → x ≡ setup_with n g s f → d ≡ fresh_card x q 0 → (Ok tt, d) ≡ set_up c n q g s f
+        unfolding set_up
+        setup-done x d p y = pass _ _ _ _ (and_i _ _ (and_i _ _ there (eq-eqb _ _ k)) long) (ap (λ v. (Ok tt, v)) (y ∙ rw p))
 
 -- a setup by value, of which the counts of its members are lent
 pub set-up-by : (c d : List ℕ) (x : setups.Setup) (a : EventAnswer) → (a, d) ≡ set_up c x.members (take (x.members - 0) (drop 0 x.queues)) x.gets x.sets x.features

@@ -7,7 +7,7 @@ ghost use Rattle.theory.specs.Bytes.{put};
 ghost use Rattle.member.specs.Member.{features_size};
 ghost use Rattle.card.specs.Layout.{card_header_size, card_size, HasRecord, counts_from, fresh_header, fresh_records, fresh_card, setup_of};
 ghost use Rattle.setups.specs.Setup.{most_members, in_numbers};
-ghost use Rattle.events.specs.Events.{InBounds, setup_with, set_up, set_up_of, set_up_from, member_answer, with_handed_back, hand_back, wipe, reset_card, store_in, store};
+ghost use Rattle.events.specs.Events.{InBounds, setup_with, refused_setup, set_up, set_up_of, set_up_from, member_answer, with_handed_back, hand_back, wipe, reset_card, store_in, store};
 
 use card::{FEATURES_AT, IN_USE_AT, Setup};
 use member::{FEATURES_SIZE, Member};
@@ -45,24 +45,12 @@ fn write_fresh(card: &mut [u8], s: Setup, queues: &[u8])
     write_members(card, queues, s.features);
 }
 
-// Whether a setup is in the ranges of SPEC 2.1, its features are 16 bytes, and the buffer is one card long.
-fn is_setup(
-    members: u64,
-    queues: &[u8],
-    gets: u64,
-    sets: u64,
-    features: usize,
-    buffer: usize,
-) -> bool
-    ensures { result ≡ in_numbers members queues.now gets sets and eqb features features_size and eqb buffer (card_size members) }
+// A setup that is refused: the buffer becomes zeros.
+fn refuse_setup(card: &mut [u8]) -> Result<(), EventRefusal>
+    ensures { (result, card.new) ≡ refused_setup card.old }
 {
-    if !setups::in_numbers(members, queues, gets, sets) {
-        return false;
-    }
-    if features != FEATURES_SIZE {
-        return false;
-    }
-    buffer == card::card_bytes(members)
+    wire::zero(card);
+    Err(EventRefusal::BadSetup)
 }
 
 // The setup with these numbers, which fit its bytes.
@@ -80,7 +68,8 @@ fn setup_with(members: u64, gets: u64, sets: u64, features: &[u8]) -> Setup
     }
 }
 
-// Setup: a fresh card, or where it is refused a buffer of zeros. There is one queue count for each member.
+// Setup: a fresh card, or where it is refused a buffer of zeros. There is one queue count for each member; the features are 16
+// bytes, and the buffer is one card long.
 pub fn set_up(
     card: &mut [u8],
     members: u64,
@@ -91,9 +80,14 @@ pub fn set_up(
 ) -> Result<(), EventRefusal>
     ensures { (result, card.new) ≡ set_up card.old members queues.now gets sets features.now }
 {
-    if !is_setup(members, queues, gets, sets, features.len(), card.len()) {
-        wire::zero(card);
-        return Err(EventRefusal::BadSetup);
+    if !setups::in_numbers(members, queues, gets, sets) {
+        return refuse_setup(card);
+    }
+    if features.len() != FEATURES_SIZE {
+        return refuse_setup(card);
+    }
+    if card.len() != card::card_bytes(members) {
+        return refuse_setup(card);
     }
     let made = setup_with(members, gets, sets, features);
     write_fresh(card, made, queues);
@@ -121,10 +115,7 @@ pub fn set_up_from(card: &mut [u8], setup: &[u8]) -> Result<(), EventRefusal>
 {
     match setups::read(setup) {
         Ok(s) => set_up_of(card, s),
-        Err(_) => {
-            wire::zero(card);
-            Err(EventRefusal::BadSetup)
-        }
+        Err(_) => refuse_setup(card),
     }
 }
 

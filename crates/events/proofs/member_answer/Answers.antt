@@ -4,10 +4,6 @@ use Rattle.events.specs.Events.{member_answer}
 use Rattle.events.proofs.EventLaws.{told-long, told-size, told-record}
 use Rattle.events.proofs.member_answer.Goals as goal
 
-pub is_sound-requires : goal.is_sound-requires
-unfolding member_answer
-is_sound-requires c = search rules
-
 pub returns-then-not-is_sound : goal.returns-then-not-is_sound
 unfolding member_answer
 returns-then-not-is_sound c = search ladder
