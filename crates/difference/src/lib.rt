@@ -51,7 +51,7 @@ fn span_of(list: &[u8], t: u16, selector: u64) -> Span
         let Ok(part) = part else {
             return Span::Nowhere;
         };
-        if parts::is_same_part(t, selector, part.part_type, part.selector) {
+        if part.is_named(t, selector) {
             return Span::Value {
                 start: part.start,
                 len: part.value.len(),

@@ -30,6 +30,18 @@ pub struct Part<'a> {
     pub value: &'a [u8],
 }
 
+impl<'a> Part<'a> {
+    // Whether it is the part of this type and selector.
+    pub fn is_named(&self, t: u16, selector: u64) -> bool
+        ensures { result ≡ eqb self.now.part_type t and eqb self.now.selector selector }
+    {
+        if self.part_type != t {
+            return false;
+        }
+        self.selector == selector
+    }
+}
+
 // A header or a value that runs past the end of its list.
 #[derive(Clone, Copy)]
 pub struct Cut;
@@ -116,16 +128,6 @@ pub fn is_whole(form: ListForm, list: &[u8]) -> bool
     true
 }
 
-// Whether a part of type u and selector v is the part of type t and selector s.
-pub fn is_same_part(t: u16, s: u64, u: u16, v: u64) -> bool
-    ensures { result ≡ eqb u t and eqb v s }
-{
-    if u != t {
-        return false;
-    }
-    v == s
-}
-
 // Whether some part of the list has this type and selector.
 pub fn contains(form: ListForm, list: &[u8], t: u16, selector: u64) -> bool
     ensures { result ≡ among t selector (parts_of form list.now) }
@@ -134,7 +136,7 @@ pub fn contains(form: ListForm, list: &[u8], t: u16, selector: u64) -> bool
         let Ok(part) = part else {
             return false;
         };
-        if is_same_part(t, selector, part.part_type, part.selector) {
+        if part.is_named(t, selector) {
             return true;
         }
     }

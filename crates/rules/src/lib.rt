@@ -102,6 +102,7 @@ fn repeats(form: ListForm, list: &[u8], queues: u8) -> bool
     ensures { result ≡ repeated queues (parts_of form list.now) }
 {
     let mut reader = parts::read(form, list);
+    // (d) a `for` here would keep the reader, and the inner loop starts where it stands.
     'parts: loop {
         let Some(part) = reader.next() else {
             return false;
@@ -116,12 +117,7 @@ fn repeats(form: ListForm, list: &[u8], queues: u8) -> bool
             let Ok(other) = other else {
                 break 'rest;
             };
-            if parts::is_same_part(
-                part.part_type,
-                part.selector,
-                other.part_type,
-                other.selector,
-            ) {
+            if other.is_named(part.part_type, part.selector) {
                 break 'parts;
             }
         }
@@ -176,7 +172,10 @@ pub fn check_list(queues: u8, features: &[u8], list: &[u8]) -> Result<(), Cause>
             first = first_of(first, check_absent(t, part.flags));
             continue;
         };
-        first = first_of(first, check_row(rows[i].size, seen[i], t, part.value, features));
+        first = first_of(
+            first,
+            check_row(rows[i].size, seen[i], t, part.value, features),
+        );
         seen[i] = true;
     }
     decide(first, list, queues)

@@ -7,16 +7,16 @@ use Rattle.parts.proofs.contains.Goals as goal
 pub loop-part-preserved : goal.loop-part-preserved
 unfolding among
 loop-part-preserved c =
-    rw (part_given c.in-Some.ensures.steps c.in-Ok.is, ← c.is_same_part.ensures, c.if-is_same_part.false, false-or) at c.loop-part.invariant
+    rw (part_given c.in-Some.ensures.steps c.in-Ok.is, ← c.is_named.ensures, c.if-is_named.false, false-or) at c.loop-part.invariant
 
 pub returns-in_default : goal.returns-in_default
 unfolding among
 returns-in_default c = sym (rw (cut_given c.in-Some.ensures.steps c.in_default.is) at c.loop-part.invariant)
 
-pub returns-then-is_same_part : goal.returns-then-is_same_part
+pub returns-then-is_named : goal.returns-then-is_named
 unfolding among
-returns-then-is_same_part c =
-    sym (rw (part_given c.in-Some.ensures.steps c.in-Ok.is, ← c.is_same_part.ensures, c.if-is_same_part.true, true-or) at c.loop-part.invariant)
+returns-then-is_named c =
+    sym (rw (part_given c.in-Some.ensures.steps c.in-Ok.is, ← c.is_named.ensures, c.if-is_named.true, true-or) at c.loop-part.invariant)
 
 pub returns : goal.returns
 unfolding among

@@ -36,9 +36,9 @@ parts-preserved c = rw (cut_given c.in-Some-other.ensures.steps c.in_default-oth
 pub rest-preserved : goal.rest-preserved
 unfolding among
 rest-preserved c =
-    rw (part_given c.in-Some-other.ensures.steps c.in-Ok-other.is, ← c.is_same_part.ensures, c.if-is_same_part.false, false-or) at c.rest.invariant
+    rw (part_given c.in-Some-other.ensures.steps c.in-Ok-other.is, ← c.is_named.ensures, c.if-is_named.false, false-or) at c.rest.invariant
 
 pub returns : goal.returns
 unfolding among
 returns c =
-    sym (rw (part_given c.in-Some-other.ensures.steps c.in-Ok-other.is, ← c.is_same_part.ensures, c.if-is_same_part.true, true-or, true-or) at c.rest.invariant)
+    sym (rw (part_given c.in-Some-other.ensures.steps c.in-Ok-other.is, ← c.is_named.ensures, c.if-is_named.true, true-or, true-or) at c.rest.invariant)
