@@ -1,4 +1,5 @@
 -- DEMAND 2: what is not read of the header of a part. Assumes nothing.
+use Rattle.std.specs.Prelude.{Result, Ok, Err}
 use mathlib.Core.Path.{◌≡◌, refl, ap, sym, ◌∙◌}
 use mathlib.Core.Bool.{false}
 use mathlib.Core.List.{List, [], ◌++◌, append_assoc}
@@ -13,6 +14,7 @@ use Rattle.theory.proofs.Tests.{by_cases}
 use Rattle.theory.proofs.Items.{items-same}
 use Rattle.wire.specs.Le.{le, number}
 use Rattle.wire.proofs.Le.{number-byte, number-alike, number_append}
+use Rattle.protocol.specs.declared.Refusal.{Refusal}
 use Rattle.protocol.specs.declared.Body.{Body}
 use Rattle.protocol.specs.declared.Body.TheVariants as body
 use Rattle.inventory.specs.Inventory.{row_at, row_count, low_bytes, selector_of}
@@ -31,7 +33,7 @@ use Rattle.card.specs.Layout.{member_in}
 use Rattle.frame.specs.Frame.{group_at, member_at, opcode_of, target_of, data_of}
 use Rattle.frame.specs.Fields.{object_valid, get_in, set_in, fields_of}
 use Rattle.frame.specs.Ask.{framed_of, ask_of}
-use Rattle.reply.specs.Result.{result_of}
+use Rattle.reply.specs.Result.{result_of, result_given}
 use Rattle.admin.specs.Command.{ask_in, effect, changing, perform, respond}
 use Rattle.demands.specs.PartHeaders.{named_bytes, SamePart, SameGiven, same_given, next_given, SameAsked, same_asked, next_asked, HeadersNotRead}
 use Rattle.demands.proofs.SameAsked.{Same, respond-alike}
@@ -160,14 +162,14 @@ module _ (l m : List ℕ) (a : SameAsked l m) where
   unfolding part_item asks
   item-same queues values i = rw (among-alike FreeAsked (row_at i).part_type (row_at i).selector (asked-alike a))
 
-  result-same : (queues : ℕ) (values : List ℕ) (b : Body) → result_of queues m values b ≡ result_of queues l values b
+  result-same : (queues : ℕ) (values : List ℕ) (x : Result Body Refusal) → result_given queues m values x ≡ result_given queues l values x
   unfolding result_of parts_written
-  result-same queues values body.Nothing = refl
-  result-same queues values (body.Kind k) = refl
-  result-same queues values (body.Number n) = refl
-  result-same queues values body.Headers = refl
-  result-same queues values body.Selected = items-same _ _ row_count row_count 0 refl (λ i h. item-same queues values i)
-  result-same queues values body.All = refl
+  result-same queues values (Err a) = refl
+  result-same queues values (Ok (body.Kind k)) = refl
+  result-same queues values (Ok (body.Number n)) = refl
+  result-same queues values (Ok body.Headers) = refl
+  result-same queues values (Ok body.Selected) = items-same _ _ row_count row_count 0 refl (λ i h. item-same queues values i)
+  result-same queues values (Ok body.All) = refl
 
 -- ---- two requests with the same bytes before their lists ----
 

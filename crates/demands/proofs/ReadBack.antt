@@ -7,7 +7,7 @@ use mathlib.Core.List.{List, [], ◌++◌}
 use Prim.Native.Nat.{ℕ, ◌+◌, ◌≤◌}
 use native.Mathlib.Omega.{arith}
 use borrow.Author.Tests.{eq-eqb, le-leb, ltb-true}
-use lib.Dec.{leb, ltb}
+use lib.Dec.{eqb, leb, ltb}
 use lib.ListN.{length, drop}
 use Rattle.theory.specs.Logic.{when◌then◌else◌, unless◌answer◌then◌, ◌and◌, ◌or◌}
 use Rattle.theory.proofs.Tests.{by_cases, both}
@@ -51,6 +51,23 @@ all-readable (Err Running) = refl
 all-readable (Err BadList) = refl
 all-readable (Err ShortReply) = refl
 
+-- success, and nothing else, has status 0
+zero-done : (a : Answer) → eqb (status_of a) 0 ≡ is_ok a
+zero-done (Ok x) = refl
+zero-done (Err BadLength) = refl
+zero-done (Err BadGroup) = refl
+zero-done (Err BadOpcode) = refl
+zero-done (Err NoMember) = refl
+zero-done (Err Marked) = refl
+zero-done (Err BadField) = refl
+zero-done (Err Exists) = refl
+zero-done (Err NotLive) = refl
+zero-done (Err NoRoom) = refl
+zero-done (Err WrongKind) = refl
+zero-done (Err Running) = refl
+zero-done (Err BadList) = refl
+zero-done (Err ShortReply) = refl
+
 -- a head, and what follows it
 module _ (a : Answer) (x : List ℕ) where
   status-in : number 0 2 (head_of a ++ x) ≡ status_of a
@@ -83,7 +100,7 @@ module _ (op what : ℕ) (a : Answer) (y : List ℕ) (s : supported op ≡ true)
   length-right : length_right (form_of op what) (status_of a) (head_of a ++ y) ≡ true
   unfolding length_right when◌then◌else◌
   length-right =
-      by_cases (is_ok a) (λ d. rw (d, after-head a y) (f d)) (λ d. rw d (eq-eqb _ _ (reply-long a y ∙ rw (g d))))
+      rw (zero-done a) (by_cases (is_ok a) (λ d. rw (d, after-head a y) (f d)) (λ d. rw d (eq-eqb _ _ (reply-long a y ∙ rw (g d)))))
 
   reply-read : read_reply op what (head_of a ++ y) ≡ told a
   unfolding read_reply unless◌answer◌then◌

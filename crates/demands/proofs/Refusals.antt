@@ -2,16 +2,14 @@
 -- answer is not 0. Assumes nothing.
 use Rattle.std.specs.Prelude.{Ok, Err, is_ok}
 use mathlib.Core.Path.{◌≡◌, refl, ap}
-use mathlib.Core.Bool.{true, false, not}
+use mathlib.Core.Bool.{Bool, true, false, not}
 use mathlib.Core.List.{List}
 use Prim.Native.Nat.{ℕ}
-use lib.Dec.{eqb}
 use borrow.Author.Tests.{eqb-true}
 use Rattle.theory.specs.Logic.{when◌then◌else◌, unless◌answer◌then◌}
 use Rattle.theory.proofs.Tests.{by_cases, unless-cases, and-false, never}
 use Rattle.wire.specs.Le.{le, bytes, number}
-use Rattle.protocol.specs.declared.Refusal.TheVariants.{BadLength, BadGroup, BadOpcode, NoMember, Marked, BadField, Exists, NotLive, NoRoom, WrongKind, Running, BadList, ShortReply}
-use Rattle.protocol.specs.Answers.{Answer, EventAnswer, status_of, event_number}
+use Rattle.protocol.specs.Answers.{Answer, EventAnswer, event_number}
 use Rattle.card.specs.Sound.{is_sound}
 use Rattle.events.specs.Events.{hand_back as hand_back_of, wipe as wipe_of, reset_card, store_in, store}
 use Rattle.events.proofs.Cases.{if-done-cases, on-unsound, on-member-cases}
@@ -24,16 +22,17 @@ use Rattle.staging.specs.Staging.{without_held, begin_of, feed_of, finish_of, dr
 use Rattle.staging.proofs.Refusals.{on-member-cases as restore-cases, on-open-cases, on-open-both, on-member-unsound, on-open-unsound}
 use Rattle.message.proofs.Cases.{answer-unsound, no-data-keeps}
 
--- a number that is refused picks the card as it was
-kept : (n : ℕ) (next c : List ℕ) → not (eqb n 0) ≡ true → (when eqb n 0 then next else c) ≡ c
+-- a refusal picks the card as it was
+kept : (t : Bool) (next c : List ℕ) → not t ≡ true → (when t then next else c) ≡ c
 unfolding when◌then◌else◌
-kept n next c e = by_cases (eqb n 0) (λ t. let z = rw t at e in cc) (λ t. rw t)
+kept true next c e = never e
+kept false next c e = refl
 
 -- the status is what the reply's first two bytes say
 says-refused : (a : Answer) (result : List ℕ) → refused (written (reply_of a result)) ≡ true → not (is_ok a) ≡ true
 unfolding refused reply_of head_of bytes number le
-says-refused a result e =
-    by_cases (is_ok a) (λ t. let z = rw (eqb-true (status_of a) 0 t) at e in cc) (λ t. rw t)
+says-refused (Ok x) result e = cc
+says-refused (Err a) result e = refl
 
 -- what is to be shown of a command and of an event
 Keeps : List ℕ → List ℕ × List ℕ → Type 0
@@ -48,7 +47,7 @@ respond-keeps c r room =
     respond-cases c r room (Keeps c) (λ e. refl)
     (λ h s e.
     let x = perform c r (ask_in c r) in
-    kept (status_of (last_answer room x)) x.card c (says-refused (last_answer room x) x.result e))
+    kept (is_ok (last_answer room x)) x.card c (says-refused (last_answer room x) x.result e))
 
 -- ---- a restore in fragments ----
 
@@ -63,19 +62,7 @@ DropsAlike x y = refused (answered x.0) ≡ true → x.1 ≡ y.1
 done-zero : (a : Answer) (result : List ℕ) → is_ok a ≡ true → number 0 4 (reply_of a result) ≡ 0
 unfolding reply_of head_of bytes number le
 done-zero (Ok x) result e = refl
-done-zero (Err BadLength) result e = never e
-done-zero (Err BadGroup) result e = never e
-done-zero (Err BadOpcode) result e = never e
-done-zero (Err NoMember) result e = never e
-done-zero (Err Marked) result e = never e
-done-zero (Err BadField) result e = never e
-done-zero (Err Exists) result e = never e
-done-zero (Err NotLive) result e = never e
-done-zero (Err NoRoom) result e = never e
-done-zero (Err WrongKind) result e = never e
-done-zero (Err Running) result e = never e
-done-zero (Err BadList) result e = never e
-done-zero (Err ShortReply) result e = never e
+done-zero (Err a) result e = never e
 
 four-refused : (a : Answer) (result : List ℕ) → refused (answered (number 0 4 (reply_of a result))) ≡ true → not (is_ok a) ≡ true
 unfolding refused
@@ -90,7 +77,7 @@ respond-four c r room =
     respond-cases c r room (FourKeep c) (λ e. refl)
     (λ h s e.
     let x = perform c r (ask_in c r) in
-    kept (status_of (last_answer room x)) x.card c (four-refused (last_answer room x) x.result e))
+    kept (is_ok (last_answer room x)) x.card c (four-refused (last_answer room x) x.result e))
 
 begin-keeps : (c : List ℕ) (m : ℕ) → KeepsRestore c (begin_of c m)
 unfolding KeepsRestore begin_of refused

@@ -1,7 +1,7 @@
 -- What a built request asks has a result of the form that the host reads by. Assumes nothing.
 use Rattle.std.specs.Prelude.{Result, Ok, Err, is_ok}
 use mathlib.Core.Path.{◌≡◌, refl}
-use mathlib.Core.Bool.{true, false}
+use mathlib.Core.Bool.{true}
 use mathlib.Core.List.{List, [], ◌++◌}
 use Prim.Native.Nat.{ℕ, zero, suc, ◌+◌, ◌*◌, ◌%◌, ◌^◌, ◌<◌}
 use native.Mathlib.Omega.{arith}
@@ -21,7 +21,7 @@ use Rattle.protocol.specs.declared.Metadata.TheVariants.{Size, Count, HeaderList
 use Rattle.protocol.specs.declared.ObjectKind.{ObjectKind}
 use Rattle.protocol.specs.declared.ReadOp.{ReadOp}
 use Rattle.protocol.specs.declared.ReadOp.TheVariants.{QueryObject, GetMetadata, GetSelected, GetAll}
-use Rattle.protocol.specs.Answers.{is_get}
+use Rattle.protocol.specs.Answers.{is_get, outcome_of}
 use Rattle.inventory.specs.Inventory.{values_size, part_count, parts_size}
 use Rattle.inventory.specs.Header.{header_size}
 use Rattle.capture.specs.Capture.{All, Asked, headers_of}
@@ -83,14 +83,14 @@ metadata-form (suc (suc (suc t))) h = absurd (omega (arith, leb-true (suc (suc (
 
 metadata-asks : (ids m t : ℕ) (d : List ℕ) → get_or d type_at 0 ≡ t → Asks (form_of 0x0e t) (metadata_in ids m d)
 unfolding metadata_in form_of when◌then◌else◌
-metadata-asks ids m t d e = rw (← e) (unless-cases (Asks (form_of 0x0e (get_or d type_at 0))) _ _ _ (λ f. refl) (λ f. metadata-form (get_or d type_at 0) (both _ _ f).1))
+metadata-asks ids m t d e = rw (← e) (unless-cases (Asks (form_of 0x0e (get_or d type_at 0))) _ _ _ (λ f. tt) (λ f. metadata-form (get_or d type_at 0) (both _ _ f).1))
 
 get-asks : (ids m : ℕ) (d : List ℕ) → Asks WholeParts (get_in ids m d)
 unfolding get_in
 get-asks ids m d =
     unless-cases (Asks WholeParts) _ _ _ (λ e. tt) (λ e.
-    if-cases (Asks WholeParts) _ _ _ (λ e. tt) (λ e.
-    unless-cases (Asks WholeParts) _ _ _ (λ e. tt) (λ e. tt)))
+    if-cases (Asks WholeParts) _ _ _ (λ e. refl) (λ e.
+    unless-cases (Asks WholeParts) _ _ _ (λ e. tt) (λ e. refl)))
 
 -- what is the type of a metadata command
 abbrev pub TypeOf : Command → ℕ → Type 0
@@ -100,18 +100,18 @@ fields-ask : (ids m : ℕ) (x : Command) (list : List ℕ) (what : ℕ) → what
     → Asks (form_of (sent_of x).opcode what) (fields_of ids m (sent_of x).opcode (data_for x list))
 unfolding fields_of create_in modify_in query_in destroy_in set_in mode_in use_in when◌then◌else◌ form_of laid
 fields-ask ids m host.ListQuery list what w t = refl
-fields-ask ids m (host.ListUse mask) list what w t = unless-cases (Asks (Exactly 0)) _ _ _ (λ e. tt) (λ e. tt)
-fields-ask ids m (host.Create k id kind) list what w t = unless-cases (Asks (Exactly 0)) _ _ _ (λ e. tt) (λ e. tt)
-fields-ask ids m (host.Modify k id kind) list what w t = unless-cases (Asks (Exactly 0)) _ _ _ (λ e. tt) (λ e. tt)
-fields-ask ids m (host.Query k id) list what w t = unless-cases (Asks (Exactly 8)) _ _ _ (λ e. tt) (λ e. tt)
-fields-ask ids m (host.Destroy k id) list what w t = unless-cases (Asks (Exactly 0)) _ _ _ (λ e. tt) (λ e. tt)
+fields-ask ids m (host.ListUse mask) list what w t = unless-cases (Asks (Exactly 0)) _ _ _ (λ e. tt) (λ e. refl)
+fields-ask ids m (host.Create k id kind) list what w t = unless-cases (Asks (Exactly 0)) _ _ _ (λ e. tt) (λ e. refl)
+fields-ask ids m (host.Modify k id kind) list what w t = unless-cases (Asks (Exactly 0)) _ _ _ (λ e. tt) (λ e. refl)
+fields-ask ids m (host.Query k id) list what w t = unless-cases (Asks (Exactly 8)) _ _ _ (λ e. tt) (λ e. refl)
+fields-ask ids m (host.Destroy k id) list what w t = unless-cases (Asks (Exactly 0)) _ _ _ (λ e. tt) (λ e. refl)
 fields-ask ids m (host.Metadata k id type) list what w t =
     let e : type ≡ what = t k id type refl in
     let b : type % 256 ≡ what = omega arith in
     metadata-asks ids m what (data_for (host.Metadata k id type) list) b
 fields-ask ids m (host.Get k id which) list what w t = get-asks ids m _
-fields-ask ids m (host.Set k id) list what w t = unless-cases (Asks (Exactly 0)) _ _ _ (λ e. tt) (λ e. tt)
-fields-ask ids m (host.SetMode k mode) list what w t = unless-cases (Asks (Exactly 0)) _ _ _ (λ e. tt) (λ e. tt)
+fields-ask ids m (host.Set k id) list what w t = unless-cases (Asks (Exactly 0)) _ _ _ (λ e. tt) (λ e. refl)
+fields-ask ids m (host.SetMode k mode) list what w t = unless-cases (Asks (Exactly 0)) _ _ _ (λ e. tt) (λ e. refl)
 
 -- steps 2 to 7
 pub request-asks : (c : List ℕ) (x : Command) (list : List ℕ) (what : ℕ) → what < 256 → TypeOf x what
@@ -132,7 +132,7 @@ request-asks c x list what w t =
 module _ (list : List ℕ) (m : Member) (few : m.queues < 5) (long : length m.values ≡ values_size) where
   -- a success has a result of this form
   record Fits (form : ResultForm) (x : Result Body Refusal) : Type 0 where
-    fits : is_ok x ≡ true → result_fits form (result_given m.queues list m.values x) ≡ true
+    fits : is_ok (outcome_of x) ≡ true → result_fits form (result_given m.queues list m.values x) ≡ true
 
   refused-fits : (form : ResultForm) (a : Refusal) → Fits form (Err a)
   refused-fits form a = record { fits = λ d. cc }

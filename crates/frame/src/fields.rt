@@ -9,7 +9,7 @@ ghost use Rattle.frame.specs.Frame.{object_size, kind_at, headers_at};
 ghost use Rattle.frame.specs.Fields.{id_of, object_valid, flags_valid, kind_in, metadata_is, id_in, id_and_kind_in, create_in, modify_in, query_in, destroy_in, metadata_in, get_in, set_in, mode_in, use_in, fields_of};
 
 use super::{Ask, FLAGS_AT, HEADERS_AT, ID_AT, KIND_AT, TYPE_AT};
-use protocol::{Refusal, ChangeOp, Metadata, ObjectKind, ReadOp};
+use protocol::{ChangeOp, Metadata, ObjectKind, ReadOp, Refusal};
 
 // The first word of a mask has all its supported bits.
 const WORD_SIZE: usize = 8;

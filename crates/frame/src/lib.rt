@@ -8,7 +8,7 @@ ghost use Rattle.theory.specs.Logic.{when◌then◌else◌};
 ghost use Rattle.frame.specs.Frame.{data_at, target_of};
 ghost use Rattle.frame.specs.Ask.{usable, reaches, attended, framed_of, ask_of};
 
-use protocol::{Refusal, ChangeOp, ReadOp};
+use protocol::{ChangeOp, ReadOp, Refusal};
 
 // Opcode 2 bytes, group type 2, reserved 12, member 8, data; at most 4,096 bytes.
 const GROUP_AT: usize = 2;

@@ -2,7 +2,7 @@
 use mathlib.Core.Path.{◌≡◌, sym, ◌∙◌}
 use mathlib.Core.Logic.{◌≢◌}
 use mathlib.Core.List.{List}
-use Rattle.std.proofs.Common.{Result, Ok, Err, ◌⊎◌, inl, inr, eqb}
+use Rattle.std.proofs.Common.{Result, Ok, ◌⊎◌, inl, inr, eqb}
 use Prim.Native.Nat.{ℕ}
 use borrow.Author.Tests.{eq-eqb, ne_eqb}
 use lib.ListN.{length}
