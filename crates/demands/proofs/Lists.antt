@@ -3,7 +3,7 @@ use mathlib.Core.Path.{◌≡◌, refl, ap, sym, ◌∙◌}
 use mathlib.Core.Bool.{true}
 use mathlib.Core.List.{List, ◌++◌}
 use Rattle.std.specs.Prelude.{IfSome}
-use Rattle.std.proofs.Common.{Some, Ok}
+use Rattle.std.proofs.Common.{Option, Some, Ok}
 use Prim.Native.Nat.{ℕ, ◌+◌, ◌-◌, ◌≤◌, ◌<◌}
 use native.Mathlib.Omega.{arith}
 use lib.ListN.{length, get_or, drop}
@@ -47,12 +47,12 @@ use Rattle.demands.proofs.Setting.{member, capture-is, settable, member_set, car
 has-member : (s : Setup) (m : ℕ) → IfSome (member_of s m) (λ x. HasMember (Ok s) m)
 unfolding member_of
 has-member s m =
-    unless-cases (λ o. IfSome o (λ x. HasMember (Ok s) m)) (within 1 s.members m) _ _ (λ t. tt) λ t.
+    unless-cases (λ (o : Option MemberSetup). IfSome o (λ x. HasMember (Ok s) m)) (within 1 s.members m) _ _ (λ t. tt) λ t.
     record { setup = s; read = refl; low = within_low 1 s.members m t; high = within-high 1 s.members m t }
 
 only-members : (setup : List ℕ) (m : ℕ) → IfSome (member_setup setup m) (λ x. HasMember (read_setup setup) m)
 unfolding member_setup
-only-members setup m = read-cases (λ o. IfSome (member_read o m) (λ x. HasMember o m)) setup tt (λ s r. has-member s m)
+only-members setup m = read-cases (λ o. IfSome {T = MemberSetup} (member_read o m) (λ x. HasMember o m)) setup tt (λ s r. has-member s m)
 
 member-said : (setup : List ℕ) (m : ℕ) (h : HasMember (read_setup setup) m)
     → member_setup setup m ≡ Some (record { queues = get_or h.setup.queues (m - 1) 0; features = h.setup.features })
