@@ -19,6 +19,7 @@ pub const FEATURES_SIZE: usize = 16;
 const HEAD_SIZE: usize = 3;
 
 // A setup, with a queue count for each member; those of members past N are 0.
+// A card's own setup has no counts, which stand in its members' records: one type of both would have a part that is not read.
 #[derive(Clone, Copy)]
 pub struct Setup {
     pub members: u8,

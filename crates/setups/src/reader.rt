@@ -108,6 +108,7 @@ fn is_version_2(s: &[u8], n: usize) -> bool
     bits(s, COUNTS_AT + 2 * n, 8 * count_bytes - 2 * n) == 0
 }
 
+// Each version is a test and two numbers: one function of both would be lent as many arguments as it has lines.
 pub fn take_version_1(s: &[u8]) -> Result<Setup, ReadRefusal>
     ensures { result ≡ take_version1 s.now }
 {
