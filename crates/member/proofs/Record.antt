@@ -135,10 +135,6 @@ module _ (r : List ℕ) (e : length r ≡ member_size) where
 
 -- ---- load and save ----
 
--- a part of a list, stored over an array of its size
-pub part-loaded : (at n : ℕ) (s l : List ℕ) → at + n ≤ length s → length l ≡ n → put 0 (bytes_at at n s) l ≡ bytes_at at n s
-part-loaded at n s l h e = put_all (bytes_at at n s) l (length-bytes_at at n s h ∙ sym e)
-
 pub front-saved : (r s : List ℕ) (b n : ℕ) (k : Bool) (q : ℕ) → b ≡ n → s ≡ put mode_at (b ∷ bool_byte k ∷ q ∷ []) r
     → s ≡ put mode_at (n ∷ indicator k ∷ q ∷ []) r
 front-saved r s b n k q e f = f ∙ rw (e, bool-byte k)

@@ -63,14 +63,13 @@ impl Member {
     pub fn fresh(queues: u8, features: [u8; FEATURES_SIZE]) -> Member
         ensures { result ≡ fresh_of queues features }
     {
-        let objects = [ObjectRecord { slot: None }; IDS];
         let mut values = [0u8; VALUES_SIZE];
         wire::copy(&mut values, 0, &features);
         Member {
             mode: Mode::Running,
             marked: false,
             queues,
-            objects,
+            objects: [ObjectRecord { slot: None }; IDS],
             held: 0,
             values,
         }
@@ -80,15 +79,12 @@ impl Member {
     pub fn hand_back(self) -> Member
         ensures { result ≡ handed_back self }
     {
-        let objects = [ObjectRecord { slot: None }; IDS];
-        let values = self.values;
         Member {
             mode: Mode::Stopped,
             marked: true,
-            queues: self.queues,
-            objects,
+            objects: [ObjectRecord { slot: None }; IDS],
             held: 0,
-            values,
+            ..self
         }
     }
 
@@ -98,20 +94,11 @@ impl Member {
         Member::fresh(self.queues, features)
     }
 
-    // A field that is an enum cannot be stored to, so the struct is made anew.
-    fn with_mode(self, mode: Mode) -> Member
+    fn with_mode(mut self, mode: Mode) -> Member
         ensures { result ≡ with_mode self mode }
     {
-        let objects = self.objects;
-        let values = self.values;
-        Member {
-            mode,
-            marked: self.marked,
-            queues: self.queues,
-            objects,
-            held: self.held,
-            values,
-        }
+        self.mode = mode;
+        self
     }
 
     // Another number of bytes held: begin, feed and the end of a holding place.
@@ -138,9 +125,8 @@ impl Member {
     pub fn store(mut self, t: u16, selector: u64, value: &[u8]) -> Member
         ensures { result ≡ with_part self t selector value.now }
     {
-        let mut values = self.values;
-        values::store_part(&mut values, self.queues, t, selector, value);
-        self.values = values;
+        let queues = self.queues;
+        values::store_part(&mut self.values, queues, t, selector, value);
         self
     }
 
@@ -148,9 +134,8 @@ impl Member {
     pub fn set_parts(mut self, list: &[u8]) -> Member
         ensures { result ≡ with_values self (applied self.queues (parts_of Parts list.now) self.values) }
     {
-        let mut values = self.values;
-        values::apply(&mut values, self.queues, list);
-        self.values = values;
+        let queues = self.queues;
+        values::apply(&mut self.values, queues, list);
         self
     }
 
@@ -184,9 +169,7 @@ impl Member {
         if IDS <= id {
             return self;
         }
-        let objects = self.objects;
-        let left = objects::cleared(objects, id);
-        self.objects = left;
+        self.objects = objects::cleared(self.objects, id);
         self
     }
 
@@ -194,9 +177,7 @@ impl Member {
     pub fn has_room(self, gets: u8, sets: u8) -> bool
         ensures { result ≡ room_in gets sets self }
     {
-        let objects = self.objects;
-        let bytes = objects::object_bytes(objects);
-        objects::is_within_limits(&bytes, gets, sets)
+        objects::is_within_limits(&objects::object_bytes(self.objects), gets, sets)
     }
 }
 
@@ -265,19 +246,13 @@ pub fn is_sound_record(
 pub fn load(bytes: &[u8; MEMBER_SIZE]) -> Member
     ensures { result ≡ member_of bytes.now }
 {
-    let mode = protocol::mode_of(bytes[MODE_AT]);
-    let marked = is_marked(bytes);
-    let queues = queues_of(bytes);
-    let objects = objects::objects_in(fields::object_bytes_of(bytes));
-    let held = wire::read_u16(bytes, HELD_AT);
-    let values = *values_of(bytes);
     Member {
-        mode,
-        marked,
-        queues,
-        objects,
-        held,
-        values,
+        mode: protocol::mode_of(bytes[MODE_AT]),
+        marked: is_marked(bytes),
+        queues: queues_of(bytes),
+        objects: objects::objects_in(fields::object_bytes_of(bytes)),
+        held: wire::read_u16(bytes, HELD_AT),
+        values: *values_of(bytes),
     }
 }
 
@@ -286,11 +261,8 @@ pub fn save(m: Member, bytes: &mut [u8])
     requires { length bytes.old ≡ member_size }
     ensures { bytes.new ≡ member_bytes m }
 {
-    let mode = m.mode;
-    fields::save_front(mode, m.marked, m.queues, bytes);
-    let objects = m.objects;
-    fields::save_objects(objects, bytes);
+    fields::save_front(m.mode, m.marked, m.queues, bytes);
+    fields::save_objects(m.objects, bytes);
     wire::write(bytes, HELD_AT, 2, m.held as u64);
-    let values = m.values;
-    wire::copy(bytes, VALUES_AT, &values);
+    wire::copy(bytes, VALUES_AT, &m.values);
 }
