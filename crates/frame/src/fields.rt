@@ -9,7 +9,7 @@ ghost use Rattle.frame.specs.Frame.{object_size, kind_at, headers_at};
 ghost use Rattle.frame.specs.Fields.{id_of, object_valid, flags_valid, kind_in, metadata_is, id_in, id_and_kind_in, create_in, modify_in, query_in, destroy_in, metadata_in, get_in, set_in, mode_in, use_in, fields_of};
 
 use super::{Ask, FLAGS_AT, HEADERS_AT, ID_AT, KIND_AT, TYPE_AT};
-use protocol::{ChangeOp, Metadata, ObjectKind, ReadOp, Refusal};
+use protocol::{ChangeOp, Metadata, Mode, ObjectKind, ReadOp, Refusal};
 
 // The first word of a mask has all its supported bits.
 const WORD_SIZE: usize = 8;
@@ -50,6 +50,7 @@ fn id_in(ids: u8, d: &[u8]) -> Result<usize, Refusal>
     Ok(id_of(d))
 }
 
+// No `From`, since 0 is a get object in a command's data and a free id in a record.
 fn kind_in(b: u8) -> ObjectKind
     ensures { result ≡ kind_in b }
 {
@@ -110,6 +111,7 @@ fn destroy_in(ids: u8, m: u64, d: &[u8]) -> Result<Ask, Refusal>
     Ok(Ask::Change(m, ChangeOp::Destroy(id)))
 }
 
+// No `From`, which would stand in protocol, away from the fields that give the byte its meaning.
 fn metadata_is(b: u8) -> Metadata
     ensures { result ≡ metadata_is b }
 {
@@ -163,7 +165,7 @@ fn mode_in(m: u64, d: &[u8]) -> Result<Ask, Refusal>
     if 1 < d[0] {
         return Err(Refusal::BadField);
     }
-    Ok(Ask::Change(m, ChangeOp::SetMode(protocol::mode_of(d[0]))))
+    Ok(Ask::Change(m, ChangeOp::SetMode(Mode::from(d[0]))))
 }
 
 // No bit is set.

@@ -247,7 +247,7 @@ pub fn load(bytes: &[u8; MEMBER_SIZE]) -> Member
     ensures { result ≡ member_of bytes.now }
 {
     Member {
-        mode: protocol::mode_of(bytes[MODE_AT]),
+        mode: Mode::from(bytes[MODE_AT]),
         marked: is_marked(bytes),
         queues: queues_of(bytes),
         objects: objects::objects_in(fields::object_bytes_of(bytes)),

@@ -36,6 +36,7 @@ pub fn slot_in(b: u8) -> Option<ObjectKind>
     (b != 0).then_some(kind)
 }
 
+// The two ways as functions, since `from_fn` calls them by the names of their definitions; a `From` would be no plainer.
 fn object_in(b: u8) -> ObjectRecord
     ensures { result ≡ object_of b }
 {

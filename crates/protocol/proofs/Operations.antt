@@ -1,19 +1,15 @@
--- The mode of a byte that is not 0, what is said of a kind and of a mode, and a bound on the object id of an operation.
+-- What is said of a kind and of a mode, and a bound on the object id of an operation.
 -- Assumes nothing.
-use mathlib.Core.Path.{◌≡◌, refl}
+use mathlib.Core.Path.{◌≡◌}
 use mathlib.Core.Bool.{true, false}
-use Prim.Native.Nat.{ℕ, zero, suc, ◌<◌}
+use Prim.Native.Nat.{ℕ, ◌<◌}
 use Rattle.protocol.specs.declared.Mode.{Mode}
 use Rattle.protocol.specs.declared.Mode.TheVariants.{Running, Stopped}
 use Rattle.protocol.specs.declared.ObjectKind.{ObjectKind}
 use Rattle.protocol.specs.declared.ObjectKind.TheVariants.{Get, Set}
 use Rattle.protocol.specs.declared.ChangeOp.{ChangeOp}
 use Rattle.protocol.specs.declared.ChangeOp.TheVariants.{Create, Modify, Destroy, SetParts, SetMode}
-use Rattle.protocol.specs.Answers.{mode_of, is_stopped, is_get, is_set}
-
-pub mode-stopped : (b : ℕ) → (b ≡ 0 → ⊥) → Stopped ≡ mode_of b
-mode-stopped zero n = absurd (n refl)
-mode-stopped (suc b) n = refl
+use Rattle.protocol.specs.Answers.{is_stopped, is_get, is_set}
 
 -- a kind or a mode that is known, in the test of it
 pub kind-get : (k : ObjectKind) → k ≡ Get → is_get k ≡ true

@@ -147,18 +147,19 @@ pub fn event_number(answer: Result<(), EventRefusal>) -> u8
 }
 
 // The mode that a byte stands for, in a record and in a command.
-pub fn mode_of(b: u8) -> Mode
-    ensures { result ≡ mode_of b }
-{
-    if b == 0 { Mode::Running } else { Mode::Stopped }
+impl From<u8> for Mode {
+    ghost from_gives = { λ b m. m ≡ mode_of b };
+
+    fn from(b: u8) -> Mode {
+        if b == 0 { Mode::Running } else { Mode::Stopped }
+    }
 }
 
-pub fn kind_number(kind: ObjectKind) -> u8
-    ensures { result ≡ kind_number kind }
-{
-    match kind {
-        ObjectKind::Get => 0,
-        ObjectKind::Set => 1,
+impl From<ObjectKind> for u8 {
+    ghost from_gives = { λ kind b. b ≡ kind_number kind };
+
+    fn from(kind: ObjectKind) -> u8 {
+        kind as u8
     }
 }
 

@@ -93,7 +93,7 @@ fn write_result(body: Body, queues: u8, list: &[u8], values: &[u8], out: &mut [u
     ensures { out.new ≡ put 0 (result_of queues list.now values.now body) out.old }
 {
     match body {
-        Body::Kind(kind) => write_number(out, protocol::kind_number(kind) as u32),
+        Body::Kind(kind) => write_number(out, u8::from(kind) as u32),
         Body::Number(n) => write_number(out, n),
         Body::Headers => write_metadata_list(out, queues),
         Body::Selected => capture::write_asked(out, values, queues, list),

@@ -15,10 +15,6 @@ pub bounds-d-0-2 : goal.bounds-d-0-2
 unfolding mode_in
 bounds-d-0-2 c = search rules
 
-pub mode_of-requires : goal.mode_of-requires
-unfolding mode_in
-mode_of-requires c = search rules
-
 pub returns : goal.returns
 unfolding mode_in
 returns c = search ladder
