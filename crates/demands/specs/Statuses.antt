@@ -7,6 +7,7 @@ use Rattle.theory.specs.Logic.{when◌then◌else◌, ◌and◌, ◌or◌, withi
 use Rattle.wire.specs.Le.{le, bytes, number}
 use Rattle.protocol.specs.Answers.{is_stopped, is_get, is_set}
 use Rattle.protocol.specs.Opcodes.{supported, bit, names_member, supported_only}
+use Rattle.inventory.specs.declared.Row as table_row
 use Rattle.inventory.specs.Inventory as inventory
 use Rattle.inventory.specs.Inventory.{total, part_count, parts_size}
 use Rattle.rules.specs.Rules.{cause_of, is_accepted, asked_of}
@@ -111,7 +112,7 @@ bad_list c r op =
 -- the parts that a list asks for, each a header of 16 bytes and its value
 unfoldable pub asked_size : ℕ → List ℕ → ℕ
 asked_size queues list =
-    total (map (λ (p : inventory.Row). when asks Asked queues list p then 16 + p.size else 0) inventory.rows)
+    total (map (λ (p : table_row.Row). when asks Asked queues list p then 16 + p.size else 0) inventory.rows)
 
 -- the length of a result, SPEC 3.4
 unfoldable pub result_size : List ℕ → List ℕ → ℕ → ℕ
