@@ -7,8 +7,8 @@ use Rattle.std.specs.Prelude.{IfSome}
 use Rattle.std.proofs.Common.{Option, Some, None}
 use Prim.Native.Nat.{ℕ, ◌<◌, ◌≤◌}
 use native.Mathlib.Omega.{arith}
-use borrow.Author.Tests.{eqb-true, eqb-false, leb-true, le-leb, lt-leb}
-use lib.Dec.{eqb, leb}
+use borrow.Author.Tests.{leb-true, le-leb, lt-leb}
+use lib.Dec.{leb}
 use lib.ListN.{length, drop}
 use Rattle.theory.specs.Logic.{unless◌answer◌then◌}
 use Rattle.theory.specs.Bytes.{bytes_at, put}
@@ -25,16 +25,15 @@ use Rattle.setups.specs.Member.{member_setup}
 use Rattle.setups.specs.Claims.{MemberInRange}
 use Rattle.setups.proofs.Member.{member-in-range}
 use Rattle.difference.specs.declared.Span.{Span}
-use Rattle.difference.specs.declared.Span.TheVariants.{Value, Nowhere}
-use Rattle.difference.specs.declared.Verdict.{Verdict}
-use Rattle.difference.specs.declared.Verdict.TheVariants.{Passed, BadFull, BadLater, LacksPart, ShortBuffer}
-use Rattle.difference.specs.declared.Lookup.TheVariants.{InLater, InFull, Refused}
-use Rattle.difference.specs.Difference.{span_of, on_span, place_in, is_full, verdict_of, code_of, lookup_of, lookup_told, made, merge_of}
+use Rattle.std.specs.Prelude.{Option, Some, None, Ok, Err}
+use Rattle.difference.specs.declared.Refusal.{Refusal}
+use Rattle.difference.specs.declared.Refusal.TheVariants.{BadFull, BadLater, LacksPart, ShortBuffer}
+use Rattle.difference.specs.Difference.{value, in_later, in_full, Verdict, number_of, span_of, on_span, place_in, is_full, verdict_of, code_of, lookup_of, lookup_told, made, merge_of}
 use Rattle.difference.specs.Under.{lookup_under, merge_under}
 use Rattle.difference.specs.Claims.{Pair}
 use Rattle.difference.specs.Calls.{HasEach, Asks, Refuses, Asked, Stands, Tells, Finds, FindsUnder, Merges, MergesUnder, CallClaims}
 use Rattle.difference.proofs.Full.{full-there, there-full}
-use Rattle.difference.proofs.Handed.{verdict-refused, verdict-passed}
+use Rattle.difference.proofs.Handed.{number-some, verdict-cases, verdict-refused, verdict-passed}
 use Rattle.difference.proofs.Places.{span_value, span-inside}
 use Rattle.difference.proofs.Made.{made-is, pair-long}
 use Rattle.difference.proofs.Verdicts.{Passes, passes, found-there, found-outside}
@@ -62,24 +61,24 @@ module _ (q : ℕ) (features full later : List ℕ) (asked room : Bool) where
 
   module _ (a : is_accepted (cause_of q features full) ≡ true) where
     module _ (b : is_accepted (cause_of q features later) ≡ true) where
-      lacking : (HasEach q full → ⊥) → verdict ≡ LacksPart
+      lacking : (HasEach q full → ⊥) → verdict ≡ Err LacksPart
       unfolding verdict_of unless◌answer◌then◌
       lacking n =
           let none : is_full q full ≡ false =
           by_cases (is_full q full) (λ y. absurd (n (full-there q (parts_of Parts full) y))) (λ z. z) in
           rw (a, b, none)
 
-    bad-later : is_accepted (cause_of q features later) ≡ false → verdict ≡ BadLater
+    bad-later : is_accepted (cause_of q features later) ≡ false → verdict ≡ Err BadLater
     unfolding verdict_of unless◌answer◌then◌
     bad-later b = rw (a, b)
 
-  bad-full : is_accepted (cause_of q features full) ≡ false → verdict ≡ BadFull
+  bad-full : is_accepted (cause_of q features full) ≡ false → verdict ≡ Err BadFull
   unfolding verdict_of unless◌answer◌then◌
   bad-full a = rw a
 
 -- ---- what a lookup found ----
 
-none-there : (t s : ℕ) (l : List ℕ) → span_of t s l ≡ Nowhere → among t s (parts_of Parts l) ≡ true → ⊥
+none-there : (t s : ℕ) (l : List ℕ) → span_of t s l ≡ None → among t s (parts_of Parts l) ≡ true → ⊥
 none-there t s l e h =
     let none : (y : List ℕ) → value_or t s (parts_of Parts l) y ≡ y =
     λ y. span_value t s l y ∙ ap (λ w. on_span w (λ start len. bytes_at start len l) y) e in
@@ -87,7 +86,7 @@ none-there t s l e h =
     let z : ◌≡◌ {A = ℕ} 0 1 = ap length clash in
     omega arith
 
-one-there : (t s : ℕ) (l : List ℕ) (start len : ℕ) → span_of t s l ≡ Value start len → among t s (parts_of Parts l) ≡ false → ⊥
+one-there : (t s : ℕ) (l : List ℕ) (start len : ℕ) → span_of t s l ≡ value start len → among t s (parts_of Parts l) ≡ false → ⊥
 one-there t s l start len e h =
     let there : (y : List ℕ) → bytes_at start len l ≡ y =
     λ y.
@@ -96,7 +95,7 @@ one-there t s l start len e h =
     let z : ◌≡◌ {A = ℕ} 0 1 = ap length clash in
     omega arith
 
-stands : (t s : ℕ) (l : List ℕ) (start len : ℕ) → span_of t s l ≡ Value start len → Stands t s l start len
+stands : (t s : ℕ) (l : List ℕ) (start len : ℕ) → span_of t s l ≡ value start len → Stands t s l start len
 stands t s l start len e =
     record {
       inside = span-inside t s l start len e;
@@ -108,21 +107,21 @@ pub place-tells : (full later : List ℕ) (t s : ℕ) → among t s (parts_of Pa
 unfolding place_in lookup_told
 place-tells full later t s h = cases (span_of t s later) (span_of t s full) refl refl
   where
-    cases : (a b : Span) → span_of t s later ≡ a → span_of t s full ≡ b
-        → Tells full later t s (lookup_told (on_span a InLater (on_span b InFull (Refused LacksPart))))
-    cases (Value start len) b e f =
+    cases : (a b : Option Span) → span_of t s later ≡ a → span_of t s full ≡ b
+        → Tells full later t s (lookup_told (on_span a in_later (on_span b in_full (Err LacksPart))))
+    cases (Some w) b e f =
         record {
           done = refl;
-          in_later = λ y. (refl, stands t s later start len e);
-          in_full = λ n. absurd (one-there t s later start len e n);
+          in_later = λ y. (refl, stands t s later w.start w.len e);
+          in_full = λ n. absurd (one-there t s later w.start w.len e n);
         }
-    cases Nowhere (Value start len) e f =
+    cases None (Some w) e f =
         record {
           done = refl;
           in_later = λ y. absurd (none-there t s later e y);
-          in_full = λ n. (refl, stands t s full start len f);
+          in_full = λ n. (refl, stands t s full w.start w.len f);
         }
-    cases Nowhere Nowhere e f = absurd (none-there t s full f h)
+    cases None None e f = absurd (none-there t s full f h)
 
 -- ---- under a setup ----
 
@@ -152,14 +151,13 @@ module _ (s : MemberSetup) (full later : List ℕ) where
 
   -- a call that gives `refusal` with the number of the verdict
   refuses : {A : Type 0} (result : A) (refusal : ℕ → A) (asked room : Bool)
-      → ((v : Verdict) → verdict_of q features full later asked room ≡ v → (code_of v ≡ 0 → ⊥)
-      → result ≡ refusal (code_of v))
+      → ((e : Refusal) → verdict_of q features full later asked room ≡ Err e → result ≡ refusal (number_of e))
       → Refuses s full later result refusal
   refuses result refusal asked room told =
       record {
-        bad_full = λ a. told BadFull (bad-full q features full later asked room a) (λ z. omega arith);
-        bad_later = λ a b. told BadLater (bad-later q features full later asked room a b) (λ z. omega arith);
-        lacks_part = λ a b n. told LacksPart (lacking q features full later asked room a b n) (λ z. omega arith);
+        bad_full = λ a. told BadFull (bad-full q features full later asked room a);
+        bad_later = λ a b. told BadLater (bad-later q features full later asked room a b);
+        lacks_part = λ a b n. told LacksPart (lacking q features full later asked room a b n);
       }
 
   -- ---- a lookup ----
@@ -175,12 +173,11 @@ module _ (s : MemberSetup) (full later : List ℕ) where
     unfolding lookup_under
     find-known = refl
 
-    find-refused : (v : Verdict) → verdict_of q features full later (known q t named) true ≡ v
-        → (code_of v ≡ 0 → ⊥) → told ≡ (code_of v, (0, (0, 0)))
+    find-refused : (r : Refusal) → verdict_of q features full later (known q t named) true ≡ Err r
+        → told ≡ (number_of r, (0, (0, 0)))
     unfolding lookup_of lookup_told
-    find-refused v e n =
-        let l : lookup_of q features full later t selector ≡ Refused v =
-        rw e (verdict-refused v Refused (place_in full later t named) n) in
+    find-refused r e =
+        let l : lookup_of q features full later t selector ≡ Err r = verdict-refused _ Err (place_in full later t named) r e in
         ap lookup_told (find-known ∙ l)
 
     pub find-passes : q < 5 → told.0 ≡ 0
@@ -210,22 +207,18 @@ module _ (s : MemberSetup) (full later : List ℕ) where
     abbrev merged : ℕ × (ℕ × List ℕ)
     merged = merge_under (Some s) full later out
 
-    merge-refused : (v : Verdict) → verdict_of q features full later true fits ≡ v → (code_of v ≡ 0 → ⊥)
-        → merged ≡ (code_of v, (0, out))
+    merge-refused : (r : Refusal) → verdict_of q features full later true fits ≡ Err r → merged ≡ (number_of r, (0, out))
     unfolding merge_under merge_of unless◌answer◌then◌
-    merge-refused v e n = rw e (verdict-refused v (λ w. (code_of w, (0, out))) _ n)
+    merge-refused r e = verdict-refused _ (λ w. (number_of w, (0, out))) _ r e
 
     pub merge-passes : q < 5 → merged.0 ≡ 0 → Passes q features full later true fits
     merge-passes few e =
         let v = verdict_of q features full later true fits in
-        by_cases (eqb (code_of v) 0)
-        (λ z. passes q features full later true fits few (eqb-true _ _ z))
-        (λ z.
-        let n = eqb-false (code_of v) 0 z in
-        absurd (n (sym (ap (λ (x : ℕ × (ℕ × List ℕ)). x.0) (merge-refused v refl n)) ∙ e)))
+        verdict-cases v (λ z. passes q features full later true fits few z)
+        (λ r h. absurd (number-some r (sym (ap (λ (x : ℕ × (ℕ × List ℕ)). x.0) (merge-refused r h)) ∙ e)))
 
     pair-verdict : q < 5 → Asks s full later → (room : Bool) → fits ≡ room
-        → verdict_of q features full later true fits ≡ (unless room answer ShortBuffer then Passed)
+        → verdict_of q features full later true fits ≡ (unless room answer Err ShortBuffer then Ok tt)
     unfolding verdict_of unless◌answer◌then◌
     pair-verdict few a room e = rw (a.full_accepted, a.later_accepted, (asks-pair few a).lacks_none, e)
 
@@ -238,11 +231,11 @@ module _ (s : MemberSetup) (full later : List ℕ) where
         let long = pair-long q features full later (asks-pair few a) in
         let front : put 0 x out ≡ x ++ drop (parts_size q) out = put_front x out (omega arith) ∙ ap (λ n. x ++ drop n out) long in
         let none = ap code_of (pair-verdict few a true (le-leb _ _ h)) in
-        rw (← front) (verdict-passed v (λ w. (code_of w, (0, out))) (0, (parts_size q, put 0 x out)) none)
+        rw (← front) (verdict-passed v (λ w. (number_of w, (0, out))) (0, (parts_size q, put 0 x out)) none)
 
     merge-short : q < 5 → Asks s full later → length out < parts_size q → merged ≡ (6, (0, out))
     unfolding unless◌answer◌then◌
-    merge-short few a h = merge-refused ShortBuffer (pair-verdict few a false (lt-leb _ _ h)) (λ z. omega arith)
+    merge-short few a h = merge-refused ShortBuffer (pair-verdict few a false (lt-leb _ _ h))
 
   -- ---- both ----
 

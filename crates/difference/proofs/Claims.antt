@@ -3,8 +3,8 @@ use mathlib.Core.Path.{◌≡◌, refl, ap, sym, ◌∙◌}
 use mathlib.Core.Bool.{true, false}
 use mathlib.Core.List.{List, []}
 use Prim.Native.Nat.{ℕ, ◌<◌}
-use borrow.Author.Tests.{eqb-true, eqb-false, ltb-true}
-use lib.Dec.{eqb, ltb}
+use borrow.Author.Tests.{ltb-true}
+use lib.Dec.{ltb}
 use lib.ListN.{length}
 use Rattle.std.specs.Prelude.{Option, Some, None, is_some}
 use Rattle.theory.specs.Logic.{unless◌answer◌then◌}
@@ -16,12 +16,12 @@ use Rattle.inventory.proofs.Find.{place_found}
 use Rattle.parts.specs.declared.ListForm.TheVariants.{Parts}
 use Rattle.parts.specs.List.{at_most, parts_from, parts_of, whole, value_or}
 use Rattle.rules.specs.Rules.{known, every, repeated, cause_in, cause_of, is_accepted}
-use Rattle.difference.specs.declared.Verdict.{Verdict}
-use Rattle.difference.specs.declared.Lookup.TheVariants.{Refused}
-use Rattle.difference.specs.Difference.{place_in, verdict_of, code_of, lookup_of, lookup_told, made}
+use Rattle.std.specs.Prelude.{Err}
+use Rattle.difference.specs.declared.Refusal.{Refusal}
+use Rattle.difference.specs.Difference.{Verdict, number_of, place_in, verdict_of, lookup_of, lookup_told, made}
 use Rattle.difference.specs.Claims.{Pair, value_found, Claims}
 use Rattle.difference.proofs.Full.{full-there}
-use Rattle.difference.proofs.Handed.{place-value, verdict-refused}
+use Rattle.difference.proofs.Handed.{place-value, number-some, verdict-cases, verdict-refused}
 use Rattle.difference.proofs.Made.{looked_up, looked-up, made-sets, pair-accepted, pair-full, pair-long, pair-value, pair-length}
 use Rattle.difference.proofs.Verdicts.{Passes, passes, found-there, found-outside, place-done}
 
@@ -65,16 +65,15 @@ module _ (q : ℕ) (features full later : List ℕ) (t s : ℕ) (few : q < 5) wh
   abbrev verdict : Verdict
   verdict = verdict_of q features full later (known q t (selector_of t s)) true
 
-  refused-name : (code_of verdict ≡ 0 → ⊥) → (lookup_told (lookup_of q features full later t s)).0 ≡ code_of verdict
+  refused-name : (e : Refusal) → verdict ≡ Err e → (lookup_told (lookup_of q features full later t s)).0 ≡ number_of e
   unfolding lookup_of lookup_told
-  refused-name n = ap (λ l. (lookup_told l).0) (verdict-refused verdict Refused (place_in full later t (selector_of t s)) n)
+  refused-name e h = ap (λ l. (lookup_told l).0) (verdict-refused verdict Err (place_in full later t (selector_of t s)) e h)
 
   -- what is found is found in a pair, and known
   pub found-passes : (lookup_told (lookup_of q features full later t s)).0 ≡ 0 → Passes q features full later (known q t (selector_of t s)) true
   found-passes e =
-      by_cases (eqb (code_of verdict) 0)
-      (λ z. passes q features full later (known q t (selector_of t s)) true few (eqb-true _ _ z))
-      (λ n. let h = eqb-false (code_of verdict) 0 n in absurd (h (sym (refused-name h) ∙ e)))
+      verdict-cases verdict (λ z. passes q features full later (known q t (selector_of t s)) true few z)
+      (λ r h. absurd (number-some r (sym (refused-name r h) ∙ e)))
 
   pub lookup-pair : (lookup_told (lookup_of q features full later t s)).0 ≡ 0 → Pair q features full later
   lookup-pair e = (found-passes e).pair

@@ -5,7 +5,6 @@ use Prim.Native.Nat.{ℕ, zero, suc, ◌+◌, ◌-◌, ◌<◌, ◌≤◌}
 use native.Mathlib.Omega.{arith}
 use borrow.Author.Tests.{ltb-true, ltb-false, not-true, not-false}
 use lib.Dec.{ltb}
-use lib.ListN.{get_or}
 use Rattle.theory.proofs.Tests.{by_cases, both, and_i, true-and, false-and, true-or, or-true, false-or}
 use Rattle.inventory.specs.Inventory.{row_at, row_count, present}
 use Rattle.parts.specs.List.{PartList, among}

@@ -1,31 +1,28 @@
 -- The calls under a setup, return by return. Assumes nothing.
 use mathlib.Core.Path.{◌≡◌, sym}
-use mathlib.Core.Bool.{true, false, not}
+use mathlib.Core.Bool.{true}
 use mathlib.Core.List.{List, []}
 use Rattle.std.proofs.Common.{Option, Some, None}
 use Prim.Native.Nat.{ℕ, ◌≤◌, ◌<◌}
 use native.Mathlib.Omega.{arith}
-use borrow.Author.Tests.{eqb-true, eqb-false, leb-true, not-true, not-false}
-use lib.Dec.{leb, eqb}
+use borrow.Author.Tests.{leb-true}
+use lib.Dec.{leb}
 use lib.ListN.{length, take}
 use lib.Seq.{take_at}
 use Rattle.theory.specs.Logic.{unless◌answer◌then◌}
-use Rattle.theory.proofs.Tests.{by_cases, within-high}
+use Rattle.theory.proofs.Tests.{within-high}
 use Rattle.theory.proofs.Bytes.{put_front}
 use Rattle.inventory.specs.Inventory.{parts_size}
 use Rattle.setups.specs.declared.MemberSetup.{MemberSetup}
 use Rattle.setups.specs.Member.{member_setup}
 use Rattle.setups.specs.Claims.{MemberInRange}
 use Rattle.setups.proofs.Member.{member-in-range}
-use Rattle.difference.specs.declared.Verdict.{Verdict}
-use Rattle.difference.specs.declared.Verdict.TheVariants.{BadSetup}
-use Rattle.difference.specs.declared.Lookup.{Lookup}
-use Rattle.difference.specs.declared.Lookup.TheVariants.{Refused}
-use Rattle.difference.specs.Difference.{value_at, verdict_of, code_of, lookup_of, lookup_told, made, merge_of}
+use Rattle.difference.specs.declared.Refusal.{Refusal}
+use Rattle.difference.specs.Difference.{Lookup, number_of, value_at, verdict_of, lookup_told, made, merge_of}
 use Rattle.difference.specs.Under.{lookup_under, merge_under}
 use Rattle.difference.specs.Handed.{Inside}
 use Rattle.difference.specs.Claims.{Pair}
-use Rattle.difference.proofs.Handed.{lookup-inside, verdict-refused, verdict-passed}
+use Rattle.difference.proofs.Handed.{lookup-inside, number-some, verdict-cases, verdict-refused, verdict-passed}
 use Rattle.difference.proofs.Made.{pair-long}
 use Rattle.difference.proofs.Verdicts.{passes}
 use Rattle.difference.proofs.Claims.{lookup-pair, claims}
@@ -54,17 +51,17 @@ module _ (s : MemberSetup) (few : s.queues < 5) (full later : List ℕ) where
   merged-made out e =
       let q = s.queues in
       let v = verdict_of q s.features full later true (leb (parts_size q) (length out)) in
-      let refused : Verdict → ℕ × (ℕ × List ℕ) = λ w. (code_of w, (0, out)) in
-      by_cases (eqb (code_of v) 0)
+      let refused : Refusal → ℕ × (ℕ × List ℕ) = λ w. (number_of w, (0, out)) in
+      verdict-cases v
       (λ z.
-      let p = passes q s.features full later true (leb (parts_size q) (length out)) few (eqb-true _ _ z) in
+      let p = passes q s.features full later true (leb (parts_size q) (length out)) few z in
       let long = pair-long q s.features full later p.pair in
       let room : parts_size q ≤ length out = leb-true _ _ p.fits in
       record {
         pair = p.pair;
-        bytes = rw (verdict-passed v refused _ (eqb-true _ _ z), put_front (made q full later) out (omega arith)) (take_at (made q full later) _ (parts_size q) long);
+        bytes = rw (verdict-passed v refused _ z, put_front (made q full later) out (omega arith)) (take_at (made q full later) _ (parts_size q) long);
       })
-      (λ z. let h = eqb-false (code_of v) 0 z in absurd (h (rw (verdict-refused v refused _ h) at e)))
+      (λ r h. absurd (number-some r (rw (verdict-refused v refused _ r h) at e)))
 
   module _ (t selector : ℕ) where
     pub found-pair : (lookup_told (lookup_under (Some s) full later t selector)).0 ≡ 0 → Pair s.queues s.features full later

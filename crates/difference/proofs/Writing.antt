@@ -7,7 +7,7 @@ use native.Mathlib.Omega.{arith}
 use mir.Syntax.{w64}
 use mir.Val.{Fits}
 use denote.Ref.{Bor}
-use lib.ListN.{length, get_or, length-append}
+use lib.ListN.{length, length-append}
 use Rattle.theory.specs.Logic.{when◌then◌else◌}
 use Rattle.theory.specs.Bytes.{put}
 use Rattle.theory.proofs.Bytes.{length-put, put-append}
@@ -18,8 +18,7 @@ use Rattle.inventory.specs.Header.{header_of, header_size}
 use Rattle.inventory.proofs.Rules.{length-header}
 use Rattle.capture.specs.Runs.{Wrote}
 use Rattle.capture.proofs.Writes.{wrote-next}
-use Rattle.difference.specs.declared.Lookup.{Lookup}
-use Rattle.difference.specs.Difference.{place_in, value_at, made_part, made_item}
+use Rattle.difference.specs.Difference.{Lookup, place_in, value_at, made_part, made_item}
 use Rattle.difference.specs.Handed.{Handed}
 use Rattle.difference.proofs.Handed.{handed-value}
 

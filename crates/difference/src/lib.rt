@@ -7,7 +7,7 @@ ghost use Rattle.parts.specs.List.{parts_of};
 ghost use Rattle.rules.specs.Rules.{cause_of, is_accepted};
 ghost use Rattle.capture.specs.Runs.{Wrote};
 ghost use Rattle.setups.specs.Member.{member_setup};
-ghost use Rattle.difference.specs.Difference.{span_of, place_in, has_row, is_full, verdict_of, code_of, lookup_of, lookup_told, made_part, made, merge_of};
+ghost use Rattle.difference.specs.Difference.{span_of, place_in, has_row, is_full, verdict_of, number_of, lookup_of, lookup_told, made_part, made, merge_of};
 ghost use Rattle.difference.specs.Under.{lookup_under, merge_under};
 ghost use Rattle.difference.specs.Handed.{PartOf, Handed, Inside};
 
@@ -16,15 +16,14 @@ use parts::ListForm;
 
 // Where the value of a part stands in a list.
 #[derive(Clone, Copy)]
-enum Span {
-    Value { start: usize, len: usize },
-    Nowhere,
+struct Span {
+    start: usize,
+    len: usize,
 }
 
-// Whether a call is refused: the first name that applies, in this order, or none. A bad setup is refused where it is read.
+// Why a call is refused: the first name that applies, in this order. A bad setup is refused where it is read.
 #[derive(Clone, Copy)]
-pub enum Verdict {
-    Passed,
+pub enum Refusal {
     BadSetup,
     BadFull,
     BadLater,
@@ -33,45 +32,44 @@ pub enum Verdict {
     ShortBuffer,
 }
 
-// Where the value of the part asked stands: in the later list, in the full capture, or why the call is refused.
+// Where the value of the part asked stands: in the later list, or in the full capture.
 #[derive(Clone, Copy)]
-pub enum Lookup {
-    InLater { start: usize, len: usize },
-    InFull { start: usize, len: usize },
-    Refused(Verdict),
+pub enum Place {
+    Later { start: usize, len: usize },
+    Full { start: usize, len: usize },
 }
 
 // ---- where the value of a part stands ----
 
 // In one list: the walk is that of a list that is set.
-fn span_of(list: &[u8], t: u16, selector: u64) -> Span
+fn span_of(list: &[u8], t: u16, selector: u64) -> Option<Span>
     ensures { result ≡ span_of t selector list.now }
 {
     for part in parts::read(ListForm::Parts, list) {
         let Ok(part) = part else {
-            return Span::Nowhere;
+            return None;
         };
         if part.is_named(t, selector) {
-            return Span::Value {
+            return Some(Span {
                 start: part.start,
                 len: part.value.len(),
-            };
+            });
         }
     }
-    Span::Nowhere
+    None
 }
 
 // In the later list, or else in the full capture.
-fn place_in(full: &[u8], later: &[u8], t: u16, selector: u64) -> Lookup
+fn place_in(full: &[u8], later: &[u8], t: u16, selector: u64) -> Result<Place, Refusal>
     ensures { result ≡ place_in full.now later.now t selector }
 {
-    if let Span::Value { start, len } = span_of(later, t, selector) {
-        return Lookup::InLater { start, len };
+    if let Some(Span { start, len }) = span_of(later, t, selector) {
+        return Ok(Place::Later { start, len });
     }
-    if let Span::Value { start, len } = span_of(full, t, selector) {
-        return Lookup::InFull { start, len };
+    if let Some(Span { start, len }) = span_of(full, t, selector) {
+        return Ok(Place::Full { start, len });
     }
-    Lookup::Refused(Verdict::LacksPart)
+    Err(Refusal::LacksPart)
 }
 
 // So many bytes of a lent list, with no copy.
@@ -83,14 +81,16 @@ fn cut<'a>(list: &'a [u8], start: usize, len: usize) -> &'a [u8]
 }
 
 // The part that a lookup says; an empty one where it is refused.
-fn part_at<'a>(full: &'a [u8], later: &'a [u8], found: Lookup) -> &'a [u8]
+fn part_at<'a>(full: &'a [u8], later: &'a [u8], found: Result<Place, Refusal>) -> &'a [u8]
     requires { Inside full.now later.now found }
     ensures { Handed full.entry later.entry found result }
 {
-    match found {
-        Lookup::InLater { start, len } => cut(later, start, len),
-        Lookup::InFull { start, len } => cut(full, start, len),
-        Lookup::Refused(_) => &full[0..0],
+    let Ok(place) = found else {
+        return &full[0..0];
+    };
+    match place {
+        Place::Later { start, len } => cut(later, start, len),
+        Place::Full { start, len } => cut(full, start, len),
     }
 }
 
@@ -132,39 +132,38 @@ fn verdict_of(
     later: &[u8],
     asked: bool,
     room: bool,
-) -> Verdict
+) -> Result<(), Refusal>
     ensures { result ≡ verdict_of queues features.now full.now later.now asked room }
 {
     if !is_good(queues, features, full) {
-        return Verdict::BadFull;
+        return Err(Refusal::BadFull);
     }
     if !is_good(queues, features, later) {
-        return Verdict::BadLater;
+        return Err(Refusal::BadLater);
     }
     if !is_full(queues, full) {
-        return Verdict::LacksPart;
+        return Err(Refusal::LacksPart);
     }
     if !asked {
-        return Verdict::OutsideInventory;
+        return Err(Refusal::OutsideInventory);
     }
     if !room {
-        return Verdict::ShortBuffer;
+        return Err(Refusal::ShortBuffer);
     }
-    Verdict::Passed
+    Ok(())
 }
 
-// The number of a refusal, and 0 for none.
-pub fn code(v: Verdict) -> u8
-    ensures { result ≡ code_of v }
+// The number of a refusal.
+pub fn code(refusal: Refusal) -> u8
+    ensures { result ≡ number_of refusal }
 {
-    match v {
-        Verdict::Passed => 0,
-        Verdict::BadSetup => 1,
-        Verdict::BadFull => 2,
-        Verdict::BadLater => 3,
-        Verdict::LacksPart => 4,
-        Verdict::OutsideInventory => 5,
-        Verdict::ShortBuffer => 6,
+    match refusal {
+        Refusal::BadSetup => 1,
+        Refusal::BadFull => 2,
+        Refusal::BadLater => 3,
+        Refusal::LacksPart => 4,
+        Refusal::OutsideInventory => 5,
+        Refusal::ShortBuffer => 6,
     }
 }
 
@@ -178,15 +177,12 @@ fn look_up_in(
     later: &[u8],
     part_type: u16,
     selector: u64,
-) -> Lookup
+) -> Result<Place, Refusal>
     ensures { result ≡ lookup_of queues features.now full.now later.now part_type selector }
 {
     let named = inventory::selector_of(part_type, selector);
     let asked = rules::is_known(queues, part_type, named);
-    let v = verdict_of(queues, features, full, later, asked, true);
-    if code(v) != 0 {
-        return Lookup::Refused(v);
-    }
+    verdict_of(queues, features, full, later, asked, true)?;
     place_in(full, later, part_type, named)
 }
 
@@ -198,7 +194,7 @@ pub fn look_up(
     later: &[u8],
     part_type: u16,
     selector: u64,
-) -> Lookup
+) -> Result<Place, Refusal>
     ensures { result ≡ lookup_under (member_setup setup.now member) full.now later.now part_type selector }
 {
     match setups::member_setup(setup, member) {
@@ -206,7 +202,7 @@ pub fn look_up(
             let features = m.features;
             look_up_in(m.queues, &features, full, later, part_type, selector)
         }
-        None => Lookup::Refused(Verdict::BadSetup),
+        None => Err(Refusal::BadSetup),
     }
 }
 
@@ -244,23 +240,23 @@ pub fn find_place(
     ensures { (result, (list.new, (at.new, len.new))) ≡ lookup_told (lookup_under (member_setup setup.now member) full.now later.now part_type selector) }
 {
     match look_up(setup, member, full, later, part_type, selector) {
-        Lookup::InLater { start, len: n } => {
+        Ok(Place::Later { start, len: n }) => {
             *list = 1;
             *at = start as u64;
             *len = n as u64;
             0
         }
-        Lookup::InFull { start, len: n } => {
+        Ok(Place::Full { start, len: n }) => {
             *list = 0;
             *at = start as u64;
             *len = n as u64;
             0
         }
-        Lookup::Refused(v) => {
+        Err(refusal) => {
             *list = 0;
             *at = 0;
             *len = 0;
-            code(v)
+            code(refusal)
         }
     }
 }
@@ -310,10 +306,9 @@ fn merge_in<'a>(
 {
     let size = inventory::parts_size(queues) as usize;
     let room = size <= merged.len();
-    let refusal = code(verdict_of(queues, features, full, later, true, room));
-    if refusal != 0 {
+    if let Err(refusal) = verdict_of(queues, features, full, later, true, room) {
         *written = 0;
-        return refusal;
+        return code(refusal);
     }
     write_made(merged, queues, full, later);
     *written = size as u64;
@@ -338,7 +333,7 @@ pub fn merge<'a>(
         }
         None => {
             *written = 0;
-            code(Verdict::BadSetup)
+            code(Refusal::BadSetup)
         }
     }
 }

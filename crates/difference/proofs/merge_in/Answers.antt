@@ -2,8 +2,8 @@ use borrow.Author.Rules.{rules}
 use Rattle.difference.proofs.Verdicts.{merge-refused, merge-room, merge-done}
 use Rattle.difference.proofs.merge_in.Goals as goal
 
-pub returns-then-refusal-ne0 : goal.returns-then-refusal-ne0
-returns-then-refusal-ne0 c = search (rules, merge-refused)
+pub returns-in-Err : goal.returns-in-Err
+returns-in-Err c = search (rules, merge-refused)
 
 pub write_made-requires : goal.write_made-requires
 write_made-requires c = search (rules, merge-room)
