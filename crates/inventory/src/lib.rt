@@ -11,7 +11,7 @@ ghost use Rattle.inventory.specs.Worked.{nth_of, field_at};
 ghost use Rattle.inventory.specs.Header.{header_of, header_size};
 ghost use Rattle.inventory.specs.Queue.{value_allowed, queues_allowed};
 
-// The types of parts.
+// The types of parts. Numbers, since a list may name any type, and step 10 compares them.
 pub const DEVICE_FEATURES: u16 = 0x100;
 
 pub const DRIVER_FEATURES: u16 = 0x101;

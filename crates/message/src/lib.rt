@@ -38,6 +38,7 @@ const LENGTH_AT: usize = OFFSET_AT + 4;
 
 const DATA_AT: usize = LENGTH_AT + 4;
 
+// The kinds that are answered are bytes of a message, which may be any: an enum would be made to be matched once.
 const GET_CONFIG: u8 = 0x05;
 
 const SET_CONFIG: u8 = 0x06;

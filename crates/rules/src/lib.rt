@@ -102,7 +102,7 @@ fn repeats(form: ListForm, list: &[u8], queues: u8) -> bool
     ensures { result ≡ repeated queues (parts_of form list.now) }
 {
     let mut reader = parts::read(form, list);
-    // (d) a `for` here would keep the reader, and the inner loop starts where it stands.
+    // A `loop`, since a `for` would keep the reader, and the inner one starts where it stands.
     'parts: loop {
         let Some(part) = reader.next() else {
             return false;

@@ -12,7 +12,7 @@ use inventory::{DEVICE_FEATURES, HEADER_SIZE, INVENTORY, ROWS};
 use member::{FEATURES_SIZE, VALUES_SIZE};
 use parts::{LONGEST_LIST, ListForm};
 
-// The causes for which parts are dropped, by their place in the report.
+// The causes for which parts are dropped, by their place in the report. Numbers, since they index what C lends.
 const UNKNOWN: usize = 0;
 
 const COPY: usize = 1;
@@ -110,7 +110,8 @@ fn read_parts(
     stop
 }
 
-// For every part of the inventory 1 if its row is kept, else 0.
+// For every part of the inventory 1 if its row is kept, else 0. By index, since the rows and what is kept are two lists: of a zip
+// an invariant has only what was yielded.
 fn write_kept(out: &mut [u8], rows: &[u8], queues: u8)
     requires { KeptFits queues rows.now out.old }
     ensures { out.new ≡ put 0 (flags_of queues rows.now) out.old }

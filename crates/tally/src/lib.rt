@@ -17,6 +17,7 @@ pub const LINES: usize = 16;
 // A capture over this many bytes is long.
 pub const LONGEST: usize = parts::LONGEST_LIST;
 
+// Lines are numbers: they index the counts, and a part's line is computed of its type. An enum would be cast at each use.
 pub const READ: usize = 0;
 
 const ACCEPTED: usize = 1;
