@@ -20,7 +20,9 @@ use Rattle.inventory.specs.Inventory.{selector_of}
 use Rattle.values.specs.Apply.{storable}
 use Rattle.values.proofs.Kept.{done-allowed}
 use Rattle.objects.specs.declared.ObjectRecord.{ObjectRecord}
-use Rattle.objects.specs.Objects.{slot_byte, object_byte, free, all_up_to}
+use Rattle.objects.specs.declared.Slot.{Slot}
+use Rattle.objects.specs.declared.Slot.TheVariants.{Free, Get, Set}
+use Rattle.objects.specs.Objects.{slot_byte, found_in, object_byte, free, all_up_to}
 use Rattle.member.specs.declared.Member.{Member}
 use Rattle.member.specs.Member.{handed_back, with_part}
 use Rattle.member.specs.Objects.{lookup_of}
@@ -44,7 +46,6 @@ use Rattle.demands.specs.Halves.{Between, MarkedRefused, StoredAlike, StoresWork
 use Rattle.demands.proofs.EventMask.{back-setup}
 use Rattle.demands.proofs.Halves.{back-card, back-sound}
 use Rattle.protocol.specs.declared.ObjectKind.{ObjectKind}
-use Rattle.protocol.specs.declared.ObjectKind.TheVariants.{Get, Set}
 
 -- what a request that names m says
 named-frame : (m : ℕ) (r : List ℕ) (room : ℕ) → names m (command r room) ≡ true
@@ -93,16 +94,16 @@ marked-refused = between
 -- ---- a marked member ----
 
 -- an object byte of 0 is that of no object
-none_found : (os : List ObjectRecord) → all_up_to 0 (map object_byte os) ≡ true → (id : ℕ) → (get_or os id free).slot ≡ None
+none_found : (os : List ObjectRecord) → all_up_to 0 (map object_byte os) ≡ true → (id : ℕ) → found_in (get_or os id free).slot ≡ None
 unfolding all_up_to
 none_found [] e id = refl
 none_found (o ∷ os) e (suc id) = none_found os (both _ _ e).1 id
 none_found (o ∷ os) e zero = free-found o.slot (both _ _ e).0
   where
-    free-found : (x : Option ObjectKind) → leb (slot_byte x) 0 ≡ true → x ≡ None
-    free-found None l = refl
-    free-found (Some Get) l = cc
-    free-found (Some Set) l = cc
+    free-found : (x : Slot) → leb (slot_byte x) 0 ≡ true → found_in x ≡ None
+    free-found Free l = refl
+    free-found Get l = cc
+    free-found Set l = cc
 
 pub marked-idle : MarkedIdle
 unfolding lookup_of

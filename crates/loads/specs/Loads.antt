@@ -1,14 +1,14 @@
 -- What the card's own firmware reads of it, SPEC 14: a part, a member, its configuration, the setup. Each gives the first answer
 -- that applies, as a card store does, and what is then in the numbers and buffers lent to it; refused, they are as they were.
 -- The card is lent, and no call here changes it. Assumes nothing.
-use Rattle.std.specs.Prelude.{Bool, true, false, List, [], map, ℕ, eqb, length, Ok, Err, is_ok, Some}
+use Rattle.std.specs.Prelude.{Bool, true, false, List, [], map, ℕ, eqb, length, Ok, Err, is_ok}
 use Rattle.theory.specs.Logic.{when◌then◌else◌, unless◌answer◌then◌}
 use Rattle.protocol.specs.declared.EventRefusal.TheVariants.{NoPart, WrongLength}
 use Rattle.protocol.specs.declared.Mode.{Mode}
 use Rattle.protocol.specs.declared.Mode.TheVariants as modes
 use Rattle.protocol.specs.Answers.{EventAnswer, event_number}
 use Rattle.inventory.specs.Inventory.{row_at, value_of, selector_of, place_of, on_place}
-use Rattle.protocol.specs.declared.ObjectKind.TheVariants.{Get, Set}
+use Rattle.objects.specs.declared.Slot.TheVariants.{Get, Set}
 use Rattle.objects.specs.Objects.{slot_byte, object_byte, count}
 use Rattle.member.specs.declared.Member.{Member}
 use Rattle.setups.specs.Writing.{written}
@@ -70,8 +70,8 @@ summary_of x =
     record {
       state = state_of x.mode x.marked;
       queues = x.queues;
-      gets = live_of (slot_byte (Some Get)) x;
-      sets = live_of (slot_byte (Some Set)) x;
+      gets = live_of (slot_byte Get) x;
+      sets = live_of (slot_byte Set) x;
       held = x.held;
     }
 

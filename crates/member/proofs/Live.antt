@@ -10,9 +10,10 @@ use lib.Seq.{get_or-drop}
 use borrow.Author.Tests.{leb-true, leb-false}
 use Rattle.theory.proofs.Tests.{by_cases, both}
 use Rattle.protocol.specs.declared.ObjectKind.{ObjectKind}
-use Rattle.protocol.specs.declared.ObjectKind.TheVariants.{Get, Set}
-use Rattle.std.specs.Prelude.{Option, Some, None}
-use Rattle.objects.specs.Objects.{slot_byte, object_byte, free, all_up_to}
+use Rattle.std.specs.Prelude.{Some}
+use Rattle.objects.specs.declared.Slot.{Slot}
+use Rattle.objects.specs.declared.Slot.TheVariants.{Free, Get, Set}
+use Rattle.objects.specs.Objects.{slot_byte, found_in, object_byte, free, all_up_to}
 use Rattle.member.specs.declared.Member.{Member}
 use Rattle.member.specs.Objects.{lookup_of}
 use Rattle.member.proofs.Sound.{SoundMember}
@@ -24,10 +25,10 @@ all-zero [] i e = refl
 all-zero (b ∷ bs) zero e = omega (arith, leb-true b 0 (both _ _ e).0)
 all-zero (b ∷ bs) (suc i) e = all-zero bs i (both _ _ e).1
 
-live-not-free : (s : Option ObjectKind) (k : ObjectKind) → s ≡ Some k → slot_byte s ≡ 0 → ⊥
-live-not-free None k e z = cc
-live-not-free (Some Get) k e z = omega arith
-live-not-free (Some Set) k e z = omega arith
+live-not-free : (s : Slot) (k : ObjectKind) → found_in s ≡ Some k → slot_byte s ≡ 0 → ⊥
+live-not-free Free k e z = cc
+live-not-free Get k e z = omega arith
+live-not-free Set k e z = omega arith
 
 -- a free byte is no live object's
 byte-live : (m : Member) (id : ℕ) (k : ObjectKind) → lookup_of m id ≡ Some k → get_or (map object_byte m.objects) id 0 ≡ 0 → ⊥

@@ -20,7 +20,7 @@ use Rattle.protocol.specs.Answers.{mode_of}
 use Rattle.protocol.specs.declared.Mode.{Mode}
 use Rattle.protocol.specs.declared.Mode.TheVariants.{Running, Stopped}
 use Rattle.std.specs.Prelude.{Option, None}
-use Rattle.objects.specs.Objects.{objects_size, slot_of, object_of, object_byte}
+use Rattle.objects.specs.Objects.{objects_size, slot_of, slot_for, found_in, object_of, object_byte}
 use Rattle.objects.proofs.Objects.{objects-back}
 use Rattle.member.specs.declared.Member.{Member}
 use Rattle.member.specs.Record.{mode_at, mark_at, queues_at, objects_at, held_at, values_at, member_size, mode_byte, object_bytes, member_of, member_bytes}
@@ -46,7 +46,7 @@ shaped-held m s held h = record { ids = s.ids; low = h; long = s.long }
 
 pub shaped-object : (m : Member) → Shaped m → (id : ℕ) (slot : Option ObjectKind) → Shaped (with_object m id slot)
 unfolding with_object
-shaped-object m s id slot = record { ids = length-set m.objects id (record { slot = slot }) ∙ s.ids; low = s.low; long = s.long }
+shaped-object m s id slot = record { ids = length-set m.objects id (record { slot = slot_for slot }) ∙ s.ids; low = s.low; long = s.long }
 
 pub fresh-shaped : (queues : ℕ) (features : List ℕ) → length features ≡ features_size → Shaped (fresh_of queues features)
 unfolding fresh_of
@@ -166,7 +166,7 @@ fresh-values f e = put_front f (replicate values_size 0) (omega arith) ∙ rw e
 -- ---- a record read where it stands ----
 
 module _ (r : List ℕ) (n : length r ≡ member_size) (id : ℕ) where
-  pub record-lookup : (f : Option ObjectKind) → id < objects_size → f ≡ slot_of (get_or r (objects_at + id) 0) → f ≡ lookup_of (member_of r) id
+  pub record-lookup : (f : Option ObjectKind) → id < objects_size → f ≡ found_in (slot_of (get_or r (objects_at + id) 0)) → f ≡ lookup_of (member_of r) id
   unfolding member_of lookup_of
   record-lookup f h e = rw (get_or-map object_of (object_bytes r) id 0, get_or-bytes_at objects_at objects_size id r h) e
 

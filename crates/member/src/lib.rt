@@ -13,7 +13,7 @@ ghost use Rattle.member.specs.Objects.{lookup_of, with_object, room_in};
 ghost use Rattle.member.specs.Member.{fresh_of, with_mode, with_values, with_held, handed_back, with_part};
 ghost use Rattle.member.specs.Sound.{sound_record};
 
-use objects::{IDS, ObjectRecord};
+use objects::{IDS, ObjectRecord, Slot};
 use protocol::{Mode, ObjectKind};
 
 // The device features, which stand first among the values.
@@ -69,7 +69,7 @@ impl Member {
             mode: Mode::Running,
             marked: false,
             queues,
-            objects: [ObjectRecord { slot: None }; IDS],
+            objects: [ObjectRecord { slot: Slot::Free }; IDS],
             held: 0,
             values,
         }
@@ -82,7 +82,7 @@ impl Member {
         Member {
             mode: Mode::Stopped,
             marked: true,
-            objects: [ObjectRecord { slot: None }; IDS],
+            objects: [ObjectRecord { slot: Slot::Free }; IDS],
             held: 0,
             ..self
         }
@@ -148,17 +148,19 @@ impl Member {
         if IDS <= id {
             return None;
         }
-        self.objects[id].slot
+        objects::found_in(self.objects[id].slot)
     }
 
     // The member with this at the id; an id that no record has changes nothing.
-    pub fn with_object(mut self, id: usize, slot: Option<ObjectKind>) -> Member
-        ensures { result ≡ with_object self id slot }
+    pub fn with_object(mut self, id: usize, kind: Option<ObjectKind>) -> Member
+        ensures { result ≡ with_object self id kind }
     {
         if IDS <= id {
             return self;
         }
-        self.objects[id] = ObjectRecord { slot };
+        self.objects[id] = ObjectRecord {
+            slot: objects::slot_for(kind),
+        };
         self
     }
 
@@ -190,7 +192,7 @@ pub fn lookup_in(bytes: &[u8; MEMBER_SIZE], id: usize) -> Option<ObjectKind>
     if IDS <= id {
         return None;
     }
-    objects::slot_in(bytes[OBJECTS_AT + id])
+    objects::found_at(bytes[OBJECTS_AT + id])
 }
 
 pub fn values_of(bytes: &[u8; MEMBER_SIZE]) -> &[u8; VALUES_SIZE]

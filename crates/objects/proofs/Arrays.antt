@@ -1,37 +1,27 @@
--- Arrays within a struct, and an array made by `from_fn` of what a function makes of each element of another. Assumes
+-- Arrays within a struct, and a loop that fills an array with what a function makes of each element of another. Assumes
 -- nothing.
-use mathlib.Core.Path.{◌≡◌, refl, sym, ◌∙◌}
+use mathlib.Core.Path.{◌≡◌, sym, ◌∙◌}
 use mathlib.Core.List.{List, map}
-use Prim.Native.Nat.{ℕ, zero, suc, ◌+◌, ◌<◌}
-use native.Mathlib.Nat.{add-zero, zero-add}
+use Prim.Native.Nat.{ℕ, ◌+◌, ◌≤◌, ◌<◌}
+use native.Mathlib.Numerals.{add-one}
 use native.Mathlib.Omega.{arith}
-use lib.ListN.{length, get_or, length-map, get_or-map}
-use denote.Param.Members.{Mut, Called}
-use Rattle.std.proofs.Common.{subst}
-use Rattle.std.specs.Array.{IsFromFnResult, IsFromFnResultFrom}
-use Rattle.std.proofs.lemmas.List.{same_lists, get_or_default}
+use lib.ListN.{length, get_or, take, set, length-map, get_or-map}
+use lib.Seq.{take-suc, take-suc-set, take_all}
 
 -- a field of n structs has n elements: what is known is the length of their values in the machine
 pub unmapped : {A B : Type 0} (f : A → B) (xs : List A) (n : ℕ) → length (map f xs) ≡ n → length xs ≡ n
 unmapped f xs n e = sym (length-map xs f) ∙ e
 
--- what from_fn gives, where the closure makes of each index what f makes of the element of xs there
-module _ {F A B : Type 0} (g : Mut F (ℕ × Unit {0}) B) (h : F) (f : A → B) (xs : List A) (z : A)
-    (call : (i : ℕ) (y : B) (q : F) → Called g h (i, tt) y q → (q ≡ h) × (y ≡ f (get_or xs i z))) where
-  elements : (n i k : ℕ) (d : B) (p : F) (ys : List B) → p ≡ h → IsFromFnResultFrom g p ys i n → k < n
-      → get_or ys (i + k) d ≡ f (get_or xs (i + k) z)
-  elements zero i k d p ys e r l = absurd (omega arith)
-  elements (suc n) i zero d p ys e r l = rw add-zero (r.2.1 d ∙ (call i _ _ (subst (λ s. Called g s (i, tt) r.1 r.0) e r.3)).1)
-  elements (suc n) i (suc k) d p ys e r l =
-      let t = (call i _ _ (subst (λ s. Called g s (i, tt) r.1 r.0) e r.3)).0 in
-      let j : i + suc k ≡ (i + 1) + k = omega arith in
-      rw j (elements n (i + 1) k d r.0 ys t r.4 (omega arith))
+-- the first i elements of d are made
+module _ {A B : Type 0} (f : A → B) (xs : List A) (d : List B) (i : ℕ) (n : ℕ) (e : take i d ≡ take i (map f xs)) (l : length d ≡ n) (k : length xs ≡ n) where
+  pub filled_on : (z : A) (x : B) → x ≡ f (get_or xs i z) → i < n → take (i + 1) (set d i x) ≡ take (i + 1) (map f xs)
+  filled_on z x q h =
+      let a : i < length d = omega arith in
+      let b : i < length (map f xs) = rw length-map (omega arith) in
+      rw (add-one, take-suc-set d i x a, take-suc (map f xs) i (f z) b, get_or-map f xs i z, q, e)
 
-  pub mapped : (n : ℕ) (ys : List B) → length xs ≡ n → IsFromFnResult g h ys n → ys ≡ map f xs
-  mapped n ys l r =
-      same_lists ys (map f xs) (r.long ∙ sym (length-map xs f ∙ l))
-      (λ k d b.
-      let e : k < n = omega (arith, r.long) in
-      rw zero-add at (elements n 0 k d h ys refl r.each e)
-      ∙ sym (get_or-map f xs k z)
-      ∙ get_or_default (map f xs) k (f z) d (rw length-map (omega arith)))
+  pub filled : n ≤ i → d ≡ map f xs
+  filled h =
+      let a : length d ≤ i = omega arith in
+      let b : length (map f xs) ≤ i = rw length-map (omega arith) in
+      sym (take_all i d a) ∙ e ∙ take_all i (map f xs) b

@@ -1,5 +1,6 @@
--- Objects come back from their bytes, and bytes up to 2 from their objects. Assumes nothing.
-use mathlib.Core.Path.{◌≡◌, refl}
+-- Objects come back from their bytes, and bytes up to 2 from their objects; each return of the functions on one byte or
+-- one slot, in the shape in which it is asked. Assumes nothing.
+use mathlib.Core.Path.{◌≡◌, refl, ap}
 use mathlib.Core.Bool.{true}
 use mathlib.Core.List.{List, [], ◌∷◌, map}
 use Prim.Native.Nat.{ℕ, zero, suc, ◌≤◌}
@@ -7,16 +8,33 @@ use native.Mathlib.Omega.{arith}
 use borrow.Author.Tests.{leb-true}
 use lib.Dec.{leb}
 use Rattle.theory.proofs.Tests.{both, and_i}
-use Rattle.std.specs.Prelude.{Option, Some, None}
-use Rattle.protocol.specs.declared.ObjectKind.{ObjectKind}
-use Rattle.protocol.specs.declared.ObjectKind.TheVariants.{Get, Set}
+use Rattle.std.specs.Prelude.{Some}
+use Rattle.protocol.specs.declared.ObjectKind.TheVariants as kind
+use Rattle.objects.specs.declared.Slot.{Slot}
+use Rattle.objects.specs.declared.Slot.TheVariants.{Free, Get, Set}
 use Rattle.objects.specs.declared.ObjectRecord.{ObjectRecord}
-use Rattle.objects.specs.Objects.{slot_of, slot_byte, object_of, object_byte, all_up_to}
+use Rattle.objects.specs.Objects.{slot_of, slot_byte, object_of, object_byte, found_in, all_up_to}
 
-slot-back : (s : Option ObjectKind) → slot_of (slot_byte s) ≡ s
-slot-back None = refl
-slot-back (Some Get) = refl
-slot-back (Some Set) = refl
+pub object-other : (b : ℕ) → (b ≡ 0 → ⊥) → (b ≡ 1 → ⊥) → record { slot = Set } ≡ object_of b
+object-other zero n m = absurd (n refl)
+object-other (suc zero) n m = absurd (m refl)
+object-other (suc (suc b)) n m = refl
+
+pub found-other : (b : ℕ) → (b ≡ 0 → ⊥) → (b ≡ 1 → ⊥) → Some kind.Set ≡ found_in (slot_of b)
+found-other b n m = ap (λ (o : ObjectRecord). found_in o.slot) (object-other b n m)
+
+pub found_get : (s : Slot) → s ≡ Get → Some kind.Get ≡ found_in s
+found_get s e = rw e
+
+pub found-set : (s : Slot) → s ≡ Set → Some kind.Set ≡ found_in s
+found-set s e = rw e
+
+-- ---- bytes and objects ----
+
+slot-back : (s : Slot) → slot_of (slot_byte s) ≡ s
+slot-back Free = refl
+slot-back Get = refl
+slot-back Set = refl
 
 pub objects-back : (os : List ObjectRecord) → map object_of (map object_byte os) ≡ os
 objects-back [] = refl
@@ -34,10 +52,10 @@ bytes-of-objects (b ∷ bs) e =
     let p = both _ _ e in
     rw (byte-of-slot b (leb-true b 2 p.0), bytes-of-objects bs p.1)
 
-slot-low : (s : Option ObjectKind) → leb (slot_byte s) 2 ≡ true
-slot-low None = refl
-slot-low (Some Get) = refl
-slot-low (Some Set) = refl
+slot-low : (s : Slot) → leb (slot_byte s) 2 ≡ true
+slot-low Free = refl
+slot-low Get = refl
+slot-low Set = refl
 
 pub objects-low : (os : List ObjectRecord) → all_up_to 2 (map object_byte os) ≡ true
 unfolding all_up_to

@@ -2,7 +2,9 @@
 use Rattle.std.specs.Prelude.{Bool, true, List, [], ◌∷◌, ◌++◌, ℕ, zero, suc, ◌+◌, ◌-◌, leb, eqb, replicate, Option, Some, None}
 use Rattle.theory.specs.Logic.{◌and◌, indicator}
 use Rattle.protocol.specs.declared.ObjectKind.{ObjectKind}
-use Rattle.protocol.specs.declared.ObjectKind.TheVariants.{Get, Set}
+use Rattle.protocol.specs.declared.ObjectKind.TheVariants as kind
+use Rattle.objects.specs.declared.Slot.{Slot}
+use Rattle.objects.specs.declared.Slot.TheVariants.{Free, Get, Set}
 use Rattle.objects.specs.declared.ObjectRecord.{ObjectRecord}
 
 -- one object record for each id that any setup allows: G + S is at most 16
@@ -10,15 +12,15 @@ abbrev pub objects_size : ℕ
 objects_size = 16
 
 -- 0 free, 1 get, 2 set
-abbrev pub slot_of : ℕ → Option ObjectKind
-slot_of zero = None
-slot_of (suc zero) = Some Get
-slot_of (suc (suc n)) = Some Set
+abbrev pub slot_of : ℕ → Slot
+slot_of zero = Free
+slot_of (suc zero) = Get
+slot_of (suc (suc n)) = Set
 
-abbrev pub slot_byte : Option ObjectKind → ℕ
-slot_byte None = 0
-slot_byte (Some Get) = 1
-slot_byte (Some Set) = 2
+abbrev pub slot_byte : Slot → ℕ
+slot_byte Free = 0
+slot_byte Get = 1
+slot_byte Set = 2
 
 abbrev pub object_of : ℕ → ObjectRecord
 object_of b = record { slot = slot_of b }
@@ -27,7 +29,18 @@ abbrev pub object_byte : ObjectRecord → ℕ
 object_byte o = slot_byte o.slot
 
 abbrev pub free : ObjectRecord
-free = record { slot = None }
+free = record { slot = Free }
+
+-- the slot of an object of this kind, or of none, and what the lookup of a slot finds
+abbrev pub slot_for : Option ObjectKind → Slot
+slot_for None = Free
+slot_for (Some kind.Get) = Get
+slot_for (Some kind.Set) = Set
+
+abbrev pub found_in : Slot → Option ObjectKind
+found_in Free = None
+found_in Get = Some kind.Get
+found_in Set = Some kind.Set
 
 abbrev pub on_found : {A : Type 0} → Option ObjectKind → (ObjectKind → A) → A → A
 on_found (Some k) f a = f k
@@ -54,4 +67,4 @@ most_of ids = replicate ids 2 ++ replicate (objects_size - ids) 0
 
 -- at most G get and S set objects
 unfoldable pub within_limits : ℕ → ℕ → List ℕ → Bool
-within_limits gets sets bs = leb (count (slot_byte (Some Get)) bs) gets and leb (count (slot_byte (Some Set)) bs) sets
+within_limits gets sets bs = leb (count (slot_byte Get) bs) gets and leb (count (slot_byte Set) bs) sets

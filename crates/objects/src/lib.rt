@@ -3,10 +3,9 @@
 
 ghost use Rattle.std.specs.Prelude.{◌≡◌, true, map, ◌+◌, ◌≤◌, ◌<◌, leb, eqb, length, drop, set};
 ghost use Rattle.theory.specs.Logic.{◌and◌, indicator};
-ghost use Rattle.objects.specs.Objects.{objects_size, slot_of, object_of, object_byte, free, count, all_up_to, all_within, most_of, within_limits};
+ghost use Rattle.objects.specs.Objects.{objects_size, slot_of, slot_for, found_in, object_of, object_byte, free, count, all_up_to, all_within, most_of, within_limits};
 
 use protocol::ObjectKind;
-use std::array;
 
 // One object record for each id that any setup allows: G + S is at most 16.
 pub const IDS: usize = 16;
@@ -16,53 +15,72 @@ pub const MOST: [u8; 32] = [
     2, 2, 2, 2, 2, 2, 2, 2, 2, 2, 2, 2, 2, 2, 2, 2, 0, 0, 0, 0, 0, 0, 0, 0, 0, 0, 0, 0, 0, 0, 0, 0,
 ];
 
-// What one object id holds: the kind of its live object, or none where it is free.
+// What one object id holds, in one byte. An Option of a kind takes two: with it a destroy and a create took a fifth longer.
+#[derive(Clone, Copy)]
+pub enum Slot {
+    Free,
+    Get,
+    Set,
+}
+
 #[derive(Clone, Copy)]
 pub struct ObjectRecord {
-    pub slot: Option<ObjectKind>,
+    pub slot: Slot,
 }
 
 // ---- a byte and what it stands for ----
 
-// Each test is made whatever the other finds, so that sixteen bytes at once take a few vector steps.
-pub fn slot_in(b: u8) -> Option<ObjectKind>
-    ensures { result ≡ slot_of b }
-{
-    let kind = if b == 1 {
-        ObjectKind::Get
-    } else {
-        ObjectKind::Set
-    };
-    (b != 0).then_some(kind)
-}
-
-// The two ways as functions, since `from_fn` calls them by the names of their definitions; a `From` would be no plainer.
+// Each way is a function, which the loops below call; a `From` would be no plainer.
 fn object_in(b: u8) -> ObjectRecord
     ensures { result ≡ object_of b }
 {
-    ObjectRecord { slot: slot_in(b) }
+    match b {
+        0 => ObjectRecord { slot: Slot::Free },
+        1 => ObjectRecord { slot: Slot::Get },
+        _ => ObjectRecord { slot: Slot::Set },
+    }
+}
+
+// The object that it stands for: found with no record in between, which the compiler would not leave out.
+pub fn found_at(b: u8) -> Option<ObjectKind>
+    ensures { result ≡ found_in (slot_of b) }
+{
+    match b {
+        0 => None,
+        1 => Some(ObjectKind::Get),
+        _ => Some(ObjectKind::Set),
+    }
 }
 
 fn object_byte(o: ObjectRecord) -> u8
     ensures { result ≡ object_byte o }
 {
     match o.slot {
-        None => 0,
-        Some(ObjectKind::Get) => 1,
-        Some(ObjectKind::Set) => 2,
+        Slot::Free => 0,
+        Slot::Get => 1,
+        Slot::Set => 2,
     }
 }
 
+// These two go by index: the compiler makes `array::from_fn` sixteen scalar steps, and array `map` more.
 pub fn objects_in(bytes: &[u8; IDS]) -> [ObjectRecord; IDS]
     ensures { result ≡ map object_of bytes.now }
 {
-    array::from_fn(|i| object_in(bytes[i]))
+    let mut objects = [ObjectRecord { slot: Slot::Free }; IDS];
+    for i in 0..IDS {
+        objects[i] = object_in(bytes[i]);
+    }
+    objects
 }
 
 pub fn object_bytes(objects: [ObjectRecord; IDS]) -> [u8; IDS]
     ensures { result ≡ map object_byte objects }
 {
-    array::from_fn(|i| object_byte(objects[i]))
+    let mut bytes = [0u8; IDS];
+    for i in 0..IDS {
+        bytes[i] = object_byte(objects[i]);
+    }
+    bytes
 }
 
 // ---- counting object bytes, without branches, where they stand in the record ----
@@ -115,14 +133,34 @@ pub fn are_within(most: &[u8; IDS], bytes: &[u8; IDS]) -> bool
         .fold(true, |all, (b, n)| all & (*b <= *n))
 }
 
-// ---- one record cleared ----
+// ---- slots ----
+
+pub fn slot_for(kind: Option<ObjectKind>) -> Slot
+    ensures { result ≡ slot_for kind }
+{
+    match kind {
+        None => Slot::Free,
+        Some(ObjectKind::Get) => Slot::Get,
+        Some(ObjectKind::Set) => Slot::Set,
+    }
+}
+
+pub fn found_in(slot: Slot) -> Option<ObjectKind>
+    ensures { result ≡ found_in slot }
+{
+    match slot {
+        Slot::Free => None,
+        Slot::Get => Some(ObjectKind::Get),
+        Slot::Set => Some(ObjectKind::Set),
+    }
+}
 
 // Clears one record of a lent slice and keeps all others.
 fn clear(objects: &mut [ObjectRecord], i: usize)
     requires { i < length objects.old }
     ensures { objects.new ≡ set objects.old i free }
 {
-    objects[i] = ObjectRecord { slot: None };
+    objects[i] = ObjectRecord { slot: Slot::Free };
 }
 
 // The records with one cleared: it lends its own array to `clear`, so that no caller has to lend one.

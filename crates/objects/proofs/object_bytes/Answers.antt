@@ -1,7 +1,9 @@
-use Rattle.std.proofs.Common.{rules}
-use Rattle.objects.specs.Objects.{free, object_byte}
-use Rattle.objects.proofs.Arrays.{mapped}
+use borrow.Author.Rules.{rules}
+use Rattle.objects.proofs.Arrays.{filled_on, filled}
 use Rattle.objects.proofs.object_bytes.Goals as goal
 
+pub loop-i-preserved : goal.loop-i-preserved
+loop-i-preserved c = search (rules, filled_on)
+
 pub returns : goal.returns
-returns c = mapped _ _ object_byte c.args.objects free (λ i y q k. search rules) 16 c.from_fn.result (search rules) c.from_fn.ensures.items
+returns c = search (rules, filled)

@@ -1,7 +1,9 @@
-use Rattle.std.proofs.Common.{rules}
-use Rattle.objects.specs.Objects.{object_of}
-use Rattle.objects.proofs.Arrays.{mapped}
+use borrow.Author.Rules.{rules}
+use Rattle.objects.proofs.Arrays.{filled_on, filled}
 use Rattle.objects.proofs.objects_in.Goals as goal
 
+pub loop-i-preserved : goal.loop-i-preserved
+loop-i-preserved c = search (rules, filled_on)
+
 pub returns : goal.returns
-returns c = mapped _ _ object_of c.args.bytes.now 0 (λ i y q k. search rules) 16 c.from_fn.result (search rules) c.from_fn.ensures.items
+returns c = search (rules, filled)
