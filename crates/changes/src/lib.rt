@@ -89,6 +89,7 @@ fn set_parts(m: Member, id: usize, list: &[u8]) -> Result<Member, Refusal>
 pub fn change(m: Member, op: ChangeOp, gets: u8, sets: u8, list: &[u8]) -> Result<Member, Refusal>
     ensures { result ≡ change_of gets sets list.now op m }
 {
+    // A match: an operation takes its own arguments, so a table or closures would hide them.
     match op {
         ChangeOp::Create(id, kind) => create(m, id, kind, gets, sets),
         ChangeOp::Modify(id, kind) => modify(m, id, kind, gets, sets),

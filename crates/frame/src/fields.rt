@@ -189,7 +189,7 @@ fn use_in(d: &[u8]) -> Result<Ask, Refusal>
     Ok(Ask::UseList(mask))
 }
 
-// Step 7 of data that holds all fixed fields of its command.
+// Step 7 of data that holds all fixed fields of its command. A match, since the commands differ in what they are told.
 fn whole_fields(ids: u8, m: u64, op: usize, d: &[u8]) -> Result<Ask, Refusal>
     requires { (supported op ≡ true) × (fixed_size op ≤ length d.now) }
     ensures { result ≡ fields_of ids m op d.now }

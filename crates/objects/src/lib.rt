@@ -116,7 +116,8 @@ pub fn is_within_limits(bytes: &[u8; IDS], gets: u8, sets: u8) -> bool
     count_of(2, bytes) <= sets
 }
 
-// Whether each byte is at most n: every one is looked at, with no early exit.
+// Whether each byte is at most n: every one is looked at, with no early exit. One function of this and the next would be lent
+// sixteen times n.
 pub fn are_up_to(n: u8, bytes: &[u8]) -> bool
     ensures { result ≡ all_up_to n bytes.now }
 {

@@ -80,6 +80,7 @@ pub fn read(bytes: &[u8; MEMBER_SIZE], op: ReadOp, list: &[u8]) -> Result<Body, 
     ensures { result ≡ read_of list.now op (member_of bytes.now) }
 {
     let queues = member::queues_of(bytes);
+    // A match: an operation takes its own arguments, so a table or closures would hide them.
     match op {
         ReadOp::QueryObject(id) => query(bytes, id),
         ReadOp::GetMetadata(id, what) => get_metadata(bytes, id, what, queues),

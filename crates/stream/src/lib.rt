@@ -144,6 +144,7 @@ fn take_run(p: Progress, queues: u8, features: &[u8], buffer: &mut [u8], run: &[
     requires { Ready p buffer.old × Run p.left (length run.now) (length run.now) }
     ensures { Took queues features.now p buffer.old run.now result buffer.new }
 {
+    // A match: each item takes its bytes in a way of its own.
     match p.item {
         Item::Capture => take_capture(p, queues, features, buffer, run),
         Item::Length => take_length(p, queues, features, buffer, run),
