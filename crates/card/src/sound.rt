@@ -35,17 +35,19 @@ fn is_sound_at(card: &[u8], at: usize, most: &[u8; IDS]) -> bool
 }
 
 // One pass over the members, the last one first: it steps from record to record, which is cheaper than to work out the
-// place of each.
+// place of each. A `while`: of a `for` over numbers the compiler keeps a test that has it load the features anew for each member.
 fn is_each_sound(card: &[u8], most: &[u8; IDS]) -> bool
     requires { (length card.now ≡ card_size (setup_of card.now).members) × IsMost (setup_of card.now) most.now }
     ensures { result ≡ sound_up_to (setup_of card.now) card.now (setup_of card.now).members }
 {
+    let mut m = super::wide(card[MEMBERS_AT]);
     let mut at = card.len();
-    for _member in (0..card[MEMBERS_AT]).rev() {
+    while 0 < m {
         at -= RECORD_SIZE;
         if !is_sound_at(card, at, most) {
             return false;
         }
+        m -= 1;
     }
     true
 }

@@ -47,7 +47,12 @@ fn part_in<'a>(bytes: &'a [u8; MEMBER_SIZE], t: u16, selector: u64) -> &'a [u8]
 }
 
 // It is copied out where the buffer is as long. No part's value is empty.
-fn load_in(bytes: &[u8; MEMBER_SIZE], t: u16, selector: u64, value: &mut [u8]) -> Result<(), EventRefusal>
+fn load_in(
+    bytes: &[u8; MEMBER_SIZE],
+    t: u16,
+    selector: u64,
+    value: &mut [u8],
+) -> Result<(), EventRefusal>
     ensures { (result, value.new) ≡ load_in (member_of bytes.now) t selector value.old }
 {
     let own = part_in(bytes, t, selector);

@@ -17,9 +17,9 @@ write_part-at-requires c = (search (rules, row_small), search (rules, row_inside
 pub loop-row-preserved : goal.loop-row-preserved
 unfolding parts_written row_at rows
 loop-row-preserved c = elim c.if-is_asked.branch [
-    | then-is_asked w ↦ rw (w.out-is, w.at-is) (search (rules, parts-on))
-    | else-is_asked w ↦ rw (w.out-is, w.at-is) (search (rules, parts-skip))
-    ]
+  | then-is_asked w ↦ rw (w.out-is, w.at-is) (search (rules, parts-on))
+  | else-is_asked w ↦ rw (w.out-is, w.at-is) (search (rules, parts-skip))
+]
 
 pub returns : goal.returns
 unfolding parts_written

@@ -17,9 +17,9 @@ write_header-requires c = search (rules, headers-room)
 pub loop-row-preserved : goal.loop-row-preserved
 unfolding headers_of row_at rows
 loop-row-preserved c = elim c.if-is_present.branch [
-    | then-is_present w ↦ rw (w.out-is, w.at-is) (search (rules, headers-on))
-    | else-is_present w ↦ rw (w.out-is, w.at-is) (search (rules, headers-skip))
-    ]
+  | then-is_present w ↦ rw (w.out-is, w.at-is) (search (rules, headers-on))
+  | else-is_present w ↦ rw (w.out-is, w.at-is) (search (rules, headers-skip))
+]
 
 pub returns : goal.returns
 unfolding headers_of

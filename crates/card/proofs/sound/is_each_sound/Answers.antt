@@ -2,8 +2,8 @@ use borrow.Author.Rules.{rules}
 use Rattle.card.proofs.ReadLaws.{checked-start, step_back, step-head, step_fits, checked-stop, checked-on, checked-end}
 use Rattle.card.proofs.sound.is_each_sound.Goals as goal
 
-pub loop-member-init : goal.loop-member-init
-loop-member-init c = search (rules, checked-start)
+pub loop-m-init : goal.loop-m-init
+loop-m-init c = search (rules, checked-start)
 
 pub overflow_sub-at : goal.overflow_sub-at
 overflow_sub-at c = search (rules, step_back)
@@ -14,8 +14,8 @@ is_sound_at-requires c = (search (rules, step-head), search (rules, step_fits), 
 pub returns-then-not-is_sound_at : goal.returns-then-not-is_sound_at
 returns-then-not-is_sound_at c = search (rules, checked-stop)
 
-pub loop-member-preserved : goal.loop-member-preserved
-loop-member-preserved c = search (rules, checked-on)
+pub loop-m-preserved : goal.loop-m-preserved
+loop-m-preserved c = search (rules, checked-on)
 
 pub returns : goal.returns
 returns c = search (rules, checked-end)
