@@ -1,13 +1,12 @@
 -- The parts that can be stored, and the rows of the table that they have. Assumes nothing.
 use mathlib.Core.Path.{◌≡◌, refl, ap, sym, ◌∙◌}
-use mathlib.Core.Bool.{true, false}
 use Prim.Native.Nat.{ℕ, zero, suc, ◌+◌, ◌*◌, ◌%◌, ◌≤◌, ◌<◌}
 use native.Mathlib.Omega.{arith}
 use borrow.Author.Tests.{eqb-true, eqb-false, ltb-true, lt-ltb}
 use lib.Dec.{ltb, eqb}
 use Rattle.std.specs.Prelude.{Option, Some, None}
 use Rattle.theory.specs.Logic.{when◌then◌else◌, ◌or◌}
-use Rattle.theory.proofs.Tests.{by_cases, never, tests}
+use Rattle.theory.proofs.Tests.{by_cases, never}
 use Rattle.inventory.specs.Inventory.{row_at, offset_of, selector_of, place_of}
 use Rattle.inventory.specs.Worked.{nth_of, field_at, queue_rows}
 use Rattle.inventory.proofs.Rules.{table}

@@ -1,18 +1,15 @@
 -- What a chunk leaves, in each phase: laws for the needs and returns of the functions. Assumes nothing.
-use mathlib.Core.Path.{◌≡◌, refl, ap, sym, ◌∙◌}
+use mathlib.Core.Path.{◌≡◌, ap, sym, ◌∙◌}
 use mathlib.Core.List.{List, ◌++◌, append_assoc}
 use Rattle.std.proofs.Common.{Result, Ok, Err}
 use Prim.Native.Nat.{ℕ, ◌+◌, ◌-◌, ◌≤◌, ◌<◌}
-use native.Mathlib.Nat.{sub-zero}
 use native.Mathlib.Omega.{arith}
-use lib.ListN.{length, take, drop, replicate, take-append-drop}
+use lib.ListN.{length, take, drop, take-append-drop}
 use lib.Seq.{take_at, drop_at, length-take-le}
 use Rattle.theory.specs.Bytes.{put}
 use Rattle.theory.proofs.Bytes.{length-put}
-use Rattle.theory.proofs.Lent.{tail-is}
 use Rattle.setups.specs.declared.Setup.{Setup}
 use Rattle.setups.specs.declared.ReadRefusal.{ReadRefusal}
-use Rattle.setups.specs.Setup.{features_size}
 use Rattle.setups.specs.Reading.{read_version1}
 use Rattle.tally.specs.Rows.{longest}
 use Rattle.sheet.specs.Text.{text_of, sheet_room}
@@ -23,7 +20,7 @@ use Rattle.stream.specs.Progress as captures
 use Rattle.stream.proofs.Feeding.{counts-fit}
 use Rattle.stream.proofs.Rest.{held_more}
 use Rattle.stream.proofs.Ends.{started-ready, from_start}
-use Rattle.figures.specs.Sheet.{setup_size, refused_text, first_count, sheet_under, sheet_of}
+use Rattle.figures.specs.Sheet.{setup_size, first_count, sheet_under, sheet_of}
 use Rattle.figures.specs.State.{waiting, refused, counting, sheet_from, finished_of, CountedIn, Ready, Took, TookBehind}
 use Rattle.figures.specs.declared.State.{State}
 

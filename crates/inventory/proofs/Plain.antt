@@ -8,7 +8,7 @@ use lib.Dec.{eqb}
 use lib.ListN.{get_or}
 use lib.Bits.{bit_and, bit_or, and_le_l, and_le_r, or_add_and, and_mask, and_block, and_zero_r}
 use borrow.Author.Tests.{eqb-true, eqb-false, eq-eqb, ne_eqb}
-use Rattle.theory.specs.Logic.{when◌then◌else◌, ◌and◌, ◌or◌}
+use Rattle.theory.specs.Logic.{◌and◌, ◌or◌}
 use Rattle.theory.specs.Bytes.{bytes_at}
 use Rattle.theory.proofs.Tests.{by_cases, both, either, and_i, true-and, false-and, false-or, or-false}
 use Rattle.theory.proofs.Ladder.{or_left, or_right}

@@ -9,8 +9,8 @@ use lib.Dec.{leb, ltb, eqb}
 use lib.ListN.{length}
 use lib.Seq.{take_all}
 use lib.Bits.{bit_and}
-use borrow.Author.Tests.{eqb-true, eqb-false, eq-eqb, ltb-true, ltb-false, lt-ltb, leb-false, lt-leb, not-true, not-false}
-use Rattle.theory.specs.Logic.{unless◌answer◌then◌, when◌then◌else◌, ◌and◌, ◌or◌}
+use borrow.Author.Tests.{eqb-true, eqb-false, eq-eqb, ltb-true, lt-ltb, leb-false, lt-leb, not-true, not-false}
+use Rattle.theory.specs.Logic.{unless◌answer◌then◌, ◌and◌, ◌or◌}
 use Rattle.theory.specs.Bytes.{bytes_at}
 use Rattle.theory.proofs.Tests.{by_cases, unless-cases, both, and_i, false-or, or-true, true-or}
 use Rattle.theory.proofs.Bytes.{length-bytes_at, bytes_at-bytes_at}

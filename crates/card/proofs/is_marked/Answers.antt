@@ -1,5 +1,4 @@
 use borrow.Author.Rules.{rules}
-use Rattle.card.proofs.ReadLaws.{lent-long}
 use Rattle.card.proofs.RecordBytesLaws.{head-there}
 use Rattle.card.proofs.MarkLaws.{no-mark, mark-record, mark-read}
 use Rattle.card.proofs.is_marked.Goals as goal

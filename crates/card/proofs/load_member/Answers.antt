@@ -1,5 +1,5 @@
 use borrow.Author.Rules.{rules}
-use Rattle.card.proofs.ReadLaws.{lent-long, member-loaded}
+use Rattle.card.proofs.ReadLaws.{member-loaded}
 use Rattle.card.proofs.load_member.Goals as goal
 
 pub returns : goal.returns
