@@ -59,7 +59,7 @@ fn doubt(values: &[u8], at: usize) -> u64
     first & (first % TWO_BYTES).wrapping_sub(1)
 }
 
-// Those of all queues, whose values start where OFFSETS says.
+// Those of all queues, whose values start where the table says.
 pub fn doubts(values: &[u8]) -> u64
     requires { length values.now ≡ values_size }
     ensures { eqb result 0 ≡ plain_queues values.now }

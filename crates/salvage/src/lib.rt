@@ -111,14 +111,15 @@ fn read_parts(
 }
 
 // For every part of the inventory 1 if its row is kept, else 0. By index, since the rows and what is kept are two lists: of a zip
-// an invariant has only what was yielded.
+// an invariant has only what was yielded. The table is bound outside the loop, which would make it anew at each turn.
 fn write_kept(out: &mut [u8], rows: &[u8], queues: u8)
     requires { KeptFits queues rows.now out.old }
     ensures { out.new ≡ put 0 (flags_of queues rows.now) out.old }
 {
+    let table = INVENTORY;
     let mut at = 0;
     for i in 0..ROWS {
-        if INVENTORY[i].is_present(queues) {
+        if table[i].is_present(queues) {
             out[at] = (rows[i] != 0) as u8;
             at += 1;
         }

@@ -54,6 +54,33 @@ module _ (p : Progress) (b run : List ℕ) (w : Ready p b) (e : p.item ≡ item.
   pub length-sum : Fits w64 (p.have + length run)
   length-sum = record { fits = omega (arith, length-size, z.item) }
 
+  -- c: its four bytes
+  whole : (q : ℕ) (features after c : List ℕ) → c ≡ take p.have b ++ run → length c ≡ length_size → length after ≡ longest
+      → Took q features p b run (opened q features p.counts (number 0 length_size c)) after
+  whole q features after c k m a =
+      let going : read_of p.counts < most = going-is p b item.Length e w in
+      record {
+        ready = opened-ready q features p.counts w.counted going (number 0 length_size c) after a;
+        same = λ l.
+            let come : capture_then (number 0 length_size c) l (captures_in (most - read_of p.counts - 1))
+            ≡ captures_in (most - read_of p.counts) (c ++ l) =
+            sym (length-come (most - read_of p.counts) c l m (omega arith)) in
+            let rest : captures_in (most - read_of p.counts) (c ++ l) ≡ rest_of p b (run ++ l) =
+            rw (k, append_assoc) (sym (rest-is p b item.Length e (run ++ l))) in
+            length-closed q features p.counts w.counted going (number 0 length_size c) after l
+            ∙ ap (with_rest q features p.counts) (come ∙ rest);
+      }
+
+  -- all four lie in the run
+  pub run-four : p.left ≤ length run → p.have ≡ 0 → length_size ≤ length run
+  run-four h k = omega (arith, length-size)
+
+  pub length-here : (q : ℕ) (features : List ℕ) (r : Progress) → r ≡ opened q features p.counts (number 0 length_size run)
+      → p.left ≤ length run → p.have ≡ 0 → Took q features p b run r b
+  length-here q features r f h k =
+      let none : run ≡ take p.have b ++ run = rw k in
+      rw f (whole q features b run none (omega (arith, length-size, z.item)) w.room)
+
   module _ (q : ℕ) (features after : List ℕ) (put-there : after ≡ put p.have run b) where
     held : take (p.have + length run) after ≡ take p.have b ++ run
     held = held_more p.have run b after put-there length-room
@@ -89,22 +116,9 @@ module _ (p : Progress) (b run : List ℕ) (w : Ready p b) (e : p.item ≡ item.
     pub length-done : (r : Progress) → r ≡ opened q features p.counts (number 0 length_size after) → p.left ≤ length run
         → Took q features p b run r after
     length-done r f h =
-        let going : read_of p.counts < most = going-is p b item.Length e w in
         let four : p.have + length run ≡ length_size = omega (arith, length-size, z.item) in
         let c : take length_size after ≡ take p.have b ++ run = rw four at held in
-        let n : number 0 length_size (take p.have b ++ run) ≡ number 0 length_size after = rw (← c) (number-front after) in
-        let m : length (take p.have b ++ run) ≡ length_size = rw (← c) (length-take-le length_size after length_front) in
-        rw f (record {
-          ready = opened-ready q features p.counts w.counted going (number 0 length_size after) after long_after;
-          same = λ l.
-              let come : capture_then (number 0 length_size after) l (captures_in (most - read_of p.counts - 1))
-              ≡ captures_in (most - read_of p.counts) ((take p.have b ++ run) ++ l) =
-              rw (← n) (sym (length-come (most - read_of p.counts) (take p.have b ++ run) l m (omega arith))) in
-              let rest : captures_in (most - read_of p.counts) ((take p.have b ++ run) ++ l) ≡ rest_of p b (run ++ l) =
-              rw append_assoc (sym (rest-is p b item.Length e (run ++ l))) in
-              length-closed q features p.counts w.counted going (number 0 length_size after) after l
-              ∙ ap (with_rest q features p.counts) (come ∙ rest);
-        })
+        rw (f, ← number-front after) (whole q features after (take length_size after) c (length-take-le length_size after length_front) long_after)
 
 -- ---- a capture ----
 

@@ -90,12 +90,15 @@ fn open_capture(counts: [u64; LINES], queues: u8, features: &[u8], held: &[u8]) 
 
 // ---- a run: bytes of a chunk, no more than the item under way still takes ----
 
-// Bytes of a length.
+// Bytes of a length. One that lies whole in the chunk is not copied.
 fn take_length(p: Progress, queues: u8, features: &[u8], buffer: &mut [u8], run: &[u8]) -> Progress
     requires { Ready p buffer.old × (p.item ≡ Item.Length) × Run p.left (length run.now) (length run.now) }
     ensures { Took queues features.now p buffer.old run.now result buffer.new }
 {
     let n = run.len();
+    if p.left <= n && p.have == 0 {
+        return open_capture(p.counts, queues, features, run);
+    }
     wire::copy(buffer, p.have, run);
     if n < p.left {
         return Progress {

@@ -5,12 +5,12 @@ ghost use Rattle.std.specs.Prelude.{◌≡◌, ◌+◌, ◌^◌, ◌≤◌, ◌<
 ghost use Rattle.theory.specs.Bytes.{bytes_at, put, same};
 ghost use Rattle.wire.specs.Le.{bytes, number};
 
-// N bytes, from a place on.
+// N bytes, from a place on. Of a slice that ends there the compiler sees that it is as long, and tests nothing.
 pub fn part<const N: usize>(s: &[u8], at: usize) -> &[u8; N]
     requires { at + N ≤ length s.now }
     ensures { result.now ≡ bytes_at at N s.now }
 {
-    s[at..].first_chunk().unwrap()
+    s[at..at + N].first_chunk().unwrap()
 }
 
 // The number in n bytes.
