@@ -54,11 +54,18 @@ pub struct PartReader<'a> {
     at: usize,
 }
 
+// A reader at a position of a list, whatever stands there.
+pub fn read_from<'a>(form: ListForm, list: &'a [u8], at: usize) -> PartReader<'a>
+    ensures { (result.form ≡ form) × (result.list ≡ list.entry) × (result.at ≡ at) }
+{
+    PartReader { form, list, at }
+}
+
 // A reader at the start of a list.
 pub fn read<'a>(form: ListForm, list: &'a [u8]) -> PartReader<'a>
     ensures { (result.form ≡ form) × (result.list ≡ list.entry) × (result.at ≡ 0) }
 {
-    PartReader { form, list, at: 0 }
+    read_from(form, list, 0)
 }
 
 // The bytes of the value that follows a header.
@@ -121,9 +128,10 @@ pub fn is_whole(form: ListForm, list: &[u8]) -> bool
     ensures { result ≡ whole (parts_of form list.now) }
 {
     for part in read(form, list) {
-        let Ok(_) = part else {
-            return false;
-        };
+        match part {
+            Ok(_) => {}
+            Err(Cut) => return false,
+        }
     }
     true
 }

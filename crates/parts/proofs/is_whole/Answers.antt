@@ -7,9 +7,9 @@ pub loop-part-preserved : goal.loop-part-preserved
 unfolding whole
 loop-part-preserved c = rw (part_given c.in-Some.ensures.steps c.in-Ok.is) at c.loop-part.invariant
 
-pub returns-in_default : goal.returns-in_default
+pub returns-in-Err : goal.returns-in-Err
 unfolding whole
-returns-in_default c = sym (rw (cut_given c.in-Some.ensures.steps c.in_default.is) at c.loop-part.invariant)
+returns-in-Err c = sym (rw (cut_given c.in-Some.ensures.steps c.in-Err.is) at c.loop-part.invariant)
 
 pub returns : goal.returns
 unfolding whole
