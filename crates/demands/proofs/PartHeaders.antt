@@ -165,6 +165,7 @@ module _ (l m : List ℕ) (a : SameAsked l m) where
   result-same : (queues : ℕ) (values : List ℕ) (x : Result Body Refusal) → result_given queues m values x ≡ result_given queues l values x
   unfolding result_of parts_written
   result-same queues values (Err a) = refl
+  result-same queues values (Ok body.Nothing) = refl
   result-same queues values (Ok (body.Kind k)) = refl
   result-same queues values (Ok (body.Number n)) = refl
   result-same queues values (Ok body.Headers) = refl

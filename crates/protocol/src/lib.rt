@@ -79,6 +79,7 @@ pub enum ChangeOp {
 // What the reply to a success holds from byte 8.
 #[derive(Clone, Copy)]
 pub enum Body {
+    Nothing,
     Kind(ObjectKind),
     Number(u32),
     Headers,

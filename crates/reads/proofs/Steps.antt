@@ -22,31 +22,37 @@ use Rattle.member.specs.declared.Member.{Member}
 use Rattle.member.specs.Objects.{lookup_of}
 use Rattle.reads.specs.Reads.{metadata_of, through_get, selected_of}
 
--- what is left or done behind the `?`, by what the lookup found
-refused : {A : Type 0} (x : Option ObjectKind) (d : Refusal) (rest : Result A Refusal)
-    → ◌≡◌ {A = Result ⊤ Refusal} (Err d) (on_found x (λ k. unless is_get k answer Err WrongKind then Ok tt) (Err NotLive))
-    → ◌≡◌ {A = Result A Refusal} (Err d) (on_found x (λ k. unless is_get k answer Err WrongKind then rest) (Err NotLive))
+-- what is left or done behind the `?`, for an object of kind k that the lookup found
+refused : {A : Type 0} (k : ObjectKind) (d : Refusal) (rest : Result A Refusal)
+    → ◌≡◌ {A = Result ⊤ Refusal} (Err d) (unless is_get k answer Err WrongKind then Ok tt)
+    → ◌≡◌ {A = Result A Refusal} (Err d) (unless is_get k answer Err WrongKind then rest)
 unfolding unless◌answer◌then◌
-refused (Some Get) d rest h = cc
-refused (Some Set) d rest h = cc
-refused None d rest h = cc
+refused Get d rest h = cc
+refused Set d rest h = cc
 
-passed : {A : Type 0} (x : Option ObjectKind) (y : ⊤) (rest : Result A Refusal)
-    → ◌≡◌ {A = Result ⊤ Refusal} (Ok y) (on_found x (λ k. unless is_get k answer Err WrongKind then Ok tt) (Err NotLive))
-    → rest ≡ (on_found x (λ k. unless is_get k answer Err WrongKind then rest) (Err NotLive))
+passed : {A : Type 0} (k : ObjectKind) (y : ⊤) (rest : Result A Refusal)
+    → ◌≡◌ {A = Result ⊤ Refusal} (Ok y) (unless is_get k answer Err WrongKind then Ok tt)
+    → rest ≡ (unless is_get k answer Err WrongKind then rest)
 unfolding unless◌answer◌then◌
-passed (Some Get) y rest h = cc
-passed (Some Set) y rest h = cc
-passed None y rest h = cc
+passed Get y rest h = cc
+passed Set y rest h = cc
 
-module _ {A : Type 0} (id : ℕ) (m : Member) (r : Result ⊤ Refusal) (e : r ≡ through_get id m (Ok tt)) where
-  pub get-left : (d : Refusal) → r ≡ Err d → (o : Result A Refusal) → IsErrAnd o (λ y. y ≡ d) → (rest : Result A Refusal) → o ≡ through_get id m rest
+module _ {A : Type 0} (id : ℕ) (m : Member) (x : Option ObjectKind) (f : x ≡ lookup_of m id) where
+  -- no object
+  pub get-none : x ≡ None → (o : Result A Refusal) → o ≡ Err NotLive → (rest : Result A Refusal) → o ≡ through_get id m rest
   unfolding through_get
-  get-left d h o i rest = let p = err_from_is_err_and o i in rw (p.1, p.2) (refused (lookup_of m id) d rest (sym h ∙ e))
+  get-none n o h rest = on-nothing m id _ _ o x f n h
 
-  pub get-went : (y : ⊤) → r ≡ Ok y → (o rest : Result A Refusal) → o ≡ rest → o ≡ through_get id m rest
-  unfolding through_get
-  get-went y h o rest q = q ∙ passed (lookup_of m id) y rest (sym h ∙ e)
+  module _ (k : ObjectKind) (n : x ≡ Some k) (r : Result ⊤ Refusal) (e : r ≡ (unless is_get k answer Err WrongKind then Ok tt)) where
+    pub get-left : (d : Refusal) → r ≡ Err d → (o : Result A Refusal) → IsErrAnd o (λ y. y ≡ d) → (rest : Result A Refusal) → o ≡ through_get id m rest
+    unfolding through_get
+    get-left d h o i rest =
+        let p = err_from_is_err_and o i in
+        on-live m id _ _ o x f k n (rw (p.1, p.2) (refused k d rest (sym h ∙ e)))
+
+    pub get-went : (y : ⊤) → r ≡ Ok y → (o rest : Result A Refusal) → o ≡ rest → o ≡ through_get id m rest
+    unfolding through_get
+    get-went y h o rest q = on-live m id _ _ o x f k n (q ∙ passed k y rest (sym h ∙ e))
 
 -- q is the member's queue count
 module _ (id : ℕ) (m : Member) (q : ℕ) (e : q ≡ m.queues) (o : Result Body Refusal) where

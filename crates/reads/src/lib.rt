@@ -3,6 +3,8 @@
 #![tactic(auto)]
 
 ghost use Rattle.std.specs.Prelude.{◌≡◌};
+ghost use Rattle.theory.specs.Logic.{unless◌answer◌then◌};
+ghost use Rattle.protocol.specs.Answers.{is_get};
 ghost use Rattle.member.specs.Record.{member_of};
 ghost use Rattle.reads.specs.Reads.{query_of, metadata_of, through_get, selected_of, read_of};
 
@@ -18,13 +20,10 @@ fn query(bytes: &[u8; MEMBER_SIZE], id: usize) -> Result<Body, Refusal>
     Ok(Body::Kind(kind))
 }
 
-// Metadata and parts get need a live get object.
-fn through_get(bytes: &[u8; MEMBER_SIZE], id: usize) -> Result<(), Refusal>
-    ensures { result ≡ through_get id (member_of bytes.now) (Ok tt) }
+// Metadata and parts get need a get object.
+fn check_get(kind: ObjectKind) -> Result<(), Refusal>
+    ensures { result ≡ unless is_get kind answer Err Refusal.WrongKind then Ok tt }
 {
-    let Some(kind) = member::lookup_in(bytes, id) else {
-        return Err(Refusal::NotLive);
-    };
     let ObjectKind::Get = kind else {
         return Err(Refusal::WrongKind);
     };
@@ -49,7 +48,10 @@ fn get_metadata(
 ) -> Result<Body, Refusal>
     ensures { result ≡ through_get id (member_of bytes.now) (Ok (metadata_of queues what)) }
 {
-    through_get(bytes, id)?;
+    let Some(kind) = member::lookup_in(bytes, id) else {
+        return Err(Refusal::NotLive);
+    };
+    check_get(kind)?;
     Ok(metadata(what, queues))
 }
 
@@ -61,7 +63,10 @@ fn get_selected(
 ) -> Result<Body, Refusal>
     ensures { result ≡ through_get id (member_of bytes.now) (selected_of queues list.now) }
 {
-    through_get(bytes, id)?;
+    let Some(kind) = member::lookup_in(bytes, id) else {
+        return Err(Refusal::NotLive);
+    };
+    check_get(kind)?;
     if !rules::check_asked(queues, list) {
         return Err(Refusal::BadList);
     }
@@ -71,7 +76,10 @@ fn get_selected(
 fn get_all(bytes: &[u8; MEMBER_SIZE], id: usize) -> Result<Body, Refusal>
     ensures { result ≡ through_get id (member_of bytes.now) (Ok Body.All) }
 {
-    through_get(bytes, id)?;
+    let Some(kind) = member::lookup_in(bytes, id) else {
+        return Err(Refusal::NotLive);
+    };
+    check_get(kind)?;
     Ok(Body::All)
 }
 

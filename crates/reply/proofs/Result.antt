@@ -7,7 +7,7 @@ use lib.ListN.{length, replicate, length-append}
 use mir.Syntax.{w64}
 use mir.Val.{Fits}
 use Rattle.theory.specs.Bytes.{put}
-use Rattle.theory.proofs.Bytes.{put-append}
+use Rattle.theory.proofs.Bytes.{put-nil, put-append}
 use Rattle.wire.specs.Le.{bytes}
 use Rattle.inventory.specs.Inventory.{part_count, parts_size, values_size}
 use Rattle.capture.specs.Capture.{Asked, headers_of, parts_written, capture_of, CaptureFits}
@@ -16,7 +16,7 @@ use Rattle.protocol.specs.declared.ObjectKind.{ObjectKind}
 use Rattle.protocol.specs.declared.ObjectKind.TheVariants.{Get, Set}
 use Rattle.protocol.specs.Answers.{kind_number}
 use Rattle.protocol.specs.declared.Body.{Body}
-use Rattle.protocol.specs.declared.Body.TheVariants.{Kind, Number, Headers, Selected}
+use Rattle.protocol.specs.declared.Body.TheVariants.{Nothing, Kind, Number, Headers, Selected}
 use Rattle.protocol.specs.declared.Body.TheVariants as body
 use Rattle.reply.specs.Result.{number_bytes, result_of}
 
@@ -27,6 +27,10 @@ number-long n = refl
 -- ---- the length, by the body ----
 
 module _ (q : ℕ) (list : List ℕ) (b : Body) where
+  pub size-nothing : b ≡ Nothing → (v : List ℕ) → length v ≡ values_size → 0 ≡ length (result_of q list v b)
+  unfolding result_of
+  size-nothing e v h = rw e
+
   pub size-kind : (k : ObjectKind) → b ≡ Kind k → (v : List ℕ) → length v ≡ values_size → 8 ≡ length (result_of q list v b)
   unfolding result_of
   size-kind k e v h = rw e
@@ -73,6 +77,10 @@ kind-bytes Get = refl
 kind-bytes Set = refl
 
 module _ (q : ℕ) (list v : List ℕ) (b : Body) (l l' : List ℕ) where
+  pub result-nothing : b ≡ Nothing → l ≡ put 0 (result_of q list v b) l
+  unfolding result_of
+  result-nothing e = rw (e, put-nil)
+
   pub result-kind : (k : ObjectKind) (x : ℕ) → b ≡ Kind k → x ≡ kind_number k → l' ≡ put 0 (number_bytes x) l
       → l' ≡ put 0 (result_of q list v b) l
   unfolding result_of

@@ -6,7 +6,7 @@ use Rattle.protocol.specs.Answers.{kind_number}
 use Rattle.inventory.specs.Inventory.{part_count}
 use Rattle.capture.specs.Capture.{Asked, headers_of, parts_written, capture_of}
 use Rattle.protocol.specs.declared.Body.{Body}
-use Rattle.protocol.specs.declared.Body.TheVariants.{Kind, Number, Headers, Selected, All}
+use Rattle.protocol.specs.declared.Body.TheVariants.{Nothing, Kind, Number, Headers, Selected, All}
 
 -- a number in 4 bytes, then four zero bytes
 unfoldable pub number_bytes : ℕ → List ℕ
@@ -15,6 +15,7 @@ number_bytes n = bytes 4 n ++ replicate 4 0
 -- queues and values are the member's, list the headers asked for. Seven zero bytes follow a kind; a metadata list is the
 -- count of parts, then their headers
 unfoldable pub result_of : ℕ → List ℕ → List ℕ → Body → List ℕ
+result_of queues list values Nothing = []
 result_of queues list values (Kind k) = kind_number k ∷ replicate 7 0
 result_of queues list values (Number n) = number_bytes n
 result_of queues list values Headers = number_bytes (part_count queues) ++ headers_of queues

@@ -61,6 +61,7 @@ fn result_bytes(body: Body, queues: u8, list: &[u8]) -> usize
     ensures { (values : List ℕ) → length values ≡ values_size → result ≡ length (result_of queues list.now values body) }
 {
     match body {
+        Body::Nothing => 0,
         Body::Kind(_) => 8,
         Body::Number(_) => NUMBER_SIZE,
         Body::Headers => NUMBER_SIZE + capture::headers_bytes(queues),
@@ -93,6 +94,7 @@ fn write_result(body: Body, queues: u8, list: &[u8], values: &[u8], out: &mut [u
     ensures { out.new ≡ put 0 (result_of queues list.now values.now body) out.old }
 {
     match body {
+        Body::Nothing => {}
         Body::Kind(kind) => write_number(out, u8::from(kind) as u32),
         Body::Number(n) => write_number(out, n),
         Body::Headers => write_metadata_list(out, queues),

@@ -1,9 +1,12 @@
 use borrow.Author.Rules.{rules}
-use Rattle.reply.proofs.Result.{headers-fit, size-kind, size_number, size-headers, size-selected, size-all}
+use Rattle.reply.proofs.Result.{headers-fit, size-nothing, size-kind, size_number, size-headers, size-selected, size-all}
 use Rattle.reply.proofs.result_bytes.Goals as goal
 
 pub overflow_add-result : goal.overflow_add-result
 overflow_add-result c = search (rules, headers-fit)
+
+pub returns-in-Nothing : goal.returns-in-Nothing
+returns-in-Nothing c = size-nothing _ _ _ c.in-Nothing.is
 
 pub returns-in-Kind : goal.returns-in-Kind
 returns-in-Kind c = size-kind _ _ _ _ c.in-Kind.is

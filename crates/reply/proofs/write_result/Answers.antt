@@ -1,5 +1,5 @@
 use borrow.Author.Rules.{rules}
-use Rattle.reply.proofs.Result.{result-kind, result-number, result-headers, result-selected, result-all, fits-kind, fits-number, fits-headers, fits-selected, fits_all}
+use Rattle.reply.proofs.Result.{result-nothing, result-kind, result-number, result-headers, result-selected, result-all, fits-kind, fits-number, fits-headers, fits-selected, fits_all}
 use Rattle.reply.proofs.write_result.Goals as goal
 
 pub write_number-requires : goal.write_number-requires
@@ -16,6 +16,9 @@ write_asked-requires c = (search rules, search (rules, fits-selected))
 
 pub write_all-requires : goal.write_all-requires
 write_all-requires c = search (rules, fits_all)
+
+pub returns-in-Nothing : goal.returns-in-Nothing
+returns-in-Nothing c = search (result-nothing)
 
 pub returns-in-Kind : goal.returns-in-Kind
 returns-in-Kind c = search (result-kind)
