@@ -7,7 +7,7 @@ ghost use Rattle.parts.specs.List.{parts_of};
 ghost use Rattle.rules.specs.Rules.{cause_of, is_accepted};
 ghost use Rattle.capture.specs.Runs.{Wrote};
 ghost use Rattle.setups.specs.Member.{member_setup};
-ghost use Rattle.difference.specs.Difference.{span_of, place_in, has_row, is_full, verdict_of, number_of, lookup_of, lookup_told, made_part, made, merge_of};
+ghost use Rattle.difference.specs.Difference.{span_of, place_in, has_row, is_full, verdict_of, code_of, lookup_of, lookup_told, made_part, made, merge_of};
 ghost use Rattle.difference.specs.Under.{lookup_under, merge_under};
 ghost use Rattle.difference.specs.Handed.{PartOf, Handed, Inside};
 
@@ -153,17 +153,18 @@ fn verdict_of(
     Ok(())
 }
 
-// The number of a refusal.
-pub fn code(refusal: Refusal) -> u8
-    ensures { result ≡ number_of refusal }
+// 0, or the number of a refusal.
+pub fn code(verdict: Result<(), Refusal>) -> u8
+    ensures { result ≡ code_of verdict }
 {
-    match refusal {
-        Refusal::BadSetup => 1,
-        Refusal::BadFull => 2,
-        Refusal::BadLater => 3,
-        Refusal::LacksPart => 4,
-        Refusal::OutsideInventory => 5,
-        Refusal::ShortBuffer => 6,
+    match verdict {
+        Ok(_) => 0,
+        Err(Refusal::BadSetup) => 1,
+        Err(Refusal::BadFull) => 2,
+        Err(Refusal::BadLater) => 3,
+        Err(Refusal::LacksPart) => 4,
+        Err(Refusal::OutsideInventory) => 5,
+        Err(Refusal::ShortBuffer) => 6,
     }
 }
 
@@ -256,7 +257,7 @@ pub fn find_place(
             *list = 0;
             *at = 0;
             *len = 0;
-            code(refusal)
+            code(Err(refusal))
         }
     }
 }
@@ -308,7 +309,7 @@ fn merge_in<'a>(
     let room = size <= merged.len();
     if let Err(refusal) = verdict_of(queues, features, full, later, true, room) {
         *written = 0;
-        return code(refusal);
+        return code(Err(refusal));
     }
     write_made(merged, queues, full, later);
     *written = size as u64;
@@ -333,7 +334,7 @@ pub fn merge<'a>(
         }
         None => {
             *written = 0;
-            code(Refusal::BadSetup)
+            code(Err(Refusal::BadSetup))
         }
     }
 }

@@ -14,8 +14,8 @@ SetupTold = ℕ × (ℕ × (List ℕ × (ℕ × (ℕ × List ℕ))))
 
 -- refused, all is left as it was: what is no setup first, then buffers that are not 16 bytes
 unfoldable pub setup_told : Result Setup ReadRefusal → ℕ → List ℕ → ℕ → ℕ → List ℕ → SetupTold
-setup_told (Err r) members queues gets sets features = (read_number (Err r), (members, (queues, (gets, (sets, features)))))
+setup_told (Err r) members queues gets sets features = (read_number {A = Setup} (Err r), (members, (queues, (gets, (sets, features)))))
 setup_told (Ok s) members queues gets sets features =
     unless eqb (length queues) most_members and eqb (length features) features_size
-    answer (read_number (Err Malformed), (members, (queues, (gets, (sets, features))))) then
+    answer (read_number {A = Setup} (Err Malformed), (members, (queues, (gets, (sets, features))))) then
     (0, (s.members, (s.queues, (s.gets, (s.sets, s.features)))))

@@ -96,13 +96,13 @@ fn tell_setup(
 {
     let s = match read {
         Ok(s) => s,
-        Err(refusal) => return setups::read_number(refusal),
+        Err(refusal) => return setups::read_number(Err(refusal)),
     };
     if queues.len() != setups::MOST_MEMBERS {
-        return setups::read_number(ReadRefusal::Malformed);
+        return setups::read_number(Err(ReadRefusal::Malformed));
     }
     if features.len() != setups::FEATURES_SIZE {
-        return setups::read_number(ReadRefusal::Malformed);
+        return setups::read_number(Err(ReadRefusal::Malformed));
     }
     let counts = s.queues;
     let own = s.features;

@@ -70,10 +70,13 @@ is_version2 n l =
 -- ---- the readers ----
 
 -- what was read, as its number
-abbrev pub read_number : Result Setup ReadRefusal → ℕ
+abbrev pub refusal_number : ReadRefusal → ℕ
+refusal_number Version2 = 1
+refusal_number Malformed = 2
+
+abbrev pub read_number : {A : Type 0} → Result A ReadRefusal → ℕ
 read_number (Ok s) = 0
-read_number (Err Version2) = 1
-read_number (Err Malformed) = 2
+read_number (Err r) = refusal_number r
 
 -- in version 1 the count at position 8 is every member's; in version 2 the counts stand from position 24 on
 unfoldable pub take_version1 : List ℕ → Result Setup ReadRefusal

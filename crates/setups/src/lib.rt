@@ -92,13 +92,14 @@ pub fn in_numbers(members: u64, queues: &[u8], gets: u64, sets: u64) -> bool
 
 // ---- reading ----
 
-// A refusal as its number; a setup that is read has 0.
-pub fn read_number(refusal: ReadRefusal) -> u8
-    ensures { result ≡ read_number (Err refusal) }
+// Whether a setup is read, as a number: 0, or that of the refusal.
+pub fn read_number(answer: Result<(), ReadRefusal>) -> u8
+    ensures { result ≡ read_number answer }
 {
-    match refusal {
-        ReadRefusal::Version2 => 1,
-        ReadRefusal::Malformed => 2,
+    match answer {
+        Ok(_) => 0,
+        Err(ReadRefusal::Version2) => 1,
+        Err(ReadRefusal::Malformed) => 2,
     }
 }
 
