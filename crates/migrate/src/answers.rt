@@ -7,7 +7,7 @@ use transcript::Request;
 pub struct Status(Option<u16>);
 
 fn read_status(request: &Request, reply: &[u8]) -> Option<u16> {
-    let opcode = request.bytes.as_slice().first_chunk::<2>()?;
+    let opcode = request.as_slice().first_chunk::<2>()?;
     let head = host::read_reply(wire::read_u16(opcode, 0), 0, reply)?;
     Some(head.status)
 }

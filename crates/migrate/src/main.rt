@@ -71,7 +71,7 @@ impl<'a, P: Print> Card<'a, P> {
         let mut room = [0u8; CAPTURE];
         let reply = request.send(&mut self.bytes, &mut room);
         let status = Status::of_reply(&request, reply);
-        let (sent, written) = (request.bytes.len(), reply.len());
+        let (sent, written) = (request.as_slice().len(), reply.len());
         println!(self.rt; "  {name:<25} {sent} bytes -> {status}, {written} bytes")?;
         Ok(room)
     }
@@ -83,9 +83,9 @@ impl<'a, P: Print> Card<'a, P> {
     // What makes a member ready for captures and restores: a get object 0 and a set object 1, and that it is stopped.
     fn prepare(&mut self, member: u64) -> io::Result<()> {
         let used = self.status(Request::list_use(SUPPORTED_MASK));
-        let get = self.status(Request::create(member, 0, ObjectKind::Get));
-        let set = self.status(Request::create(member, 1, ObjectKind::Set));
-        let stopped = self.status(Request::mode_set(member, Mode::Stopped));
+        let get = self.status(Request::create(member, 0, ObjectKind::Get as u8));
+        let set = self.status(Request::create(member, 1, ObjectKind::Set as u8));
+        let stopped = self.status(Request::mode_set(member, Mode::Stopped as u8));
         println!(self.rt;
             "  list use, create get 0, create set 1, mode set stop -> {used}, {get}, {set}, {stopped}"
         )
@@ -143,7 +143,10 @@ impl<'a, P: Print> Card<'a, P> {
         self.prepare(3)?;
         self.restore(3, leaving)?;
         let arrived = self.get_all("parts get, all", 3)?;
-        self.tell("mode set, resume", Request::mode_set(3, Mode::Running))?;
+        self.tell(
+            "mode set, resume",
+            Request::mode_set(3, Mode::Running as u8),
+        )?;
         Ok(arrived)
     }
 

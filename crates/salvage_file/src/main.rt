@@ -31,11 +31,15 @@ const NUMBER_ROOM: usize = 20;
 const EILSEQ: i32 = 84;
 
 // std opens what is named in UTF-8 alone; another name is one that the system cannot read.
-fn read_setup(rt: &HostRuntime, path: &[u8]) -> io::Result<ArrayVec<u8, SETUP_ROOM>> {
+fn open_setup(rt: &HostRuntime, path: &[u8]) -> io::Result<fs::File> {
     let Ok(name) = str::from_utf8(path) else {
         return Err(io::Error::from_raw_os_error(EILSEQ));
     };
-    input::read_whole(&mut fs::open(rt, name)?)
+    fs::open(rt, name)
+}
+
+fn read_setup(file: &mut fs::File) -> io::Result<ArrayVec<u8, SETUP_ROOM>> {
+    input::read_whole(file)
 }
 
 fn read_damaged(rt: &HostRuntime) -> io::Result<ArrayVec<u8, DAMAGED_ROOM>> {
@@ -113,7 +117,9 @@ fn repair<'a>(
 
 fn run<'a>(rt: &HostRuntime, path: &'a [u8]) -> Result<Report, Failure<'a>> {
     let input: &[u8] = b"standard input";
-    let setup = read_setup(rt, path).map_err(|e| Failure::NotRead(path, e))?;
+    // The file stays open to the end.
+    let mut file = open_setup(rt, path).map_err(|e| Failure::NotRead(path, e))?;
+    let setup = read_setup(&mut file).map_err(|e| Failure::NotRead(path, e))?;
     let (member, queues) = find_member(rt, setup.as_slice(), path)?;
     let damaged = read_damaged(rt).map_err(|e| Failure::NotRead(input, e))?;
     repair(rt, setup.as_slice(), member, queues, damaged.as_slice())

@@ -1,18 +1,16 @@
 // For the programs: requests that the host's half builds, and bytes in hexadecimal.
 #![tactic(auto)]
 
-use arrayvec::ArrayVec;
-use protocol::{Metadata, Mode, ObjectKind};
 use std::fmt;
 
 // There is room for a list of 472 bytes: a full capture of four queues fits.
 const ROOM: usize = 512;
 
-// A request that the host's half built. The kinds of objects, the modes and what is asked of the metadata stand in the order
-// of their numbers.
-#[derive(Drop)]
+// A request that the host's half built. An ArrayVec in place of the room and its length would not be Copy.
+#[derive(Clone, Copy)]
 pub struct Request {
-    pub bytes: ArrayVec<u8, ROOM>,
+    pub bytes: [u8; ROOM],
+    pub len: usize,
 }
 
 impl Request {
@@ -20,11 +18,9 @@ impl Request {
     fn build<F: FnOnce(&mut [u8]) -> usize>(write: F) -> Request
         requires { F.IsAlwaysCallable write }
     {
-        let mut room = [0u8; ROOM];
-        let len = write(&mut room);
-        let mut bytes = ArrayVec::from(room);
-        bytes.truncate(len);
-        Request { bytes }
+        let mut bytes = [0u8; ROOM];
+        let len = write(&mut bytes);
+        Request { bytes, len }
     }
 
     pub fn list_query() -> Request {
@@ -35,8 +31,9 @@ impl Request {
         Request::build(|out| host::list_use(out, mask))
     }
 
-    pub fn create(member: u64, id: u32, kind: ObjectKind) -> Request {
-        Request::build(|out| host::create(out, member, id, kind as u8))
+    // A kind, a type and a mode go in as given, like all numbers: also one that the card refuses.
+    pub fn create(member: u64, id: u32, kind: u8) -> Request {
+        Request::build(|out| host::create(out, member, id, kind))
     }
 
     pub fn query(member: u64, id: u32) -> Request {
@@ -47,44 +44,54 @@ impl Request {
         Request::build(|out| host::destroy(out, member, id))
     }
 
-    pub fn metadata(member: u64, id: u32, what: Metadata) -> Request {
-        Request::build(|out| host::metadata(out, member, id, what as u8))
+    pub fn metadata(member: u64, id: u32, what: u8) -> Request {
+        Request::build(|out| host::metadata(out, member, id, what))
     }
 
-    // The parts whose headers are given.
-    pub fn get(member: u64, id: u32, headers: &[u8]) -> Request {
-        Request::build(|out| host::get(out, member, id, 0, headers))
+    // which: 0 the parts whose headers are given, 1 all.
+    pub fn get(member: u64, id: u32, which: u8, headers: &[u8]) -> Request {
+        Request::build(|out| host::get(out, member, id, which, headers))
     }
 
     // All parts of a member, through its get object 0.
     pub fn get_all(member: u64) -> Request {
-        Request::build(|out| host::get(out, member, 0, 1, &[]))
+        Request::get(member, 0, 1, &[])
     }
 
     pub fn set(member: u64, id: u32, list: &[u8]) -> Request {
         Request::build(|out| host::set(out, member, id, list))
     }
 
-    pub fn mode_set(member: u64, mode: Mode) -> Request {
-        Request::build(|out| host::set_mode(out, member, mode as u8))
+    pub fn mode_set(member: u64, mode: u8) -> Request {
+        Request::build(|out| host::set_mode(out, member, mode))
     }
 
-    // Without its last n bytes.
+    // Without its last n bytes, if it has as many.
     pub fn cut(mut self, n: usize) -> Request {
-        let left = self.bytes.len().saturating_sub(n);
-        self.bytes.truncate(left);
+        if n <= self.len {
+            self.len -= n;
+        }
         self
     }
 
     // With these bytes behind it, where there is room.
     pub fn more(mut self, end: &[u8]) -> Request {
-        let _ = self.bytes.try_extend_from_slice(end);
+        let at = self.len;
+        if at <= ROOM && end.len() <= ROOM - at {
+            wire::copy(&mut self.bytes, at, end);
+            self.len = at + end.len();
+        }
         self
+    }
+
+    // Its bytes; none where they are told to be more than there are.
+    pub fn as_slice(&self) -> &[u8] {
+        self.bytes.get(..self.len).unwrap_or(&[])
     }
 
     // Sends it to a card; answers the part of the reply that is written.
     pub fn send<'a>(&self, card: &mut [u8], reply: &'a mut [u8]) -> &'a [u8] {
-        let written = kajurnat::kajurnat_command(card, self.bytes.as_slice(), reply);
+        let written = kajurnat::kajurnat_command(card, self.as_slice(), reply);
         reply.get(..written).unwrap_or(&[])
     }
 }

@@ -19,11 +19,11 @@ struct Session<'a, P> {
 
 // The examples are of objects of member 1 alone.
 fn create(id: u32, kind: ObjectKind) -> Request {
-    Request::create(1, id, kind)
+    Request::create(1, id, kind as u8)
 }
 
 fn metadata(what: Metadata) -> Request {
-    Request::metadata(1, 0, what)
+    Request::metadata(1, 0, what as u8)
 }
 
 // The headers of queue notify of queue 0 and of the device status: types 0x105 and 0x103.
@@ -116,7 +116,7 @@ impl<'a, P: Print> Session<'a, P> {
         self.show("B1 list query", Request::list_query())?;
         self.show(
             "B2 object create, not in use",
-            Request::create(0, 0, ObjectKind::Get),
+            Request::create(0, 0, ObjectKind::Get as u8),
         )?;
         self.show_no_command("B3 group 2 and opcode 0xffff")?;
         self.send(Request::list_use(SUPPORTED_MASK));
@@ -124,9 +124,18 @@ impl<'a, P: Print> Session<'a, P> {
     }
 
     fn members(&mut self) -> io::Result<()> {
-        self.show("B4 mode set, member 0", Request::mode_set(0, Mode::Running))?;
-        self.show("B4 mode set, member 3", Request::mode_set(3, Mode::Running))?;
-        self.show("B4 mode set, member 2", Request::mode_set(2, Mode::Running))
+        self.show(
+            "B4 mode set, member 0",
+            Request::mode_set(0, Mode::Running as u8),
+        )?;
+        self.show(
+            "B4 mode set, member 3",
+            Request::mode_set(3, Mode::Running as u8),
+        )?;
+        self.show(
+            "B4 mode set, member 2",
+            Request::mode_set(2, Mode::Running as u8),
+        )
     }
 
     fn objects(&mut self) -> io::Result<()> {
@@ -145,13 +154,13 @@ impl<'a, P: Print> Session<'a, P> {
         self.show("B9 size", metadata(Metadata::Size))?;
         self.show(
             "B10 queue notify and device status",
-            Request::get(1, 0, &two_headers()),
+            Request::get(1, 0, 0, &two_headers()),
         )
     }
 
     // A full capture of one queue is 8 + 229 bytes.
     fn stopped(&mut self) -> io::Result<()> {
-        self.send(Request::mode_set(1, Mode::Stopped));
+        self.send(Request::mode_set(1, Mode::Stopped as u8));
         self.show("B11 driver features twice", set_twice())?;
         self.show("metadata list", metadata(Metadata::HeaderList))?;
         self.show_in(
@@ -197,10 +206,10 @@ impl<'a, P: Print> Session<'a, P> {
 
     fn resumed(&mut self) -> io::Result<()> {
         self.create_both();
-        self.send(Request::mode_set(1, Mode::Stopped));
+        self.send(Request::mode_set(1, Mode::Stopped as u8));
         self.show(
             "L3 mode set of no data",
-            Request::mode_set(1, Mode::Stopped).cut(1),
+            Request::mode_set(1, Mode::Stopped as u8).cut(1),
         )?;
         self.show("L3 parts set", set_once())
     }
@@ -226,7 +235,7 @@ impl<'a, P: Print> Session<'a, P> {
             Request::get_all(1).more(&[0]),
         )?;
         self.create_both();
-        let request = Request::get(1, 0, &header_and_half());
+        let request = Request::get(1, 0, 0, &header_and_half());
         self.show_in(
             "L7 one header and a half, room for 8",
             request,
