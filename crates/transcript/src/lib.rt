@@ -91,7 +91,10 @@ impl Request {
 
     // Sends it to a card; answers the part of the reply that is written.
     pub fn send<'a>(&self, card: &mut [u8], reply: &'a mut [u8]) -> &'a [u8] {
-        let written = kajurnat::kajurnat_command(card, self.as_slice(), reply);
+        let Some(request) = self.bytes.get(..self.len) else {
+            return &[];
+        };
+        let written = kajurnat::kajurnat_command(card, request, reply);
         reply.get(..written).unwrap_or(&[])
     }
 }
